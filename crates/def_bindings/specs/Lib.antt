@@ -1,0 +1,10 @@
+pub mod Content
+pub mod Order
+pub mod Chains
+pub mod Tree
+pub mod TreeLaws
+pub mod Visibility
+pub mod VisibilityLaws
+pub mod ModuleTree
+pub mod Puts
+pub mod Closure

@@ -1,0 +1,70 @@
+//! Tables of bindings.
+ghost use Rattle.std.specs.Prelude.{◌≡◌, ◌<◌, ◌^◌, List, length, slice_get, OnOk, OnErr};
+ghost use Rattle.def_ids.specs.declared.ids.ModuleId.{ModuleId};
+ghost use Rattle.def_bindings.specs.Content.{Content, with_binding, without_binding, with_unnamed, with_edge, vis_of, AreSources, AreTied};
+
+use crate::bindings::{Binding, EdgeTo, Namespace};
+use def_ids::{ModuleId, TraitId};
+use item_tree::Name;
+use std::alloc::AllocError;
+
+/// Bindings, names, unnamed traits and glob edges by module, however they are kept.
+pub trait BindingTable {
+    type Vis: Copy;
+
+    ghost content: { Self → Content Self.Vis };
+
+    /// Modules that hold every edge between them.
+    ghost sources: { Self → List ModuleId };
+
+    fn binding(&self, module: ModuleId, name: Name, ns: Namespace) -> Option<Binding<Self::Vis>>
+        ensures { result ≡ (content self.now).binding «module» name ns };
+
+    /// The name at this place of a module's names, in first-bound order.
+    fn name_at(&self, module: ModuleId, index: usize) -> Option<Name>
+        ensures name { result ≡ slice_get ((content self.now).names «module») index }
+        ensures few { length ((content self.now).names «module») < 2 ^ 64 };
+
+    fn unnamed_at(&self, module: ModuleId, index: usize) -> Option<(TraitId, Self::Vis)>
+        ensures item { result ≡ slice_get ((content self.now).unnamed «module») index }
+        ensures few { length ((content self.now).unnamed «module») < 2 ^ 64 };
+
+    /// The visibility of an unnamed trait, where the module has it.
+    fn unnamed_vis(&self, module: ModuleId, item: TraitId) -> Option<Self::Vis>
+        ensures { result ≡ vis_of ((content self.now).unnamed «module») item };
+
+    fn edge_at(&self, module: ModuleId, index: usize) -> Option<EdgeTo<Self::Vis>>
+        ensures edge { result ≡ slice_get ((content self.now).edges «module») index }
+        ensures few { length ((content self.now).edges «module») < 2 ^ 64 };
+
+    fn set(
+        &mut self,
+        module: ModuleId,
+        name: Name,
+        ns: Namespace,
+        binding: Binding<Self::Vis>,
+    ) -> Result<(), AllocError>
+        ensures done { OnOk result (content self.new ≡ with_binding (content self.old) «module» name ns binding) }
+        ensures refused { OnErr result (content self.new ≡ content self.old) };
+
+    fn remove(&mut self, module: ModuleId, name: Name, ns: Namespace)
+        ensures { content self.new ≡ without_binding (content self.old) «module» name ns };
+
+    fn set_unnamed(
+        &mut self,
+        module: ModuleId,
+        item: TraitId,
+        vis: Self::Vis,
+    ) -> Result<(), AllocError>
+        ensures done { OnOk result (content self.new ≡ with_unnamed (content self.old) «module» item vis) }
+        ensures refused { OnErr result (content self.new ≡ content self.old) };
+
+    /// Adds an edge, or replaces the one with its importer.
+    fn set_edge(&mut self, module: ModuleId, edge: EdgeTo<Self::Vis>) -> Result<(), AllocError>
+        ensures done { OnOk result (content self.new ≡ with_edge (content self.old) «module» edge) }
+        ensures refused { OnErr result (content self.new ≡ content self.old) };
+
+    ghost finite: { (t : Self) → AreSources (content t) (sources t) };
+
+    ghost tied: { (t : Self) → AreTied (content t).binding (content t).names };
+}
