@@ -1,0 +1,2 @@
+pub mod MapView
+pub mod MapState
