@@ -1,2 +1,10 @@
 pub mod MapView
 pub mod MapState
+pub mod Equality
+pub mod Textual
+pub mod Scopes
+pub mod Maps
+pub mod Tables
+pub mod Fresh
+pub mod DefMaps
+pub mod Locals

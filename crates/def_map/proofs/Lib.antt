@@ -1,0 +1,2 @@
+pub mod ScopesLemmas
+pub mod MapsLemmas

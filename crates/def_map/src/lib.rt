@@ -1,0 +1,19 @@
+//! Maps of definitions: the modules of a crate or a block, what they hold, and what is seen of them.
+#![tactic(auto)]
+
+mod block;
+mod def_map;
+mod local_def_map;
+mod map;
+mod module_data;
+mod table;
+
+pub use block::BlockInfo;
+pub use def_map::DefMap;
+pub use local_def_map::{ExternPreludeEntry, LocalDefMap};
+pub use map::{DeriveHelper, MapData};
+pub use module_data::{
+    DeriveCall, DeriveKey, DeriveMacroInvocation, Invocation, ModuleData, ModuleOrigin, Position,
+    ScopeData,
+};
+pub use table::Table;
