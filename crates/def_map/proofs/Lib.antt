@@ -1,2 +1,3 @@
 pub mod ScopesLemmas
 pub mod MapsLemmas
+pub mod EqualityLemmas

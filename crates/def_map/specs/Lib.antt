@@ -1,7 +1,7 @@
 pub mod MapView
 pub mod MapState
 pub mod Equality
-pub mod Textual
+pub mod ScopeMaps
 pub mod Scopes
 pub mod Maps
 pub mod Tables

@@ -14,16 +14,10 @@ use Rattle.def_ids.specs.declared.ids.ImplId.{ImplId}
 use Rattle.def_ids.specs.declared.ids.MacroId.{MacroId}
 use Rattle.def_bindings.specs.Content.{is_name}
 use Rattle.def_bindings.specs.declared.visibility.Visibility.{Visibility}
-use Rattle.def_map.specs.declared.module_data.DeriveMacroInvocation.{DeriveMacroInvocation}
 use Rattle.def_map.specs.declared.module_data.ModuleData.{ModuleData}
 use Rattle.def_map.specs.declared.module_data.ModuleOrigin.{ModuleOrigin}
-use Rattle.def_map.specs.Equality.{derive_key_eq, invocation_eq, position_eq}
 use Rattle.def_map.specs.MapState.{ModuleState, DeriveState, Position}
-use Rattle.def_map.specs.Textual.{textual_of, with_first}
-
--- a derive attribute's call, and what its list gave
-abbrev pub derive_state : DeriveMacroInvocation → DeriveState
-derive_state d = record { call = d.call; calls = d.calls }
+use Rattle.def_map.specs.ScopeMaps.{textual_of, with_first, derives_of, derive_set, invoked_of, invoked_with}
 
 -- what a module shows
 abbrev pub module_state : ModuleData → ModuleState
@@ -40,8 +34,8 @@ module_state m =
       impls = m.scope.impls;
       derive_impls = m.scope.builtin_derive_impls;
       extern_blocks = m.scope.extern_blocks;
-      derives = λ position attr. option_map derive_state (get derive_key_eq m.scope.derives (record { position = position; attr = attr }));
-      invoked = λ position call. contains invocation_eq m.scope.invocations (record { position = position; call = call });
+      derives = derives_of m.scope.derives;
+      invoked = invoked_of m.scope.invocations;
       failed = contains is_name m.scope.failed;
     }
 
@@ -97,21 +91,13 @@ with_impl id of_trait m = record m { impls = m.impls ++ (id, of_trait) ∷ [] }
 abbrev pub with_derive_impl : BuiltinDeriveImplId → ModuleState → ModuleState
 with_derive_impl id m = record m { derive_impls = m.derive_impls ++ id ∷ [] }
 
--- whether a derive is the one of this position and attribute
-abbrev pub is_derive_of : Position → AttrId → Position → AttrId → Bool
-is_derive_of position attr p a = position_eq position p && (attr.0 == a.0)
-
 -- a derive recorded, in the place of an earlier one of its position and attribute
 abbrev pub with_derive : Position → AttrId → DeriveState → ModuleState → ModuleState
-with_derive position attr derive m = record m { derives = λ p a. cond (is_derive_of position attr p a) (Some derive) (m.derives p a) }
-
--- whether a call at a position is this one
-abbrev pub is_call_of : Position → MacroCallId → Position → MacroCallId → Bool
-is_call_of position call p c = position_eq position p && (call.0 == c.0)
+with_derive position attr derive m = record m { derives = derive_set m.derives position attr (Some derive) }
 
 -- a call recorded at its position
 abbrev pub with_invocation : Position → MacroCallId → ModuleState → ModuleState
-with_invocation position call m = record m { invoked = λ p c. cond (is_call_of position call p c) true (m.invoked p c) }
+with_invocation position call m = record m { invoked = invoked_with m.invoked position call }
 
 -- a name marked as failed
 abbrev pub marked_failed : Name → ModuleState → ModuleState

@@ -1,6 +1,6 @@
 //! A module of a map, and what its scope holds beside its bindings.
 ghost use Rattle.std.specs.Prelude.{◌≡◌, [], OnOk};
-ghost use Rattle.def_map.specs.Textual.{textual_of, with_first};
+ghost use Rattle.def_map.specs.ScopeMaps.{textual_of, with_first, derive_state};
 
 use def_bindings::Visibility;
 use def_ids::{BuiltinDeriveImplId, ConstId, Def, ExternBlockId, ExternCrateId, ImplId, MacroId};
@@ -95,7 +95,7 @@ pub(crate) fn no_items<T>(alloc: Global) -> Seq<T>
 }
 
 impl ModuleData {
-    ghost use Rattle.def_map.specs.Scopes.{module_state, empty_module, declared_in, with_child, with_textual};
+    ghost use Rattle.def_map.specs.Scopes.{module_state, empty_module, declared_in, with_child, with_textual, with_extern_crate, with_extern_block, with_unnamed_const, with_impl, with_derive_impl, with_derive, with_invocation, marked_failed};
 
     /// A module with nothing in it.
     pub fn new(
@@ -147,6 +147,80 @@ impl ModuleData {
         ensures { OnOk result (module_state self.new ≡ with_textual name macro_id (module_state self.old)) }
     {
         shadow(&mut self.scope.legacy_macros, name, macro_id)
+    }
+
+    /// Records an `extern crate` item.
+    pub fn define_extern_crate_decl(&mut self, id: ExternCrateId) -> Result<(), AllocError>
+        ensures { OnOk result (module_state self.new ≡ with_extern_crate id (module_state self.old)) }
+    {
+        self.scope.extern_crates.push(id)?;
+        Ok(())
+    }
+
+    /// Records an extern block.
+    pub fn define_extern_block(&mut self, id: ExternBlockId) -> Result<(), AllocError>
+        ensures { OnOk result (module_state self.new ≡ with_extern_block id (module_state self.old)) }
+    {
+        self.scope.extern_blocks.push(id)?;
+        Ok(())
+    }
+
+    /// Records a constant without a name.
+    pub fn define_unnamed_const(&mut self, id: ConstId) -> Result<(), AllocError>
+        ensures { OnOk result (module_state self.new ≡ with_unnamed_const id (module_state self.old)) }
+    {
+        self.scope.unnamed_consts.push(id)?;
+        Ok(())
+    }
+
+    /// Records an impl, and whether it is one of a trait.
+    pub fn define_impl(&mut self, id: ImplId, is_trait_impl: bool) -> Result<(), AllocError>
+        ensures { OnOk result (module_state self.new ≡ with_impl id is_trait_impl (module_state self.old)) }
+    {
+        self.scope.impls.push((id, is_trait_impl))?;
+        Ok(())
+    }
+
+    /// Records the impl of a builtin derive.
+    pub fn define_builtin_derive_impl(&mut self, id: BuiltinDeriveImplId) -> Result<(), AllocError>
+        ensures { OnOk result (module_state self.new ≡ with_derive_impl id (module_state self.old)) }
+    {
+        self.scope.builtin_derive_impls.push(id)?;
+        Ok(())
+    }
+
+    /// Records a derive attribute's call and what each path of its list gave, in the place of an
+    /// earlier record of the same attribute.
+    pub fn set_derive(
+        &mut self,
+        position: Position,
+        attr: AttrId,
+        derive: DeriveMacroInvocation,
+    ) -> Result<(), AllocError>
+        ensures { OnOk result (module_state self.new ≡ with_derive position attr (derive_state derive) (module_state self.old)) }
+    {
+        self.scope.derives.insert(DeriveKey { position, attr }, derive)?;
+        Ok(())
+    }
+
+    /// Records a macro call at its position.
+    pub fn add_macro_invoc(
+        &mut self,
+        position: Position,
+        call: MacroCallId,
+    ) -> Result<(), AllocError>
+        ensures { OnOk result (module_state self.new ≡ with_invocation position call (module_state self.old)) }
+    {
+        self.scope.invocations.insert(Invocation { position, call })?;
+        Ok(())
+    }
+
+    /// Marks a name that an import left over would have bound.
+    pub fn mark_failed(&mut self, name: Name) -> Result<(), AllocError>
+        ensures { OnOk result (module_state self.new ≡ marked_failed name (module_state self.old)) }
+    {
+        self.scope.failed.insert(name)?;
+        Ok(())
     }
 }
 
