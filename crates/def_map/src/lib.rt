@@ -6,6 +6,7 @@ mod def_map;
 mod local_def_map;
 mod map;
 mod module_data;
+mod module_writes;
 mod table;
 
 pub use block::BlockInfo;

@@ -68,14 +68,4 @@ impl MapData {
         self.modules.push(module)?;
         Ok(index)
     }
-
-    /// Adds a declaration to a module, behind the others.
-    pub fn declare(&mut self, module: usize, def: Def) -> Result<(), AllocError>
-        ensures { OnOk result (map_state self.new ≡ with_module (map_state self.old) «module» (declared_in def)) }
-    {
-        match self.modules.get_mut(module) {
-            Some(data) => data.declare(def),
-            None => Ok(()),
-        }
-    }
 }
