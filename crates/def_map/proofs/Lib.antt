@@ -1,3 +1,4 @@
 pub mod ScopesLemmas
 pub mod MapsLemmas
 pub mod EqualityLemmas
+pub mod CrateLemmas

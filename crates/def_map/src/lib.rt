@@ -2,7 +2,9 @@
 #![tactic(auto)]
 
 mod block;
+mod crate_writes;
 mod def_map;
+mod keyed_lists;
 mod local_def_map;
 mod map;
 mod module_data;

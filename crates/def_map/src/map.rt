@@ -1,5 +1,5 @@
 //! Maps of definitions.
-ghost use Rattle.std.specs.Prelude.{◌≡◌, ◌++◌, ◌∷◌, [], OnOk};
+ghost use Rattle.std.specs.Prelude.{◌≡◌, ◌++◌, ◌∷◌, [], length, OnOk, IfOk};
 ghost use Rattle.def_map.specs.Scopes.{module_state, declared_in};
 ghost use Rattle.def_map.specs.Maps.{map_state, with_module, pushed, known_parent};
 
@@ -61,7 +61,8 @@ fn add_parent(tree: &mut ModuleTree, parent: usize) -> Result<(), AllocError>
 impl MapData {
     /// Adds a module under its parent. Where the parent is not there, the module has none.
     pub fn push_module(&mut self, parent: usize, module: ModuleData) -> Result<usize, AllocError>
-        ensures { OnOk result (map_state self.new ≡ pushed (map_state self.old) parent (module_state «module»)) }
+        ensures state { OnOk result (map_state self.new ≡ pushed (map_state self.old) parent (module_state «module»)) }
+        ensures index { IfOk result (λ index. index ≡ length (map_state self.old).modules) }
     {
         let index = self.modules.len();
         add_parent(&mut self.tree, parent)?;
