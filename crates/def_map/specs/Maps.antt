@@ -1,5 +1,5 @@
 -- What a map shows, and what each write does to it.
-use Rattle.std.specs.Prelude.{true, cond, nat_lt, List, [], ◌∷◌, ◌++◌, ℕ, Option, None, Some, length, map, slice_get}
+use Rattle.std.specs.Prelude.{true, cond, nat_lt, List, [], ◌∷◌, ◌++◌, ℕ, Option, None, Some, length, map, slice_get, unwrap_or}
 use Rattle.std.specs.Option.{option_map_or}
 use Rattle.indexmap.specs.IndexMap.{IndexMap, get}
 use Rattle.indexmap.specs.IndexSet.{contains}
@@ -136,3 +136,7 @@ with_macro_use s name id = record s { krate = record s.krate { macro_use = set_w
 -- one helper attribute of a position more, behind the others
 abbrev pub with_helper : MapState → Position → ShownHelper → MapState
 with_helper s position helper = record s { helpers = with_last_helper s.helpers position helper }
+
+-- how deep expansions may nest: 128 where the crate states nothing
+abbrev pub limit_of : CrateState → ℕ
+limit_of c = unwrap_or c.recursion_limit 128

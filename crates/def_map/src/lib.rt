@@ -7,6 +7,7 @@ mod def_map;
 mod keyed_lists;
 mod local_def_map;
 mod map;
+mod map_reads;
 mod module_data;
 mod module_writes;
 mod table;
