@@ -23,8 +23,8 @@ use std::alloc::{AllocError, Global};
 /// A map of the definitions of a crate, or of one of its blocks.
 #[derive(Drop)]
 pub struct DefMap {
-    data: MapData,
-    table: Table,
+    pub(crate) data: MapData,
+    pub(crate) table: Table,
 }
 
 impl DefMap {
