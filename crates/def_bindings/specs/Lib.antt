@@ -20,3 +20,8 @@ pub mod Numbers
 pub mod Places
 pub mod NumberedTable
 pub mod NumberedTableLaws
+pub mod Slots
+pub mod DefLaws
+pub mod HeldLaws
+pub mod SettledLaws
+pub mod PutsLaws
