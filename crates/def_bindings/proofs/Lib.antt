@@ -5,3 +5,4 @@ pub mod RowEntriesLemmas
 pub mod ScopeTableLemmas
 pub mod NumbersLemmas
 pub mod NumberedTableLemmas
+pub mod TreeLemmas

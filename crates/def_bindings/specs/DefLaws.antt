@@ -8,7 +8,7 @@ use Rattle.def_ids.specs.declared.ids.Def.{Def}
 use Rattle.def_ids.specs.declared.ids.Def.TheVariants.{Module, Function, Struct, Union, Enum, Variant, Const, Static, Trait, TypeAlias, Builtin, Macro}
 use Rattle.def_ids.specs.Equality.{macro_eq, def_eq}
 use Rattle.def_bindings.specs.IdLaws.{module-refl}
-use Rattle.def_bindings.specs.TreeLaws.{same_module_equal}
+use Rattle.def_bindings.specs.IdLaws.{same_module_equal}
 
 pub macro-eq : (a b : MacroId) → macro_eq a b ≡ true → a ≡ b
 macro-eq (MacroRules a) (MacroRules b) h = ap (λ (n : ℕ). let x : MacroId = MacroRules (record { 0 = n }) in x) (eqb-true a.0 b.0 h)

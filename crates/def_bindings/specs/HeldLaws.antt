@@ -9,7 +9,7 @@ use Rattle.def_bindings.specs.declared.bindings.Binding.{Binding}
 use Rattle.def_bindings.specs.declared.bindings.Slot.{Slot}
 use Rattle.def_bindings.specs.declared.bindings.Slot.TheVariants.{Named, Unnamed}
 use Rattle.def_bindings.specs.IdLaws.{both, cases_module, module-refl, name-eq, name-refl, namespace-eq, namespace-refl, trait-eq, trait-refl}
-use Rattle.def_bindings.specs.TreeLaws.{same_module_equal}
+use Rattle.def_bindings.specs.IdLaws.{same_module_equal}
 use Rattle.def_bindings.specs.Content.{Content, is_trait, vis_of}
 use Rattle.def_bindings.specs.Slots.{is_same_slot, is_same_place}
 use Rattle.def_bindings.specs.Puts.{held, fitted, written, unnamed_binding}
