@@ -6,3 +6,6 @@ pub mod ScopeTableLemmas
 pub mod NumbersLemmas
 pub mod NumberedTableLemmas
 pub mod TreeLemmas
+pub mod PutsFacts
+pub mod VisibilityFacts
+pub mod ContentFacts
