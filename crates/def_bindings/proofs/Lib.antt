@@ -9,3 +9,4 @@ pub mod TreeLemmas
 pub mod PutsFacts
 pub mod VisibilityFacts
 pub mod ContentFacts
+pub mod EmptyLemmas
