@@ -27,9 +27,11 @@ textual-shadowed old new name id after = λ i q. at q i
     shown : (o : Option (List MacroId)) → reverse (unwrap_or o [] ++ id ∷ []) ≡ id ∷ option_map_or reverse o []
     shown None = refl
     shown (Some xs) = reverse-append xs (id ∷ [])
+
     by : (b : Bool) (o : Option (List MacroId)) → option_map_or reverse (cond b (Some (unwrap_or (get is_name old name) [] ++ id ∷ [])) o) [] ≡ cond b (id ∷ textual_of old name) (option_map_or reverse o [])
     by true o = shown (get is_name old name)
     by false o = refl
+
     at : (q : Name) → textual_of new q ≡ with_first (textual_of old) name id q
     at q = ap (λ o. option_map_or reverse o []) (after q) ∙ by (is_name name q) (get is_name old q)
 
@@ -41,9 +43,11 @@ derives-set old new position attr d eq same written = λ i p a. at p a i
   where
     after : (q : DeriveKey) → get derive_key_eq new q ≡ cond (derive_key_eq (record { position = position; attr = attr }) q) (Some d) (get derive_key_eq old q)
     after = let P : (DeriveKey → DeriveKey → Bool) → Type 0 = λ e. (q : DeriveKey) → get e new q ≡ cond (e (record { position = position; attr = attr }) q) (Some d) (get e old q) in subst P same written
+
     by : (b : Bool) (o : Option DeriveMacroInvocation) → option_map derive_state (cond b (Some d) o) ≡ cond b (Some (derive_state d)) (option_map derive_state o)
     by true o = refl
     by false o = refl
+
     at : (p : Position) (a : AttrId) → derives_of new p a ≡ derive_set (derives_of old) position attr (Some (derive_state d)) p a
     at p a = ap (option_map derive_state) (after (record { position = p; attr = a })) ∙ by (is_derive_of position attr p a) (get derive_key_eq old (record { position = p; attr = a }))
 

@@ -1,13 +1,11 @@
 -- What finished maps show, and what a block's map is made of.
 use Rattle.std.specs.Prelude.{[], Option, None, Some}
-use Rattle.std.specs.Option.{option_map_or}
 use Rattle.indexmap.specs.IndexMap.{get}
 use Rattle.indexmap.specs.IndexSet.{contains}
 use Rattle.item_tree.specs.declared.ids.BlockId.{BlockId}
 use Rattle.item_tree.specs.declared.ids.Crate.{Crate}
 use Rattle.def_ids.specs.declared.ids.MapId.{MapId}
 use Rattle.def_ids.specs.declared.macro_def.Edition.{Edition}
-use Rattle.def_ids.specs.Equality.{macro_eq}
 use Rattle.def_bindings.specs.declared.visibility.Visibility.{Visibility}
 use Rattle.def_bindings.specs.Content.{Content, is_name}
 use Rattle.def_map.specs.declared.block.BlockInfo.{BlockInfo}

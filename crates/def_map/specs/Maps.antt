@@ -122,7 +122,7 @@ paired s function id =
       krate = record s.krate {
         macro_of_function = set_where (function_eq function) (Some id) s.krate.macro_of_function;
         function_of_macro = set_where (proc_macro_eq id) (Some function) s.krate.function_of_macro;
-      }
+      };
     }
 
 -- a position leads to a macro

@@ -4,6 +4,7 @@
 mod block;
 mod crate_writes;
 mod def_map;
+mod fresh;
 mod keyed_lists;
 mod local_def_map;
 mod map;

@@ -194,7 +194,9 @@ impl ModuleData {
     ) -> Result<(), AllocError>
         ensures { OnOk result (module_state self.new ≡ with_derive position attr (derive_state derive) (module_state self.old)) }
     {
-        self.scope.derives.insert(DeriveKey { position, attr }, derive)?;
+        self.scope
+            .derives
+            .insert(DeriveKey { position, attr }, derive)?;
         Ok(())
     }
 
@@ -206,7 +208,9 @@ impl ModuleData {
     ) -> Result<(), AllocError>
         ensures { OnOk result (module_state self.new ≡ with_invocation position call (module_state self.old)) }
     {
-        self.scope.invocations.insert(Invocation { position, call })?;
+        self.scope
+            .invocations
+            .insert(Invocation { position, call })?;
         Ok(())
     }
 
