@@ -1,0 +1,157 @@
+-- What a session shows: the location of each id and the text of each name.
+use Rattle.std.specs.Prelude.{◌≡◌, ◌==◌, ℕ, Bool, false, List, Option, Some, option_map, slice_get}
+use Rattle.std.specs.Int.RustNames.{bit_and}
+use Rattle.item_tree.specs.declared.ids.FileAstId.{FileAstId}
+use Rattle.item_tree.specs.declared.ids.InFile.{InFile}
+use Rattle.item_tree.specs.declared.macro_flags.MacroRulesLocFlags.{MacroRulesLocFlags}
+use Rattle.item_tree.specs.declared.name.Name.{Name}
+use Rattle.def_ids.specs.MacroKinds.{kind_of_expander}
+use Rattle.def_ids.specs.declared.ids.ItemContainerId.{ItemContainerId}
+use Rattle.def_ids.specs.declared.ids.ItemContainerId.TheVariants.{Module}
+use Rattle.def_ids.specs.declared.ids.MacroId.{MacroId}
+use Rattle.def_ids.specs.declared.ids.MacroId.TheVariants.{MacroRules, Macro2, ProcMacro}
+use Rattle.def_ids.specs.declared.ids.ModuleId.{ModuleId}
+use Rattle.def_ids.specs.declared.interner.Interner.{Interner}
+use Rattle.def_ids.specs.declared.locs.BuiltinDeriveImplLoc.{BuiltinDeriveImplLoc}
+use Rattle.def_ids.specs.declared.locs.Macro2Loc.{Macro2Loc}
+use Rattle.def_ids.specs.declared.locs.MacroRulesLoc.{MacroRulesLoc}
+use Rattle.def_ids.specs.declared.locs.ProcMacroLoc.{ProcMacroLoc}
+use Rattle.def_ids.specs.declared.macro_def.Edition.{Edition}
+use Rattle.def_ids.specs.declared.macro_def.MacroDefId.{MacroDefId}
+use Rattle.def_ids.specs.declared.macro_def.MacroDefKind.{MacroDefKind}
+use Rattle.def_ids.specs.declared.macro_def.MacroDefKind.TheVariants as kind
+
+-- the kinds of items that have numbers
+pub data ItemKind : Type 0 where
+  FunctionItem : ItemKind
+  StructItem : ItemKind
+  UnionItem : ItemKind
+  EnumItem : ItemKind
+  ConstItem : ItemKind
+  StaticItem : ItemKind
+  TraitItem : ItemKind
+  TypeAliasItem : ItemKind
+  ImplItem : ItemKind
+  UseItem : ItemKind
+  ExternCrateItem : ItemKind
+  ExternBlockItem : ItemKind
+
+-- where an item stands
+pub record ItemLoc : Type 0 where
+  pub container : ItemContainerId
+  pub position : InFile FileAstId
+
+-- where a macro stands, and what it is
+pub record MacroLoc : Type 0 where
+  pub container : ModuleId
+  pub position : InFile FileAstId
+  pub kind : MacroDefKind
+  pub local_inner : Bool
+  pub allow_internal_unsafe : Bool
+  pub edition : Edition
+
+-- the tables of a session, as functions
+pub record Session : Type 0 where
+  pub text : Name → Option (List ℕ)
+  pub item : ItemKind → ℕ → Option ItemLoc
+  pub macro_at : MacroId → Option MacroLoc
+  pub derive_impl : ℕ → Option BuiltinDeriveImplLoc
+
+-- every number that had a location has it still, and every name its text
+pub record Grows (old new : Session) : Type 0 where
+  pub text : (n : Name) (t : List ℕ) → old.text n ≡ Some t → new.text n ≡ Some t
+  pub item : (k : ItemKind) (i : ℕ) (loc : ItemLoc) → old.item k i ≡ Some loc → new.item k i ≡ Some loc
+  pub macro_at : (m : MacroId) (loc : MacroLoc) → old.macro_at m ≡ Some loc → new.macro_at m ≡ Some loc
+  pub derive_impl : (i : ℕ) (loc : BuiltinDeriveImplLoc) → old.derive_impl i ≡ Some loc → new.derive_impl i ≡ Some loc
+
+-- equal locations have equal numbers
+pub record IsInjective (session : Session) : Type 0 where
+  pub item : (k : ItemKind) (i j : ℕ) (loc : ItemLoc) → session.item k i ≡ Some loc → session.item k j ≡ Some loc → i ≡ j
+  pub derive_impl : (i j : ℕ) (loc : BuiltinDeriveImplLoc) → session.derive_impl i ≡ Some loc → session.derive_impl j ≡ Some loc → i ≡ j
+
+-- what expands a macro
+abbrev pub macro_kind : Session → MacroId → Option MacroDefKind
+macro_kind session id = option_map (λ loc. loc.kind) (session.macro_at id)
+
+-- a macro with its crate, which is that of its module
+abbrev pub macro_def : Session → MacroId → Option MacroDefId
+macro_def session id = option_map (λ loc. record { krate = loc.container.map.krate; id = id; kind = loc.kind }) (session.macro_at id)
+
+-- an item of a module
+abbrev pub in_module : ModuleId → InFile FileAstId → ItemLoc
+in_module m position = record { container = Module m; position = position }
+
+-- an item of a container
+abbrev pub in_container : ItemContainerId → InFile FileAstId → ItemLoc
+in_container container position = record { container = container; position = position }
+
+-- whether these flags have all of these bits
+abbrev pub has_flag : MacroRulesLocFlags → ℕ → Bool
+has_flag flags flag = bit_and flags.0 flag == flag
+
+-- a `macro_rules` macro
+abbrev pub rules_loc : MacroRulesLoc → MacroLoc
+rules_loc loc =
+    record {
+      container = loc.container;
+      position = loc.position;
+      kind = kind_of_expander loc.expander;
+      local_inner = has_flag loc.flags 1;
+      allow_internal_unsafe = has_flag loc.flags 2;
+      edition = loc.edition;
+    }
+
+-- a `macro` item
+abbrev pub macro2_loc : Macro2Loc → MacroLoc
+macro2_loc loc =
+    record {
+      container = loc.container;
+      position = loc.position;
+      kind = kind_of_expander loc.expander;
+      local_inner = has_flag loc.flags 1;
+      allow_internal_unsafe = has_flag loc.flags 2;
+      edition = loc.edition;
+    }
+
+-- a procedural macro, which has no flags
+abbrev pub proc_macro_loc : ProcMacroLoc → MacroLoc
+proc_macro_loc loc =
+    record {
+      container = loc.container;
+      position = loc.position;
+      kind = kind.ProcMacro loc.expander loc.kind;
+      local_inner = false;
+      allow_internal_unsafe = false;
+      edition = loc.edition;
+    }
+
+-- the item of this kind and number
+unfoldable pub item_at : Interner → ItemKind → ℕ → Option ItemLoc
+item_at s FunctionItem i = option_map (λ loc. in_container loc.container loc.position) (slice_get s.functions i)
+item_at s StructItem i = option_map (λ loc. in_module loc.container loc.position) (slice_get s.structs i)
+item_at s UnionItem i = option_map (λ loc. in_module loc.container loc.position) (slice_get s.unions i)
+item_at s EnumItem i = option_map (λ loc. in_module loc.container loc.position) (slice_get s.enums i)
+item_at s ConstItem i = option_map (λ loc. in_container loc.container loc.position) (slice_get s.consts i)
+item_at s StaticItem i = option_map (λ loc. in_container loc.container loc.position) (slice_get s.statics i)
+item_at s TraitItem i = option_map (λ loc. in_module loc.container loc.position) (slice_get s.traits i)
+item_at s TypeAliasItem i = option_map (λ loc. in_container loc.container loc.position) (slice_get s.type_aliases i)
+item_at s ImplItem i = option_map (λ loc. in_module loc.container loc.position) (slice_get s.impls i)
+item_at s UseItem i = option_map (λ loc. in_module loc.container loc.position) (slice_get s.uses i)
+item_at s ExternCrateItem i = option_map (λ loc. in_module loc.container loc.position) (slice_get s.extern_crates i)
+item_at s ExternBlockItem i = option_map (λ loc. in_module loc.container loc.position) (slice_get s.extern_blocks i)
+
+-- the macro of this id
+unfoldable pub macro_at : Interner → MacroId → Option MacroLoc
+macro_at s (MacroRules id) = option_map rules_loc (slice_get s.macro_rules id.0)
+macro_at s (Macro2 id) = option_map macro2_loc (slice_get s.macro2s id.0)
+macro_at s (ProcMacro id) = option_map proc_macro_loc (slice_get s.proc_macros id.0)
+
+-- what a session's tables show
+abbrev pub session_of : Interner → Session
+session_of s =
+    record {
+      text = λ name. slice_get s.names name.0;
+      item = item_at s;
+      macro_at = macro_at s;
+      derive_impl = slice_get s.builtin_derive_impls;
+    }

@@ -1,0 +1,88 @@
+//! The tables of a session.
+ghost use Rattle.std.specs.Prelude.{◌≡◌, Some, IfOk, OnErr, option_map};
+
+use crate::locs::{
+    BuiltinDeriveImplLoc, ConstLoc, EnumLoc, ExternBlockLoc, ExternCrateLoc, FunctionLoc, ImplLoc,
+    Macro2Loc, MacroRulesLoc, ProcMacroLoc, StaticLoc, StructLoc, TraitLoc, TypeAliasLoc, UnionLoc,
+    UseLoc,
+};
+use crate::numbering::Numbering;
+use item_tree::{Name, NameTable};
+use std::alloc::{AllocError, Global};
+
+/// The names and locations of a session, each in the order in which they were first met.
+#[derive(Drop)]
+pub struct Interner {
+    pub names: NameTable,
+    pub functions: Numbering<FunctionLoc>,
+    pub structs: Numbering<StructLoc>,
+    pub unions: Numbering<UnionLoc>,
+    pub enums: Numbering<EnumLoc>,
+    pub consts: Numbering<ConstLoc>,
+    pub statics: Numbering<StaticLoc>,
+    pub traits: Numbering<TraitLoc>,
+    pub type_aliases: Numbering<TypeAliasLoc>,
+    pub impls: Numbering<ImplLoc>,
+    pub uses: Numbering<UseLoc>,
+    pub extern_crates: Numbering<ExternCrateLoc>,
+    pub extern_blocks: Numbering<ExternBlockLoc>,
+    pub macro_rules: Numbering<MacroRulesLoc>,
+    pub macro2s: Numbering<Macro2Loc>,
+    pub proc_macros: Numbering<ProcMacroLoc>,
+    pub builtin_derive_impls: Numbering<BuiltinDeriveImplLoc>,
+}
+
+impl Interner {
+    ghost use Rattle.std.specs.Prelude.{OnOk, slice_get};
+    ghost use Rattle.item_tree.specs.Numbering.{IsGrownBy};
+    ghost use Rattle.def_ids.specs.Interner.{first_tables};
+    ghost use Rattle.def_ids.specs.Session.{Grows, session_of};
+
+    /// A session that knows the names with which every table begins, and no location.
+    pub fn new(alloc: Global) -> Result<Interner, AllocError>
+        ensures { IfOk result (λ session. session ≡ first_tables) }
+    {
+        Ok(Interner {
+            names: NameTable::new(alloc)?,
+            functions: Numbering::new(alloc),
+            structs: Numbering::new(alloc),
+            unions: Numbering::new(alloc),
+            enums: Numbering::new(alloc),
+            consts: Numbering::new(alloc),
+            statics: Numbering::new(alloc),
+            traits: Numbering::new(alloc),
+            type_aliases: Numbering::new(alloc),
+            impls: Numbering::new(alloc),
+            uses: Numbering::new(alloc),
+            extern_crates: Numbering::new(alloc),
+            extern_blocks: Numbering::new(alloc),
+            macro_rules: Numbering::new(alloc),
+            macro2s: Numbering::new(alloc),
+            proc_macros: Numbering::new(alloc),
+            builtin_derive_impls: Numbering::new(alloc),
+        })
+    }
+    /// The name of this text: its own if it has one, else the next.
+    #[tactic(auto, using(crate::specs::TableLaws::grows_names))]
+    pub fn intern_name(&mut self, text: &str) -> Result<Name, AllocError>
+        // On success the name has this text.
+        ensures stored { IfOk result (λ name. (session_of self.new).text name ≡ Some text.now) }
+
+        // The names have grown at their end, or are as they were; all else stays.
+        ensures grown { OnOk result (IsGrownBy text.now self.old.names self.new.names) }
+        ensures others { self.new ≡ record self.old { names = self.new.names } }
+        ensures grows { Grows (session_of self.old) (session_of self.new) }
+
+        // On failure nothing changes.
+        ensures unchanged { OnErr result (self.new ≡ self.old) }
+    {
+        self.names.intern(text)
+    }
+
+    /// The text of a name, if the session knows it.
+    pub fn text(&self, name: Name) -> Option<&str>
+        ensures { option_map (λ t. t.now) result ≡ (session_of self.now).text name }
+    {
+        self.names.text(name)
+    }
+}

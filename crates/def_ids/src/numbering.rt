@@ -1,0 +1,59 @@
+//! `Numbering`: values that are numbered as they are first met.
+ghost use Rattle.std.specs.Prelude.{◌≡◌, [], Some, slice_get, IfOk, OnOk, OnErr};
+ghost use Rattle.std.specs.Option.{option_copied};
+ghost use Rattle.item_tree.specs.Numbering.{IsInjective, IsGrownBy};
+
+use crate::exact::Exact;
+use indexmap::IndexSet;
+use std::alloc::{AllocError, Global};
+use std::hash::Hash;
+use std::marker::Model;
+
+/// Values in the order in which they were first met. A contract sees their list.
+#[derive(Drop)]
+pub struct Numbering<T: Eq + Hash> {
+    values: IndexSet<T>,
+}
+
+impl<T: Eq + Hash> Model for Numbering<T> {
+    ghost use Rattle.std.specs.Prelude.{List};
+    ghost use Rattle.std.specs.Coded.{coded_list};
+
+    ghost Value = { List T };
+
+    ghost coded = { coded_list T.code };
+
+    ghost view = { λ n. n.values.keys };
+}
+
+impl<T: Exact + Hash + Drop> Numbering<T> {
+    /// An empty numbering.
+    pub fn new(alloc: Global) -> Self
+        ensures { result ≡ [] }
+    {
+        Numbering {
+            values: IndexSet::new(alloc),
+        }
+    }
+
+    /// The number of this value: its own if it has one, else the next.
+    pub fn number(&mut self, value: T) -> Result<usize, AllocError>
+        // On success the number stands for the value, and no other number does.
+        ensures stored { IfOk result (λ i. slice_get self.new i ≡ Some value) }
+        ensures grown { OnOk result (IsGrownBy value self.old self.new) }
+        ensures injective { IsInjective self.new }
+
+        // On failure nothing changes.
+        ensures unchanged { OnErr result (self.new ≡ self.old) }
+    {
+        let (i, _) = self.values.insert_full(value)?;
+        Ok(i)
+    }
+
+    /// The value of this number.
+    pub fn value(&self, i: usize) -> Option<&T>
+        ensures value { option_copied result ≡ slice_get self.now i }
+    {
+        self.values.get_index(i)
+    }
+}
