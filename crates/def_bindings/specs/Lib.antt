@@ -8,3 +8,9 @@ pub mod VisibilityLaws
 pub mod ModuleTree
 pub mod Puts
 pub mod Closure
+pub mod NameBindings
+pub mod RowEntries
+pub mod Row
+pub mod IdLaws
+pub mod ScopeTable
+pub mod ScopeTableLaws

@@ -1,12 +1,11 @@
 -- The chains of a map's modules are chains, and none is longer than the modules and what contains them.
-use Rattle.std.specs.Prelude.{◌≡◌, ◌==◌, ◌&&◌, ◌<◌, ◌≤◌, ◌+◌, ◌++◌, Bool, true, false, not, ℕ, zero, suc, List, [], ◌∷◌, map, length, Option, Some, None, nat_lt, slice_get, refl, if◌then◌else◌}
+use Rattle.std.specs.Prelude.{◌≡◌, ◌==◌, ◌&&◌, ◌<◌, ◌≤◌, ◌+◌, ◌++◌, true, false, not, ℕ, zero, suc, List, [], ◌∷◌, map, length, Option, Some, None, nat_lt, slice_get, refl}
 use Rattle.std.specs.List.{list_any}
-use Rattle.std.specs.Option.{option_map_or, option_and_then}
+use Rattle.std.specs.Option.{option_map_or}
 use Rattle.std.specs.Prelude.{OnOk, OnErr, Result, Ok, Err}
-use Rattle.std.proofs.Common.{subst, sym, ◌∙◌, ap, arith, rules, inl, inr, ◌⊎◌, length-append}
+use Rattle.std.proofs.Common.{subst, sym, ◌∙◌, ap, arith, inl, inr, ◌⊎◌, length-append}
 use Rattle.std.proofs.lemmas.List.{length-map}
-use Rattle.std.proofs.lemmas.Bool.{cases_Bool, or_cases, or_right, or_left, and_parts, and_from, and_cases, not-true, eqb-true, eq-eqb, ltb-true, lt-ltb, and_left, both_ways, cases_order}
-use Rattle.item_tree.specs.declared.ids.Crate.{Crate}
+use Rattle.std.proofs.lemmas.Bool.{cases_Bool, or_cases, or_right, or_left, and_parts, and_from, not-true, eqb-true, eq-eqb, ltb-true, lt-ltb, and_left}
 use Rattle.item_tree.specs.declared.ids.BlockId.{BlockId}
 use Rattle.def_ids.specs.declared.ids.MapId.{MapId}
 use Rattle.def_ids.specs.declared.ids.ModuleId.{ModuleId}

@@ -1,0 +1,5 @@
+pub mod ContentLemmas
+pub mod ByModuleLemmas
+pub mod ResultLemmas
+pub mod RowEntriesLemmas
+pub mod ScopeTableLemmas

@@ -1,0 +1,75 @@
+-- What the tests of equality of names, namespaces, traits, definitions and globs decide.
+use Rattle.std.specs.Prelude.{◌≡◌, ℕ, Bool, true, false, ◌==◌, ◌&&◌, refl, ◌⊎◌}
+use Rattle.std.specs.Cmp.{IsEquivalence, nat_eq_equiv}
+use Rattle.std.proofs.Common.{ap, ◌∙◌, inl, inr}
+use Rattle.std.proofs.lemmas.Bool.{eqb-true, eq-eqb, cases_Bool}
+use Rattle.item_tree.specs.declared.name.Name.{Name}
+use Rattle.def_ids.specs.declared.ids.ModuleId.{ModuleId}
+use Rattle.def_ids.specs.declared.ids.TraitId.{TraitId}
+use Rattle.def_ids.specs.declared.ids.UseId.{UseId}
+use Rattle.def_ids.specs.declared.ids.GlobId.{GlobId}
+use Rattle.def_ids.specs.Ids.{is_same_module}
+use Rattle.def_ids.specs.Equality.{glob_eq}
+use Rattle.def_bindings.specs.declared.bindings.Namespace.{Namespace}
+use Rattle.def_bindings.specs.declared.bindings.Namespace.TheVariants.{Types, Values, Macros}
+use Rattle.def_bindings.specs.TreeLaws.{same_module_itself, same_module_equal}
+use Rattle.def_bindings.specs.Content.{is_name, is_trait, is_namespace}
+
+-- a test of two parts is true where both are
+pub both : (p q : Bool) → (p && q) ≡ true → (p ≡ true) × (q ≡ true)
+both true q h = (refl, h)
+both false q h = cc
+
+-- two modules are equal or apart
+pub cases_module : (a b : ModuleId) → ((a ≡ b) × (is_same_module a b ≡ true)) ⊎ (is_same_module a b ≡ false)
+cases_module a b = elim (cases_Bool (is_same_module a b)) [ inl h ↦ inl (same_module_equal a b h, h) | inr h ↦ inr h ]
+
+pub module-refl : (a : ModuleId) → is_same_module a a ≡ true
+module-refl a = same_module_itself a
+
+pub name-eq : (a b : Name) → is_name a b ≡ true → a ≡ b
+name-eq a b h = let by : ℕ → Name = λ n. record { 0 = n } in ap by (eqb-true a.0 b.0 h)
+
+pub name-refl : (a : Name) → is_name a a ≡ true
+name-refl a = eq-eqb a.0 a.0 refl
+
+pub name-laws : IsEquivalence is_name
+name-laws = record { refl = λ a. nat_eq_equiv.refl a.0; symm = λ a b. nat_eq_equiv.symm a.0 b.0; congr = λ a b c. nat_eq_equiv.congr a.0 b.0 c.0 }
+
+pub name-sym : (a b : Name) → is_name a b ≡ is_name b a
+name-sym a b = name-laws.symm a b
+
+-- two names are equal or apart
+pub cases_name : (a b : Name) → ((a ≡ b) × (is_name a b ≡ true)) ⊎ (is_name a b ≡ false)
+cases_name a b = elim (cases_Bool (is_name a b)) [ inl h ↦ inl (name-eq a b h, h) | inr h ↦ inr h ]
+
+pub trait-eq : (a b : TraitId) → is_trait a b ≡ true → a ≡ b
+trait-eq a b h = let by : ℕ → TraitId = λ n. record { 0 = n } in ap by (eqb-true a.0 b.0 h)
+
+pub trait-refl : (a : TraitId) → is_trait a a ≡ true
+trait-refl a = eq-eqb a.0 a.0 refl
+
+pub namespace-eq : (a b : Namespace) → is_namespace a b ≡ true → a ≡ b
+namespace-eq Types Types h = refl
+namespace-eq Values Values h = refl
+namespace-eq Macros Macros h = refl
+namespace-eq Types Values h = cc
+namespace-eq Types Macros h = cc
+namespace-eq Values Types h = cc
+namespace-eq Values Macros h = cc
+namespace-eq Macros Types h = cc
+namespace-eq Macros Values h = cc
+
+pub namespace-refl : (a : Namespace) → is_namespace a a ≡ true
+namespace-refl Types = refl
+namespace-refl Values = refl
+namespace-refl Macros = refl
+
+glob_of_numbers : ℕ → ℕ → GlobId
+glob_of_numbers n i = let use_id : UseId = record { 0 = n } in record { use_id = use_id; idx = i }
+
+pub glob-eq : (a b : GlobId) → glob_eq a b ≡ true → a ≡ b
+unfolding glob_of_numbers
+glob-eq a b h =
+    let p = both (a.use_id.0 == b.use_id.0) (a.idx == b.idx) h in
+    ap (λ n. glob_of_numbers n a.idx) (eqb-true a.use_id.0 b.use_id.0 p.0) ∙ ap (glob_of_numbers b.use_id.0) (eqb-true a.idx b.idx p.1)
