@@ -1,2 +1,9 @@
 pub mod MapView
 pub mod MapState
+pub mod PerNs
+pub mod Items
+pub mod Queries
+pub mod Oracle
+pub mod Sources
+pub mod Answers
+pub mod Paths
