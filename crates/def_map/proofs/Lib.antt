@@ -1,1 +1,2 @@
 pub mod SourcesLemmas
+pub mod AnswersLemmas

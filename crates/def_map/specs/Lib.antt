@@ -5,5 +5,6 @@ pub mod Items
 pub mod Queries
 pub mod Oracle
 pub mod Sources
+pub mod Asking
 pub mod Answers
 pub mod Paths

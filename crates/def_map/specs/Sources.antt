@@ -27,6 +27,10 @@ pub record World : Type 0 where
   pub map : MapView
   pub local : LocalView
 
+-- the world of these
+abbrev pub world_of : Oracle → Session → MapView → LocalView → World
+world_of oracle session map local = record { oracle = oracle; session = session; map = map; local = local }
+
 -- what every path of one call is asked with
 pub record Question : Type 0 where
   pub oracle : Oracle

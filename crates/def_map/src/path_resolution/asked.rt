@@ -1,5 +1,5 @@
 //! How a path is asked, and what it means.
-ghost use Rattle.std.specs.Prelude.{◌≡◌, ◌&&◌, ◌||◌, if◌then◌else◌};
+ghost use Rattle.std.specs.Prelude.{◌≡◌, ◌&&◌, if◌then◌else◌};
 
 use crate::per_ns::{MacroSubNs, PerNs};
 
@@ -78,19 +78,5 @@ impl ResolveMode {
         ensures { result ≡ is_for_import self }
     {
         self == ResolveMode::Import
-    }
-}
-
-impl ReachedFixedPoint {
-    ghost use Rattle.def_map.specs.Answers.{is_reached};
-
-    /// Whether one of two is reached.
-    fn or(self, other: ReachedFixedPoint) -> ReachedFixedPoint
-        ensures { is_reached result ≡ (is_reached self || is_reached other) }
-    {
-        match self {
-            ReachedFixedPoint::Yes => ReachedFixedPoint::Yes,
-            ReachedFixedPoint::No => other,
-        }
     }
 }

@@ -3,9 +3,10 @@
 ghost use Rattle.std.specs.Prelude.{◌≡◌, ◌∷◌, ◌++◌, [], option_map};
 ghost use Rattle.def_ids.specs.Session.{session_of, macro_kind};
 ghost use Rattle.def_map.specs.Items.{is_fitting, is_2015 as is_edition_2015};
-ghost use Rattle.def_map.specs.Maps.{view_of, map_with, local_view};
+ghost use Rattle.def_map.specs.Asking.{question_in, map_in};
+ghost use Rattle.def_map.specs.Maps.{view_of};
 ghost use Rattle.def_map.specs.PerNs.{per_namespace, kept_in};
-ghost use Rattle.def_map.specs.Sources.{question_of, finished_map as finished_map_of, scope_source, textual_source, builtin_source, extern_source, macro_use_source, prelude_source, plain_sources, outer_sources, scope_and_builtin, root_sources, absolute_sources, relative_sources, first_found, with_source};
+ghost use Rattle.def_map.specs.Sources.{finished_map as finished_map_of, scope_source, textual_source, builtin_source, extern_source, macro_use_source, prelude_source, plain_sources, outer_sources, scope_and_builtin, root_sources, absolute_sources, relative_sources, first_found, with_source};
 
 use crate::local_def_map::LocalDefMap;
 use crate::map::{DefMap, MapData};
@@ -81,8 +82,8 @@ fn is_2015(edition: Edition) -> bool
 impl<'a, D: SourceDatabase, T: BindingTable<Vis = Visibility>> Asking<'a, D, T> {
     /// What a module's scope binds, also in another map. A map that there is not binds nothing.
     pub fn scope(&self, place: ModuleId, name: Name) -> PerNs
-        ensures { let q = question_of (D.oracle self.now.db.now) (session_of self.now.session.now) (local_view self.now.local.now) self.now.asked in
-            let own = map_with self.now.own.now (T.content self.now.table.now) in
+        ensures { let q = question_in (D.oracle self.now.db.now) self.now in
+            let own = map_in (T.content self.now.table.now) self.now in
             result ≡ per_namespace (scope_source q own place name) }
     {
         if place.map == self.own.tree.map {
@@ -97,8 +98,8 @@ impl<'a, D: SourceDatabase, T: BindingTable<Vis = Visibility>> Asking<'a, D, T> 
 
     /// The last textual macro of the name.
     fn textual(&self, segment: Segment) -> PerNs
-        ensures { let q = question_of (D.oracle self.now.db.now) (session_of self.now.session.now) (local_view self.now.local.now) self.now.asked in
-            let own = map_with self.now.own.now (T.content self.now.table.now) in
+        ensures { let q = question_in (D.oracle self.now.db.now) self.now in
+            let own = map_in (T.content self.now.table.now) self.now in
             result ≡ kept_in (is_fitting q.kind_of segment.sub) (per_namespace (textual_source own segment.place segment.name)) }
     {
         match self.own.textual_macro(segment.place, segment.name) {
@@ -109,8 +110,8 @@ impl<'a, D: SourceDatabase, T: BindingTable<Vis = Visibility>> Asking<'a, D, T> 
 
     /// Adds a builtin type. Blocks leave those to the maps around them.
     fn or_builtin(&self, found: PerNs, segment: Segment) -> PerNs
-        ensures { let q = question_of (D.oracle self.now.db.now) (session_of self.now.session.now) (local_view self.now.local.now) self.now.asked in
-            let own = map_with self.now.own.now (T.content self.now.table.now) in
+        ensures { let q = question_in (D.oracle self.now.db.now) self.now in
+            let own = map_in (T.content self.now.table.now) self.now in
             result ≡ with_source (is_fitting q.kind_of segment.sub) found (builtin_source q own) segment.name }
     {
         if found.types.is_some() || self.own.tree.map.block.is_some() {
@@ -124,7 +125,7 @@ impl<'a, D: SourceDatabase, T: BindingTable<Vis = Visibility>> Asking<'a, D, T> 
 
     /// Adds the root of another crate.
     fn or_extern(&self, found: PerNs, segment: Segment) -> PerNs
-        ensures { let q = question_of (D.oracle self.now.db.now) (session_of self.now.session.now) (local_view self.now.local.now) self.now.asked in
+        ensures { let q = question_in (D.oracle self.now.db.now) self.now in
             result ≡ with_source (is_fitting q.kind_of segment.sub) found (extern_source q) segment.name }
     {
         if found.types.is_some() {
@@ -142,8 +143,8 @@ impl<'a, D: SourceDatabase, T: BindingTable<Vis = Visibility>> Asking<'a, D, T> 
 
     /// Adds a macro that an extern crate brought.
     fn or_macro_use(&self, found: PerNs, segment: Segment) -> PerNs
-        ensures { let q = question_of (D.oracle self.now.db.now) (session_of self.now.session.now) (local_view self.now.local.now) self.now.asked in
-            let own = map_with self.now.own.now (T.content self.now.table.now) in
+        ensures { let q = question_in (D.oracle self.now.db.now) self.now in
+            let own = map_in (T.content self.now.table.now) self.now in
             result ≡ with_source (is_fitting q.kind_of segment.sub) found (macro_use_source own) segment.name }
     {
         if found.macros.is_some() {
@@ -160,8 +161,8 @@ impl<'a, D: SourceDatabase, T: BindingTable<Vis = Visibility>> Asking<'a, D, T> 
 
     /// Adds what the prelude module binds.
     fn or_prelude(&self, found: PerNs, segment: Segment) -> PerNs
-        ensures { let q = question_of (D.oracle self.now.db.now) (session_of self.now.session.now) (local_view self.now.local.now) self.now.asked in
-            let own = map_with self.now.own.now (T.content self.now.table.now) in
+        ensures { let q = question_in (D.oracle self.now.db.now) self.now in
+            let own = map_in (T.content self.now.table.now) self.now in
             result ≡ with_source (is_fitting q.kind_of segment.sub) found (prelude_source q own) segment.name }
     {
         if found.is_full() {
@@ -178,8 +179,8 @@ impl<'a, D: SourceDatabase, T: BindingTable<Vis = Visibility>> Asking<'a, D, T> 
 
     /// Adds what the scope and the builtin types have; a builtin type may go before a module.
     fn or_inside(&self, found: PerNs, segment: Segment, is_builtin_first: bool) -> PerNs
-        ensures { let q = question_of (D.oracle self.now.db.now) (session_of self.now.session.now) (local_view self.now.local.now) self.now.asked in
-            let own = map_with self.now.own.now (T.content self.now.table.now) in
+        ensures { let q = question_in (D.oracle self.now.db.now) self.now in
+            let own = map_in (T.content self.now.table.now) self.now in
             let keep = is_fitting q.kind_of segment.sub in
             (before : _) → found ≡ per_namespace (first_found keep before segment.name)
             → result ≡ per_namespace (first_found keep (before ++ scope_and_builtin is_builtin_first q own segment.place) segment.name) }
@@ -196,8 +197,8 @@ impl<'a, D: SourceDatabase, T: BindingTable<Vis = Visibility>> Asking<'a, D, T> 
 
     /// Adds what there is outside the scopes. A block's root leaves most of it to the maps around it.
     fn or_outside(&self, found: PerNs, segment: Segment) -> PerNs
-        ensures { let q = question_of (D.oracle self.now.db.now) (session_of self.now.session.now) (local_view self.now.local.now) self.now.asked in
-            let own = map_with self.now.own.now (T.content self.now.table.now) in
+        ensures { let q = question_in (D.oracle self.now.db.now) self.now in
+            let own = map_in (T.content self.now.table.now) self.now in
             let keep = is_fitting q.kind_of segment.sub in
             (before : _) → found ≡ per_namespace (first_found keep before segment.name)
             → result ≡ per_namespace (first_found keep (before ++ outer_sources q own segment.place) segment.name) }
@@ -211,8 +212,8 @@ impl<'a, D: SourceDatabase, T: BindingTable<Vis = Visibility>> Asking<'a, D, T> 
 
     /// The first segment of a plain path.
     fn plain(&self, segment: Segment, alone: bool) -> PerNs
-        ensures { let q = question_of (D.oracle self.now.db.now) (session_of self.now.session.now) (local_view self.now.local.now) self.now.asked in
-            let own = map_with self.now.own.now (T.content self.now.table.now) in
+        ensures { let q = question_in (D.oracle self.now.db.now) self.now in
+            let own = map_in (T.content self.now.table.now) self.now in
             result ≡ per_namespace (first_found (is_fitting q.kind_of segment.sub) (plain_sources q own segment.place alone) segment.name) }
     {
         let is_builtin_first = self.asked.is_builtin_first(alone);
@@ -223,8 +224,8 @@ impl<'a, D: SourceDatabase, T: BindingTable<Vis = Visibility>> Asking<'a, D, T> 
 
     /// The first segment of a path that begins at the crate's root.
     fn from_root(&self, segment: Segment) -> PerNs
-        ensures { let q = question_of (D.oracle self.now.db.now) (session_of self.now.session.now) (local_view self.now.local.now) self.now.asked in
-            let own = map_with self.now.own.now (T.content self.now.table.now) in
+        ensures { let q = question_in (D.oracle self.now.db.now) self.now in
+            let own = map_in (T.content self.now.table.now) self.now in
             result ≡ per_namespace (first_found (is_fitting q.kind_of segment.sub) (root_sources q own) segment.name) }
     {
         let root = ModuleId::crate_root(self.own.tree.map.krate);
@@ -234,8 +235,8 @@ impl<'a, D: SourceDatabase, T: BindingTable<Vis = Visibility>> Asking<'a, D, T> 
 
     /// The first segment of an absolute path.
     pub fn absolute(&self, segment: Segment) -> PerNs
-        ensures { let q = question_of (D.oracle self.now.db.now) (session_of self.now.session.now) (local_view self.now.local.now) self.now.asked in
-            let own = map_with self.now.own.now (T.content self.now.table.now) in
+        ensures { let q = question_in (D.oracle self.now.db.now) self.now in
+            let own = map_in (T.content self.now.table.now) self.now in
             result ≡ per_namespace (first_found (is_fitting q.kind_of segment.sub) (absolute_sources q own) segment.name) }
     {
         if is_2015(self.own.edition) {
@@ -247,8 +248,8 @@ impl<'a, D: SourceDatabase, T: BindingTable<Vis = Visibility>> Asking<'a, D, T> 
 
     /// The first segment of a plain path, which an import of edition 2015 looks up from the root.
     pub fn relative(&self, segment: Segment, alone: bool) -> PerNs
-        ensures { let q = question_of (D.oracle self.now.db.now) (session_of self.now.session.now) (local_view self.now.local.now) self.now.asked in
-            let own = map_with self.now.own.now (T.content self.now.table.now) in
+        ensures { let q = question_in (D.oracle self.now.db.now) self.now in
+            let own = map_in (T.content self.now.table.now) self.now in
             result ≡ per_namespace (first_found (is_fitting q.kind_of segment.sub) (relative_sources q own segment.place alone) segment.name) }
     {
         if is_2015(self.own.edition) && self.asked.mode.is_for_import() {

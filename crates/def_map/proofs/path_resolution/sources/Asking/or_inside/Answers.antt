@@ -1,16 +1,15 @@
 use Rattle.std.proofs.Common.{◌≡◌, ◌∙◌, ap, sym, [], ◌∷◌, ◌++◌, append_assoc}
-use Rattle.def_ids.specs.Session.{session_of}
+use Rattle.def_map.specs.Asking.{question_in, map_in}
 use Rattle.def_map.specs.Items.{is_fitting}
-use Rattle.def_map.specs.Maps.{map_with, local_view}
 use Rattle.def_map.specs.PerNs.{kept_in, otherwise}
-use Rattle.def_map.specs.Sources.{question_of, scope_source, without_modules, builtin_source}
+use Rattle.def_map.specs.Sources.{scope_source, without_modules, builtin_source}
 use Rattle.def_map.proofs.SourcesLemmas.{with_two, with_three}
 use Rattle.def_map.proofs.path_resolution.sources.Asking.or_inside.Goals as goal
 
 pub returns-then-is_builtin_first : goal.returns-then-is_builtin_first
 returns-then-is_builtin_first g c before e =
-    let q = question_of (g.D.SourceDatabase.oracle c.args.self.now.db.now) (session_of c.args.self.now.session.now) (local_view c.args.self.now.local.now) c.args.self.now.asked in
-    let own = map_with c.args.self.now.own.now (g.T.BindingTable.content c.args.self.now.table.now) in
+    let q = question_in (g.D.SourceDatabase.oracle c.args.self.now.db.now) c.args.self.now in
+    let own = map_in (g.T.BindingTable.content c.args.self.now.table.now) c.args.self.now in
     let scope = scope_source q own c.args.segment.place in
     rw c.if-is_builtin_first.true
     (with_three (is_fitting q.kind_of c.args.segment.sub) before (without_modules scope) (builtin_source q own) scope c.args.segment.name
@@ -21,8 +20,8 @@ returns-then-is_builtin_first g c before e =
 
 pub returns-else-is_builtin_first : goal.returns-else-is_builtin_first
 returns-else-is_builtin_first g c before e =
-    let q = question_of (g.D.SourceDatabase.oracle c.args.self.now.db.now) (session_of c.args.self.now.session.now) (local_view c.args.self.now.local.now) c.args.self.now.asked in
-    let own = map_with c.args.self.now.own.now (g.T.BindingTable.content c.args.self.now.table.now) in
+    let q = question_in (g.D.SourceDatabase.oracle c.args.self.now.db.now) c.args.self.now in
+    let own = map_in (g.T.BindingTable.content c.args.self.now.table.now) c.args.self.now in
     let scope = scope_source q own c.args.segment.place in
     rw c.if-is_builtin_first.false
     (with_two (is_fitting q.kind_of c.args.segment.sub) before scope (builtin_source q own) c.args.segment.name

@@ -1,16 +1,15 @@
 use Rattle.std.proofs.Common.{◌≡◌, ◌∙◌, sym, true, false}
 use Rattle.def_ids.specs.Ids.{is_block_root}
-use Rattle.def_ids.specs.Session.{session_of}
+use Rattle.def_map.specs.Asking.{question_in, map_in}
 use Rattle.def_map.specs.Items.{is_fitting}
-use Rattle.def_map.specs.Maps.{map_with, local_view}
-use Rattle.def_map.specs.Sources.{question_of, extern_source, macro_use_source, prelude_source, unless_block_root}
+use Rattle.def_map.specs.Sources.{extern_source, macro_use_source, prelude_source, unless_block_root}
 use Rattle.def_map.proofs.SourcesLemmas.{with_three, with_skipped, with_unskipped}
 use Rattle.def_map.proofs.path_resolution.sources.Asking.or_outside.Goals as goal
 
 pub returns-then-is_block_root : goal.returns-then-is_block_root
 returns-then-is_block_root g c before e =
-    let q = question_of (g.D.SourceDatabase.oracle c.args.self.now.db.now) (session_of c.args.self.now.session.now) (local_view c.args.self.now.local.now) c.args.self.now.asked in
-    let own = map_with c.args.self.now.own.now (g.T.BindingTable.content c.args.self.now.table.now) in
+    let q = question_in (g.D.SourceDatabase.oracle c.args.self.now.db.now) c.args.self.now in
+    let own = map_in (g.T.BindingTable.content c.args.self.now.table.now) c.args.self.now in
     let keep = is_fitting q.kind_of c.args.segment.sub in
     let place = c.args.segment.place in
     let root : is_block_root place ≡ true = sym c.is_block_root.ensures ∙ c.if-is_block_root.true in
@@ -23,8 +22,8 @@ returns-then-is_block_root g c before e =
 
 pub returns : goal.returns
 returns g c before e =
-    let q = question_of (g.D.SourceDatabase.oracle c.args.self.now.db.now) (session_of c.args.self.now.session.now) (local_view c.args.self.now.local.now) c.args.self.now.asked in
-    let own = map_with c.args.self.now.own.now (g.T.BindingTable.content c.args.self.now.table.now) in
+    let q = question_in (g.D.SourceDatabase.oracle c.args.self.now.db.now) c.args.self.now in
+    let own = map_in (g.T.BindingTable.content c.args.self.now.table.now) c.args.self.now in
     let keep = is_fitting q.kind_of c.args.segment.sub in
     let place = c.args.segment.place in
     let inner : is_block_root place ≡ false = sym c.is_block_root.ensures ∙ c.if-is_block_root.false in

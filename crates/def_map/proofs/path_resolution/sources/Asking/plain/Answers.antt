@@ -1,16 +1,15 @@
 use Rattle.std.proofs.Common.{◌≡◌, ◌∙◌, sym, refl, [], ◌∷◌, ◌++◌, ◌&&◌}
-use Rattle.def_ids.specs.Session.{session_of}
+use Rattle.def_map.specs.Asking.{question_in, map_in}
 use Rattle.def_map.specs.Items.{is_fitting, is_builtin_first}
-use Rattle.def_map.specs.Maps.{map_with, local_view}
 use Rattle.def_map.specs.PerNs.{nothing}
-use Rattle.def_map.specs.Sources.{question_of, textual_source, scope_and_builtin}
+use Rattle.def_map.specs.Sources.{textual_source, scope_and_builtin}
 use Rattle.def_map.proofs.SourcesLemmas.{with_source-last}
 use Rattle.def_map.proofs.path_resolution.sources.Asking.plain.Goals as goal
 
 pub returns : goal.returns
 returns g c =
-    let q = question_of (g.D.SourceDatabase.oracle c.args.self.now.db.now) (session_of c.args.self.now.session.now) (local_view c.args.self.now.local.now) c.args.self.now.asked in
-    let own = map_with c.args.self.now.own.now (g.T.BindingTable.content c.args.self.now.table.now) in
+    let q = question_in (g.D.SourceDatabase.oracle c.args.self.now.db.now) c.args.self.now in
+    let own = map_in (g.T.BindingTable.content c.args.self.now.table.now) c.args.self.now in
     let keep = is_fitting q.kind_of c.args.segment.sub in
     let textual = textual_source own c.args.segment.place in
     let first = with_source-last keep [] textual c.args.segment.name nothing c.textual-textual.result c.textual-textual.ensures refl in
