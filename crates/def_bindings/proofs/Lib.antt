@@ -3,3 +3,5 @@ pub mod ByModuleLemmas
 pub mod ResultLemmas
 pub mod RowEntriesLemmas
 pub mod ScopeTableLemmas
+pub mod NumbersLemmas
+pub mod NumberedTableLemmas

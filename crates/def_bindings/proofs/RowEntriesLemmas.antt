@@ -17,7 +17,7 @@ use Rattle.def_ids.specs.Ids.{is_same_module}
 use Rattle.def_bindings.specs.Content.{is_name, is_namespace, with_name, without_name, leads_to, replaced}
 use Rattle.def_bindings.specs.NameBindings.{bound_in, with_bound, is_unbound, or_unbound}
 use Rattle.def_bindings.specs.RowEntries.{bindings_at, binding_in, bindings_left, are_bound}
-use Rattle.def_bindings.specs.Row.{edge_of, link_of}
+use Rattle.def_bindings.specs.Link.{edge_of, link_of}
 use Rattle.def_bindings.specs.IdLaws.{both, name-eq, name-sym, name-laws, cases_name, cases_module}
 use Rattle.std.proofs.lemmas.Map.{lookup-set_value, lookup-remove_entry, keys-set_value}
 

@@ -16,7 +16,8 @@ use Rattle.def_bindings.specs.declared.row.Row.{Row}
 use Rattle.def_ids.specs.Ids.{is_same_module}
 use Rattle.def_bindings.specs.Content.{is_name, is_trait, is_namespace, bound_as, is_bound, with_name, without_name, with_binding, without_binding, with_unnamed, with_edge, replaced}
 use Rattle.def_bindings.specs.NameBindings.{bound_in, with_bound}
-use Rattle.def_bindings.specs.Row.{row_binding, row_names, row_unnamed, row_edges, link_of, SameBindings, SameUnnamed, SameEdges, IsNew}
+use Rattle.def_bindings.specs.Row.{row_binding, row_names, row_unnamed, row_edges, SameBindings, SameUnnamed, SameEdges, IsNew}
+use Rattle.def_bindings.specs.Link.{link_of}
 use Rattle.def_bindings.specs.RowEntries.{bindings_at, bindings_left}
 use Rattle.def_bindings.specs.ScopeTable.{content_by}
 use Rattle.def_bindings.specs.IdLaws.{cases_module, module-refl, name-refl}

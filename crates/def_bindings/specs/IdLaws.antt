@@ -1,8 +1,8 @@
 -- What the tests of equality of names, namespaces, traits, definitions and globs decide.
 use Rattle.std.specs.Prelude.{◌≡◌, ℕ, Bool, true, false, ◌==◌, ◌&&◌, refl, ◌⊎◌}
 use Rattle.std.specs.Cmp.{IsEquivalence, nat_eq_equiv}
-use Rattle.std.proofs.Common.{ap, ◌∙◌, inl, inr}
-use Rattle.std.proofs.lemmas.Bool.{eqb-true, eq-eqb, cases_Bool}
+use Rattle.std.proofs.Common.{ap, sym, ◌∙◌, inl, inr}
+use Rattle.std.proofs.lemmas.Bool.{eqb-true, eq-eqb, cases_Bool, both_ways}
 use Rattle.item_tree.specs.declared.name.Name.{Name}
 use Rattle.def_ids.specs.declared.ids.ModuleId.{ModuleId}
 use Rattle.def_ids.specs.declared.ids.TraitId.{TraitId}
@@ -26,6 +26,16 @@ cases_module a b = elim (cases_Bool (is_same_module a b)) [ inl h ↦ inl (same_
 
 pub module-refl : (a : ModuleId) → is_same_module a a ≡ true
 module-refl a = same_module_itself a
+
+pub module-sym : (a b : ModuleId) → is_same_module a b ≡ is_same_module b a
+module-sym a b =
+    elim (cases_module a b) [
+      | inl h ↦ h.1 ∙ sym (ap (λ z. is_same_module z a) (sym h.0) ∙ module-refl a)
+      | inr h ↦ elim (cases_module b a) [
+        | inl k ↦ absurd (both_ways _ h (ap (λ z. is_same_module z b) (sym k.0) ∙ module-refl b))
+        | inr k ↦ h ∙ sym k
+      ]
+    ]
 
 pub name-eq : (a b : Name) → is_name a b ≡ true → a ≡ b
 name-eq a b h = let by : ℕ → Name = λ n. record { 0 = n } in ap by (eqb-true a.0 b.0 h)

@@ -9,8 +9,14 @@ pub mod ModuleTree
 pub mod Puts
 pub mod Closure
 pub mod NameBindings
+pub mod Link
 pub mod RowEntries
 pub mod Row
 pub mod IdLaws
 pub mod ScopeTable
 pub mod ScopeTableLaws
+pub mod Lists
+pub mod Numbers
+pub mod Places
+pub mod NumberedTable
+pub mod NumberedTableLaws

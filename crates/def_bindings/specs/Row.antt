@@ -1,14 +1,13 @@
 -- What the row of one module contains.
 use Rattle.std.specs.Prelude.{◌≡◌, Option, List, [], map}
 use Rattle.std.specs.Map.{keys_of}
-use Rattle.def_ids.specs.declared.ids.ModuleId.{ModuleId}
 use Rattle.def_ids.specs.declared.ids.TraitId.{TraitId}
 use Rattle.item_tree.specs.declared.name.Name.{Name}
 use Rattle.def_bindings.specs.declared.bindings.Namespace.{Namespace}
 use Rattle.def_bindings.specs.declared.bindings.Binding.{Binding}
 use Rattle.def_bindings.specs.declared.bindings.EdgeTo.{EdgeTo}
-use Rattle.def_bindings.specs.declared.link.Link.{Link}
 use Rattle.def_bindings.specs.declared.row.Row.{Row}
+use Rattle.def_bindings.specs.Link.{edge_of}
 use Rattle.def_bindings.specs.RowEntries.{binding_in}
 
 module _ {V : Type 0} where
@@ -20,13 +19,6 @@ module _ {V : Type 0} where
 
   abbrev pub row_unnamed : Row V → List (TraitId × V)
   row_unnamed r = r.unnamed.entries
-
-  -- an edge from its importer and the rest
-  abbrev pub edge_of : (ModuleId × Link V) → EdgeTo V
-  edge_of p = record { importer = p.0; vis = p.1.vis; glob = p.1.glob }
-
-  abbrev pub link_of : EdgeTo V → Link V
-  link_of e = record { vis = e.vis; glob = e.glob }
 
   abbrev pub row_edges : Row V → List (EdgeTo V)
   row_edges r = map edge_of r.edges.entries

@@ -4,6 +4,7 @@ ghost use Rattle.std.specs.List.{IsDistinct};
 ghost use Rattle.indexmap.specs.IndexMap.{insert_entry, keys};
 ghost use Rattle.def_ids.specs.Ids.{is_same_module};
 ghost use Rattle.def_bindings.specs.Content.{is_name, is_trait, vis_of};
+ghost use Rattle.def_bindings.specs.Link.{link_of};
 ghost use Rattle.def_bindings.specs.NameBindings.{with_bound};
 ghost use Rattle.def_bindings.specs.RowEntries.{bindings_at, bindings_left, are_bound};
 
@@ -25,7 +26,7 @@ pub struct Row<V> {
 }
 
 impl<V: Copy> Row<V> {
-    ghost use Rattle.def_bindings.specs.Row.{row_binding, row_names, row_unnamed, row_edges, SameBindings, SameUnnamed, SameEdges, IsNew, link_of};
+    ghost use Rattle.def_bindings.specs.Row.{row_binding, row_names, row_unnamed, row_edges, SameBindings, SameUnnamed, SameEdges, IsNew};
 
     /// A row with nothing in it.
     pub fn new(alloc: Global) -> Self

@@ -1,2 +1,5 @@
+pub mod ScopesLemmas
+pub mod MapsLemmas
+pub mod EqualityLemmas
 pub mod SourcesLemmas
 pub mod AnswersLemmas

@@ -3,10 +3,16 @@ use Rattle.def_ids.specs.Session.{session_of}
 use Rattle.def_bindings.specs.Content.{Content}
 use Rattle.def_bindings.specs.declared.visibility.Visibility.{Visibility}
 use Rattle.def_map.specs.declared.path_resolution.sources.Asking.{Asking}
-use Rattle.def_map.specs.Maps.{map_with, local_view}
+use Rattle.def_map.specs.declared.map.MapData.{MapData}
+use Rattle.def_map.specs.Locals.{local_view}
+use Rattle.def_map.specs.Maps.{facts_of}
 use Rattle.def_map.specs.MapView.{MapView}
 use Rattle.def_map.specs.Oracle.{Oracle}
 use Rattle.def_map.specs.Sources.{Question, question_of}
+
+-- a map by its data and the content of its table
+abbrev pub map_with : MapData → Content Visibility → MapView
+map_with all content = record { facts = facts_of all; content = content }
 
 -- the question that is asked of this oracle
 abbrev pub question_in : {D T : Type 0} → Oracle → Asking D T → Question

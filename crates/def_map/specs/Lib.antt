@@ -1,5 +1,13 @@
 pub mod MapView
 pub mod MapState
+pub mod Equality
+pub mod ScopeMaps
+pub mod Scopes
+pub mod Maps
+pub mod Tables
+pub mod Fresh
+pub mod DefMaps
+pub mod Locals
 pub mod PerNs
 pub mod Items
 pub mod Queries

@@ -2,7 +2,9 @@
 ghost use Rattle.std.specs.Prelude.{◌≡◌};
 ghost use Rattle.def_ids.specs.Session.{session_of};
 ghost use Rattle.def_map.specs.declared.path_resolution.asked.ResolveMode.TheVariants.{Other};
-ghost use Rattle.def_map.specs.Maps.{map_with, view_of, local_view};
+ghost use Rattle.def_map.specs.Asking.{map_with};
+ghost use Rattle.def_map.specs.DefMaps.{view_of};
+ghost use Rattle.def_map.specs.Locals.{local_view};
 ghost use Rattle.def_map.specs.Sources.{world_of};
 ghost use Rattle.def_map.specs.Paths.{resolve, resolve_visibility as visibility_of, asked_by, module_reached as module_reached_by};
 
@@ -14,8 +16,9 @@ pub use asked::{
     Asked, BuiltinShadowMode, PrefixInfo, ReachedFixedPoint, ResolveMode, ResolvePathResult,
 };
 
+use crate::def_map::DefMap;
 use crate::local_def_map::LocalDefMap;
-use crate::map::{DefMap, MapData};
+use crate::map::MapData;
 use crate::per_ns::{MacroSubNs, PerNs};
 use crate::source_database::SourceDatabase;
 use def_bindings::{BindingTable, Visibility};

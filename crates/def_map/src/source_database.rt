@@ -2,9 +2,9 @@
 ghost use Rattle.std.specs.Prelude.{◌≡◌, map, option_map, IfOk};
 ghost use Rattle.std.specs.Option.{option_copied};
 
+use crate::def_map::DefMap;
 use crate::local_def_map::LocalDefMap;
 use crate::macro_resolver::MacroResolver;
-use crate::map::DefMap;
 use def_ids::{BuiltinAttr, EnumLoc, ImplId, MacroDefId, TraitId, VariantId};
 use either::Either;
 use item_tree::{
@@ -155,7 +155,8 @@ pub struct AssocList {
 /// follows from what the resolver finds for them: resolvers of equal meaning get equal answers.
 pub trait SourceDatabase {
     ghost use Rattle.def_ids.specs.Session.{in_module};
-    ghost use Rattle.def_map.specs.Maps.{view_of, local_view};
+    ghost use Rattle.def_map.specs.DefMaps.{view_of};
+    ghost use Rattle.def_map.specs.Locals.{local_view};
     ghost use Rattle.def_map.specs.Oracle.{Oracle};
     ghost use Rattle.def_map.specs.Queries.{plain_call, plain_attr_call};
 

@@ -4,12 +4,13 @@ ghost use Rattle.std.specs.Prelude.{◌≡◌, ◌∷◌, ◌++◌, [], option_m
 ghost use Rattle.def_ids.specs.Session.{session_of, macro_kind};
 ghost use Rattle.def_map.specs.Items.{is_fitting, is_2015 as is_edition_2015};
 ghost use Rattle.def_map.specs.Asking.{question_in, map_in};
-ghost use Rattle.def_map.specs.Maps.{view_of};
+ghost use Rattle.def_map.specs.DefMaps.{view_of};
 ghost use Rattle.def_map.specs.PerNs.{per_namespace, kept_in};
 ghost use Rattle.def_map.specs.Sources.{finished_map as finished_map_of, scope_source, textual_source, builtin_source, extern_source, macro_use_source, prelude_source, plain_sources, outer_sources, scope_and_builtin, root_sources, absolute_sources, relative_sources, first_found, with_source};
 
+use crate::def_map::DefMap;
 use crate::local_def_map::LocalDefMap;
-use crate::map::{DefMap, MapData};
+use crate::map::MapData;
 use crate::path_resolution::asked::Asked;
 use crate::per_ns::{MacroSubNs, PerNs, public_item};
 use crate::source_database::SourceDatabase;
@@ -131,11 +132,11 @@ impl<'a, D: SourceDatabase, T: BindingTable<Vis = Visibility>> Asking<'a, D, T> 
         if found.types.is_some() {
             return found;
         }
-        match self.local.extern_prelude(segment.name) {
+        match self.local.extern_entry(segment.name) {
             Some(entry) => found.or(PerNs::of_type(Binding {
                 def: Def::Module(entry.root),
                 vis: Visibility::Public,
-                import: entry.extern_crate.map(ImportOrExternCrate::ExternCrate),
+                import: entry.by.map(ImportOrExternCrate::ExternCrate),
             })),
             None => found,
         }
@@ -150,7 +151,7 @@ impl<'a, D: SourceDatabase, T: BindingTable<Vis = Visibility>> Asking<'a, D, T> 
         if found.macros.is_some() {
             return found;
         }
-        match self.own.macro_use(segment.name) {
+        match self.own.macro_use_prelude.get(&segment.name).copied() {
             Some(id) => {
                 let brought = PerNs::of_macro(public_item(Def::Macro(id)));
                 found.or(brought.fitting(self.session, segment.sub))

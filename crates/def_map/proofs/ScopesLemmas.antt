@@ -1,0 +1,67 @@
+-- Maps read by key after a write.
+use Rattle.std.proofs.Common.{subst, ◌≡◌, Bool, true, false, cond, List, [], ◌∷◌, ◌++◌, Option, Some, None, refl, ap, ◌∙◌}
+use Rattle.std.specs.Prelude.{reverse, unwrap_or}
+use Rattle.std.specs.Option.{option_map_or}
+use Rattle.std.specs.Map.{lookup}
+use Rattle.std.proofs.lemmas.List.{reverse-append}
+use Rattle.std.specs.Prelude.{option_map}
+use Rattle.indexmap.specs.IndexMap.{IndexMap, get}
+use Rattle.indexmap.specs.IndexSet.{IndexSet, contains}
+use Rattle.item_tree.specs.declared.ids.AttrId.{AttrId}
+use Rattle.item_tree.specs.declared.ids.MacroCallId.{MacroCallId}
+use Rattle.item_tree.specs.declared.name.Name.{Name}
+use Rattle.def_map.specs.declared.module_data.DeriveKey.{DeriveKey}
+use Rattle.def_map.specs.declared.module_data.DeriveMacroInvocation.{DeriveMacroInvocation}
+use Rattle.def_map.specs.declared.module_data.Invocation.{Invocation}
+use Rattle.def_map.specs.Equality.{derive_key_eq, invocation_eq}
+use Rattle.def_map.specs.MapState.{Position}
+use Rattle.def_ids.specs.declared.ids.MacroId.{MacroId}
+use Rattle.def_bindings.specs.Content.{is_name}
+use Rattle.def_map.specs.ScopeMaps.{with_first, derive_state, derives_of, derive_set, is_derive_of, invoked_of, invoked_with}
+
+reversed : (o : Option (List MacroId)) (id : MacroId) → reverse (unwrap_or o [] ++ id ∷ []) ≡ id ∷ option_map_or reverse o []
+reversed None id = refl
+reversed (Some xs) id = reverse-append xs (id ∷ [])
+
+-- a list that grew by one macro
+pub textual-shadowed : (old new : List (Name × List MacroId)) (name : Name) (id : MacroId) (list : List MacroId)
+    → ((q : Name) → lookup (is_name q) new ≡ cond (is_name name q) (Some list) (lookup (is_name q) old))
+    → list ≡ unwrap_or (lookup (is_name name) old) [] ++ id ∷ []
+    → (λ (q : Name). option_map_or reverse (lookup (is_name q) new) []) ≡ with_first (λ q. option_map_or reverse (lookup (is_name q) old) []) name id
+textual-shadowed old new name id list after is = λ i q. at q i
+  where
+    before : Name → List MacroId
+    before q = option_map_or reverse (lookup (is_name q) old) []
+
+    here : reverse list ≡ id ∷ before name
+    here = ap reverse is ∙ reversed (lookup (is_name name) old) id
+
+    by : (b : Bool) (q : Name) → option_map_or reverse (cond b (Some list) (lookup (is_name q) old)) [] ≡ cond b (id ∷ before name) (before q)
+    by true q = here
+    by false q = refl
+
+    at : (q : Name) → option_map_or reverse (lookup (is_name q) new) [] ≡ with_first before name id q
+    at q = ap (λ o. option_map_or reverse o []) (after q) ∙ by (is_name name q) q
+
+-- the derives after one is recorded
+pub derives-set : {S : Type 0} (old new : IndexMap DeriveKey DeriveMacroInvocation S) (position : Position) (attr : AttrId) (d : DeriveMacroInvocation) (eq : DeriveKey → DeriveKey → Bool) → eq ≡ derive_key_eq
+    → ((q : DeriveKey) → get eq new q ≡ cond (eq (record { position = position; attr = attr }) q) (Some d) (get eq old q))
+    → derives_of new ≡ derive_set (derives_of old) position attr (Some (derive_state d))
+derives-set old new position attr d eq same written = λ i p a. at p a i
+  where
+    after : (q : DeriveKey) → get derive_key_eq new q ≡ cond (derive_key_eq (record { position = position; attr = attr }) q) (Some d) (get derive_key_eq old q)
+    after = let P : (DeriveKey → DeriveKey → Bool) → Type 0 = λ e. (q : DeriveKey) → get e new q ≡ cond (e (record { position = position; attr = attr }) q) (Some d) (get e old q) in subst P same written
+    by : (b : Bool) (o : Option DeriveMacroInvocation) → option_map derive_state (cond b (Some d) o) ≡ cond b (Some (derive_state d)) (option_map derive_state o)
+    by true o = refl
+    by false o = refl
+    at : (p : Position) (a : AttrId) → derives_of new p a ≡ derive_set (derives_of old) position attr (Some (derive_state d)) p a
+    at p a = ap (option_map derive_state) (after (record { position = p; attr = a })) ∙ by (is_derive_of position attr p a) (get derive_key_eq old (record { position = p; attr = a }))
+
+-- the calls after one is recorded
+pub invoked-set : {S : Type 0} (old new : IndexSet Invocation S) (position : Position) (call : MacroCallId) (eq : Invocation → Invocation → Bool) → eq ≡ invocation_eq
+    → ((q : Invocation) → contains eq new q ≡ cond (eq (record { position = position; call = call }) q) true (contains eq old q))
+    → invoked_of new ≡ invoked_with (invoked_of old) position call
+invoked-set old new position call eq same written = λ i p c. after (record { position = p; call = c }) i
+  where
+    after : (q : Invocation) → contains invocation_eq new q ≡ cond (invocation_eq (record { position = position; call = call }) q) true (contains invocation_eq old q)
+    after = let P : (Invocation → Invocation → Bool) → Type 0 = λ e. (q : Invocation) → contains e new q ≡ cond (e (record { position = position; call = call }) q) true (contains e old q) in subst P same written

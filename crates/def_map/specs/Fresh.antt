@@ -1,0 +1,72 @@
+-- Maps as they are before anything is collected.
+use Rattle.std.specs.Prelude.{◌≡◌, false, ℕ, List, [], ◌∷◌, Option, None, Some}
+use Rattle.item_tree.specs.declared.ids.BlockId.{BlockId}
+use Rattle.item_tree.specs.declared.name.Name.{Name}
+use Rattle.def_ids.specs.declared.ids.MapId.{MapId}
+use Rattle.def_ids.specs.declared.ids.ModuleId.{ModuleId}
+use Rattle.def_ids.specs.declared.macro_def.Edition.{Edition}
+use Rattle.def_bindings.specs.declared.visibility.Visibility.{Visibility}
+use Rattle.def_bindings.specs.declared.visibility.Visibility.TheVariants.{Public}
+use Rattle.def_bindings.specs.Content.{Content, empty}
+use Rattle.def_map.specs.declared.module_data.ModuleOrigin.{ModuleOrigin}
+use Rattle.def_map.specs.declared.module_data.ModuleOrigin.TheVariants.{CrateRoot, Block}
+use Rattle.def_map.specs.MapState.{CrateState, MapState}
+use Rattle.def_map.specs.Scopes.{empty_module}
+
+-- a name by its number
+abbrev name_of : ℕ → Name
+name_of n = record { 0 = n }
+
+-- the tools that need no declaration: clippy, rustfmt, diagnostic, miri and rust_analyzer
+abbrev pub known_tools : List Name
+known_tools = name_of 27 ∷ name_of 28 ∷ name_of 29 ∷ name_of 30 ∷ name_of 31 ∷ []
+
+-- a crate of which nothing is known yet
+abbrev pub fresh_crate : CrateState
+fresh_crate =
+    record {
+      recursion_limit = None;
+      no_core = false;
+      no_std = false;
+      coherence_is_core = false;
+      features = λ name. false;
+      tools = known_tools;
+      exported_helpers = λ id. [];
+      macro_of_function = λ function. None;
+      function_of_macro = λ id. None;
+      macro_at = λ position. None;
+      macro_use = λ name. None;
+      prelude = None;
+    }
+
+-- what a block's map takes over of its crate
+abbrev pub block_crate : CrateState → CrateState
+block_crate c = record c { macro_at = λ position. None; macro_use = λ name. None; prelude = None }
+
+-- what made the root of a map
+abbrev pub root_origin : Option BlockId → ModuleOrigin
+root_origin None = CrateRoot
+root_origin (Some block) = Block
+
+-- a map of one root, with nothing in it
+abbrev pub fresh_state : MapId → Edition → List ModuleId → CrateState → MapState
+fresh_state id edition containing krate =
+    record {
+      id = id;
+      edition = edition;
+      containing = containing;
+      parents = None ∷ [];
+      modules = empty_module None (root_origin id.block) Public ∷ [];
+      krate = krate;
+      helpers = λ position. [];
+    }
+
+-- the fresh map with the same number: a block's keeps what is around it and what it has of its crate
+abbrev pub fresh_by : Option BlockId → MapState → MapState
+fresh_by None s = fresh_state s.id s.edition [] fresh_crate
+fresh_by (Some block) s = fresh_state s.id s.edition s.containing (block_crate s.krate)
+
+-- nothing was collected in a map
+pub record IsFresh (s : MapState) (content : Content Visibility) : Type 0 where
+  pub state : s ≡ fresh_by s.id.block s
+  pub bindings : content ≡ empty
