@@ -11,12 +11,14 @@ use Rattle.def_map.specs.declared.path_resolution.asked.PrefixInfo.{PrefixInfo}
 use Rattle.def_map.specs.declared.path_resolution.asked.ReachedFixedPoint.{ReachedFixedPoint}
 use Rattle.def_map.specs.declared.path_resolution.asked.ReachedFixedPoint.TheVariants.{Yes, No}
 use Rattle.def_map.specs.declared.path_resolution.asked.ResolvePathResult.{ResolvePathResult}
+use Rattle.def_map.specs.declared.per_ns.MacroSubNs.{MacroSubNs}
 use Rattle.def_map.specs.declared.per_ns.PerNs.{PerNs}
 use Rattle.def_map.specs.Answers.{missing, walk, answer_after, answer_from, leading, is_reached, joined, first_resolved}
 use Rattle.def_map.specs.MapView.{MapView}
-use Rattle.def_map.specs.Paths.{answer_outside, answers_outside}
+use Rattle.def_map.specs.Items.{is_fitting}
+use Rattle.def_map.specs.Paths.{is_alone, answer_outside, answers_outside}
 use Rattle.def_map.specs.PerNs.{Item, otherwise, is_nothing, per_namespace}
-use Rattle.def_map.specs.Sources.{Question, Source, first_found, by_sources}
+use Rattle.def_map.specs.Sources.{Question, Source, first_found, by_sources, relative_sources}
 use Rattle.def_map.proofs.SourcesLemmas.{option_or-none, option_or-or, per_namespace-equal}
 
 -- with nothing in types no later segment means anything
@@ -25,14 +27,27 @@ pub walk-missing : (q : Question) (own : MapView) (crossed : Bool) (found : PerN
 walk-missing q own crossed found i [] e l = let none : ⊥ = omega arith in absurd none
 walk-missing q own crossed found i (name ∷ names) e l = rw e
 
--- a path by sources, from its first segment on
-pub answer_from-name : (q : Question) (own : MapView) (keep : Item → Bool) (sources : List Source) (names : List Name) (first : Name) (found : PerNs)
-    → slice_get names 0 ≡ Some first → found ≡ per_namespace (first_found keep sources first)
+-- a path by sources, from what its first segment means
+answer_from-first : (q : Question) (own : MapView) (keep : Item → Bool) (sources : List Source) (names : List Name) (d : Name) (found : PerNs)
+    → 0 < length names → found ≡ per_namespace (first_found keep sources (get_or names 0 d))
     → answer_after q own found (drop 1 names) ≡ answer_from q own keep (by_sources sources) names
-answer_from-name q own keep sources [] first found e p = cc
-answer_from-name q own keep sources (name ∷ names) first found e p =
-    let same : first ≡ name = cc in
-    rw (p, same)
+answer_from-first q own keep sources [] d found l p = let none : ⊥ = omega arith in absurd none
+answer_from-first q own keep sources (name ∷ names) d found l p = ap (λ f. answer_after q own f names) p
+
+-- a plain path, from what its first segment means
+pub plain-answer : (q : Question) (own : MapView) (place : ModuleId) (asked : Option MacroSubNs) (segments names : List Name)
+    (alone : Bool) (sub : Option MacroSubNs) (d : Name) (found : PerNs) (result : ResolvePathResult)
+    → segments ≡ names → 0 < length segments → alone ≡ is_alone segments → sub ≡ (if alone then asked else None)
+    → found ≡ per_namespace (first_found (is_fitting q.kind_of sub) (relative_sources q own place alone) (get_or segments 0 d))
+    → result ≡ answer_after q own found (drop 1 segments)
+    → result ≡ answer_from q own (is_fitting q.kind_of (if is_alone names then asked else None)) (by_sources (relative_sources q own place (is_alone names))) names
+plain-answer q own place asked segments names alone sub d found result same some is_one is_asked first after =
+    let answer : Bool → Option MacroSubNs → List Name → ResolvePathResult = λ b s n. answer_from q own (is_fitting q.kind_of s) (by_sources (relative_sources q own place b)) n in
+    after
+    ∙ answer_from-first q own (is_fitting q.kind_of sub) (relative_sources q own place alone) segments d found some first
+    ∙ ap (λ s. answer alone s segments) is_asked
+    ∙ ap (λ b. answer b (if b then asked else None) segments) is_one
+    ∙ ap (λ n. answer (is_alone n) (if is_alone n then asked else None) n) same
 
 abbrev pub answer_with : PerNs → Option ℕ → ReachedFixedPoint → PrefixInfo → ResolvePathResult
 answer_with found index fixed info = record { resolved_def = found; segment_index = index; reached_fixedpoint = fixed; prefix_info = info }

@@ -18,3 +18,9 @@ pub returns-in-Super : goal.returns-in-Super
 returns-in-Super g c =
     let q = question_in (g.D.SourceDatabase.oracle c.args.self.now.db.now) c.args.self.now in
     rw (c.in-Super.is, ← c.ancestor-ancestor.ensures) (c.from_module-in-Super.ensures (is_fitting q.kind_of (asked_kind q c.args.path.now)))
+
+pub returns-in-Abs : goal.returns-in-Abs
+returns-in-Abs g c = rw c.in-Abs.is c.absolute_path.ensures
+
+pub returns-in-Plain : goal.returns-in-Plain
+returns-in-Plain g c = rw c.in-Plain.is c.plain_path.ensures
