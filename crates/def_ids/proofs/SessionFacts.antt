@@ -3,7 +3,7 @@ use Rattle.std.specs.Prelude.{◌≡◌, [], ◌∷◌, Some, None, true, false,
 use Rattle.item_tree.specs.declared.ids.HirFileId.TheVariants.{File}
 use Rattle.def_ids.specs.Interner.{first_tables}
 use Rattle.def_ids.specs.Ids.{crate_root}
-use Rattle.def_ids.specs.Session.{session_of, item_at, macro_at, macro_def, StructItem, UnionItem}
+use Rattle.def_ids.specs.Session.{session_of, shown_item, shown_macro, macro_def, StructItem, UnionItem}
 use Rattle.def_ids.specs.declared.ids.ItemContainerId.TheVariants.{Module}
 use Rattle.def_ids.specs.declared.ids.MacroId.TheVariants.{MacroRules, Macro2}
 use Rattle.def_ids.specs.declared.interner.Interner.{Interner}
@@ -20,7 +20,7 @@ first_names = (refl, refl, refl)
 
 -- a session begins without locations
 pub no_struct : (session_of first_tables).item StructItem 0 ≡ None
-unfolding item_at
+unfolding shown_item
 no_struct = refl
 
 -- item 5 of file 2
@@ -33,7 +33,7 @@ one_struct = record first_tables { structs = record { container = crate_root (re
 
 -- the struct is shown in its module, under its own kind and number alone
 pub struct_shown : ((session_of one_struct).item StructItem 0 ≡ Some (record { container = Module (crate_root (record { 0 = 0 })); position = position })) × ((session_of one_struct).item StructItem 1 ≡ None) × ((session_of one_struct).item UnionItem 0 ≡ None)
-unfolding item_at
+unfolding shown_item
 struct_shown = (refl, refl, refl)
 
 -- a local `macro_rules` macro of crate 3 that allows unsafe code, and may be called as `m!(..)`
@@ -52,15 +52,15 @@ one_macro = record first_tables { macro_rules = rules ∷ [] }
 
 -- the bits of its flags are shown apart
 pub flags_shown : (session_of one_macro).macro_at (MacroRules (record { 0 = 0 })) ≡ Some (record { container = crate_root (record { 0 = 3 }); position = position; kind = kind.Declarative (record { 0 = 1 }); local_inner = false; allow_internal_unsafe = true; edition = Edition2021 })
-unfolding macro_at
+unfolding shown_macro
 flags_shown = refl
 
 -- its crate is its module's
 pub macro_shown : macro_def (session_of one_macro) (MacroRules (record { 0 = 0 })) ≡ Some (record { krate = record { 0 = 3 }; id = MacroRules (record { 0 = 0 }); kind = kind.Declarative (record { 0 = 1 }) })
-unfolding macro_at
+unfolding shown_macro
 macro_shown = refl
 
 -- a `macro` item of that number is another macro
 pub other_kind : macro_def (session_of one_macro) (Macro2 (record { 0 = 0 })) ≡ None
-unfolding macro_at
+unfolding shown_macro
 other_kind = refl

@@ -2,7 +2,7 @@
 use Rattle.std.specs.Prelude.{◌≡◌, ℕ, List, Option, Some, None, option_map, slice_get}
 use Rattle.std.proofs.Common.{ap, refl, sym, ◌∙◌, rules}
 use Rattle.item_tree.specs.Numbering as numbering
-use Rattle.def_ids.specs.Session.{IsInjective, session_of, item_at, ItemKind, ItemLoc}
+use Rattle.def_ids.specs.Session.{IsInjective, session_of, shown_item, ItemKind, ItemLoc}
 use Rattle.def_ids.specs.Session.{FunctionItem, StructItem, UnionItem, EnumItem, ConstItem, StaticItem}
 use Rattle.def_ids.specs.Session.{TraitItem, TypeAliasItem, ImplItem, UseItem, ExternCrateItem, ExternBlockItem}
 use Rattle.def_ids.specs.declared.interner.Interner.{Interner}
@@ -36,8 +36,8 @@ shown_injective shown xs apart injective i j b at_i at_j =
     let same = apart first.0 second.0 (first.2 ∙ sym second.2) in
     injective i j first.0 first.1 (second.1 ∙ ap Some (sym same))
 
-item_injective : (s : Interner) → AreInjective s → (k : ItemKind) (i j : ℕ) (loc : ItemLoc) → item_at s k i ≡ Some loc → item_at s k j ≡ Some loc → i ≡ j
-unfolding item_at
+item_injective : (s : Interner) → AreInjective s → (k : ItemKind) (i j : ℕ) (loc : ItemLoc) → shown_item s k i ≡ Some loc → shown_item s k j ≡ Some loc → i ≡ j
+unfolding shown_item
 item_injective s tables FunctionItem i j loc = shown_injective _ s.functions (λ a b same. search rules) tables.functions i j loc
 item_injective s tables StructItem i j loc = shown_injective _ s.structs (λ a b same. search rules) tables.structs i j loc
 item_injective s tables UnionItem i j loc = shown_injective _ s.unions (λ a b same. search rules) tables.unions i j loc

@@ -1,5 +1,5 @@
 //! The ids of items.
-#![tactic(auto, using(crate::proofs::TableLemmas::item_tables), unfolding(crate::specs::Session::item_at))]
+#![tactic(auto, using(crate::proofs::TableLemmas::items), unfolding(crate::specs::Session::shown_item))]
 
 ghost use Rattle.std.specs.Prelude.{◌≡◌};
 ghost use Rattle.def_ids.specs.Session.{ItemLoc, in_container, in_module};

@@ -1,5 +1,5 @@
 //! The ids of macros and of builtin derives' impls.
-#![tactic(auto, using(crate::proofs::TableLemmas::other_tables), unfolding(crate::specs::Session::macro_at))]
+#![tactic(auto, using(crate::proofs::TableLemmas::others), unfolding(crate::specs::Session::shown_macro))]
 
 ghost use Rattle.std.specs.Prelude.{◌≡◌};
 ghost use Rattle.def_ids.specs.Session.{MacroLoc, rules_loc, macro2_loc, proc_macro_loc};
