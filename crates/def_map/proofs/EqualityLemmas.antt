@@ -3,6 +3,7 @@ use Rattle.std.proofs.Common.{◌≡◌, Bool, ◌==◌, ◌&&◌, refl, ap}
 use Rattle.item_tree.specs.declared.ids.HirFileId.{HirFileId}
 use Rattle.item_tree.specs.declared.ids.HirFileId.TheVariants.{File, Macro}
 use Rattle.item_tree.specs.contracts.ids.HirFileIdPartialEq.TheImpl as files
+use Rattle.def_map.specs.MapState.{Position}
 use Rattle.def_ids.specs.declared.ids.MacroId.{MacroId}
 use Rattle.def_ids.specs.declared.ids.MacroId.TheVariants.{MacroRules, Macro2, ProcMacro}
 use Rattle.def_ids.specs.contracts.ids.MacroIdPartialEq.TheImpl as macros
@@ -47,3 +48,14 @@ invocations_same = λ i a b. at a b i
 -- macros
 pub macros_same : macros.ghosts.eq ≡ macro_eq
 macros_same = λ i a b. macro-same a b i
+
+-- the derived test of positions
+abbrev pub derived_position_eq : Position → Position → Bool
+derived_position_eq a b = files.ghosts.eq a.file b.file && (a.value.0 == b.value.0)
+
+-- positions
+pub positions_same : derived_position_eq ≡ position_eq
+positions_same = λ i a b. at a b i
+  where
+    at : (a b : Position) → derived_position_eq a b ≡ position_eq a b
+    at a b = ap (λ e. e && (a.value.0 == b.value.0)) (file-same a.file b.file)

@@ -1,5 +1,6 @@
 pub mod ScopesLemmas
 pub mod MapsLemmas
 pub mod EqualityLemmas
+pub mod CrateLemmas
 pub mod SourcesLemmas
 pub mod AnswersLemmas

@@ -8,7 +8,8 @@ use Rattle.def_map.specs.declared.map.MapData.{MapData}
 use Rattle.def_map.specs.declared.module_data.ModuleData.{ModuleData}
 use Rattle.def_map.specs.MapState.{ModuleState}
 use Rattle.def_map.specs.Scopes.{module_state}
-use Rattle.def_map.specs.Maps.{map_state, with_module, update_at}
+use Rattle.def_map.specs.Maps.{map_state, with_module}
+use Rattle.def_map.specs.Updates.{update_at}
 
 -- the shown list after one element is set
 shown-set : {X Y : Type 0} (shown : X → Y) (xs : List X) (i : ℕ) (was new : X) (f : Y → Y) → i < length xs → was ≡ get_or xs i was → shown new ≡ f (shown was)

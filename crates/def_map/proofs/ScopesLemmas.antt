@@ -2,7 +2,6 @@
 use Rattle.std.proofs.Common.{subst, ◌≡◌, Bool, true, false, cond, List, [], ◌∷◌, ◌++◌, Option, Some, None, refl, ap, ◌∙◌}
 use Rattle.std.specs.Prelude.{reverse, unwrap_or}
 use Rattle.std.specs.Option.{option_map_or}
-use Rattle.std.specs.Map.{lookup}
 use Rattle.std.proofs.lemmas.List.{reverse-append}
 use Rattle.std.specs.Prelude.{option_map}
 use Rattle.indexmap.specs.IndexMap.{IndexMap, get}
@@ -14,34 +13,25 @@ use Rattle.def_map.specs.declared.module_data.DeriveKey.{DeriveKey}
 use Rattle.def_map.specs.declared.module_data.DeriveMacroInvocation.{DeriveMacroInvocation}
 use Rattle.def_map.specs.declared.module_data.Invocation.{Invocation}
 use Rattle.def_map.specs.Equality.{derive_key_eq, invocation_eq}
+use Rattle.def_map.specs.KeyedLists.{PushesUnder}
 use Rattle.def_map.specs.MapState.{Position}
 use Rattle.def_ids.specs.declared.ids.MacroId.{MacroId}
 use Rattle.def_bindings.specs.Content.{is_name}
-use Rattle.def_map.specs.ScopeMaps.{with_first, derive_state, derives_of, derive_set, is_derive_of, invoked_of, invoked_with}
+use Rattle.def_map.specs.ScopeMaps.{textual_of, with_first, derive_state, derives_of, derive_set, is_derive_of, invoked_of, invoked_with}
 
-reversed : (o : Option (List MacroId)) (id : MacroId) → reverse (unwrap_or o [] ++ id ∷ []) ≡ id ∷ option_map_or reverse o []
-reversed None id = refl
-reversed (Some xs) id = reverse-append xs (id ∷ [])
-
--- a list that grew by one macro
-pub textual-shadowed : (old new : List (Name × List MacroId)) (name : Name) (id : MacroId) (list : List MacroId)
-    → ((q : Name) → lookup (is_name q) new ≡ cond (is_name name q) (Some list) (lookup (is_name q) old))
-    → list ≡ unwrap_or (lookup (is_name name) old) [] ++ id ∷ []
-    → (λ (q : Name). option_map_or reverse (lookup (is_name q) new) []) ≡ with_first (λ q. option_map_or reverse (lookup (is_name q) old) []) name id
-textual-shadowed old new name id list after is = λ i q. at q i
+-- a textual macro that shadows the others of its name
+pub textual-shadowed : {S : Type 0} (old new : IndexMap Name (List MacroId) S) (name : Name) (id : MacroId) → PushesUnder is_name (get is_name old) (get is_name new) name id
+    → textual_of new ≡ with_first (textual_of old) name id
+textual-shadowed old new name id after = λ i q. at q i
   where
-    before : Name → List MacroId
-    before q = option_map_or reverse (lookup (is_name q) old) []
-
-    here : reverse list ≡ id ∷ before name
-    here = ap reverse is ∙ reversed (lookup (is_name name) old) id
-
-    by : (b : Bool) (q : Name) → option_map_or reverse (cond b (Some list) (lookup (is_name q) old)) [] ≡ cond b (id ∷ before name) (before q)
-    by true q = here
-    by false q = refl
-
-    at : (q : Name) → option_map_or reverse (lookup (is_name q) new) [] ≡ with_first before name id q
-    at q = ap (λ o. option_map_or reverse o []) (after q) ∙ by (is_name name q) q
+    shown : (o : Option (List MacroId)) → reverse (unwrap_or o [] ++ id ∷ []) ≡ id ∷ option_map_or reverse o []
+    shown None = refl
+    shown (Some xs) = reverse-append xs (id ∷ [])
+    by : (b : Bool) (o : Option (List MacroId)) → option_map_or reverse (cond b (Some (unwrap_or (get is_name old name) [] ++ id ∷ [])) o) [] ≡ cond b (id ∷ textual_of old name) (option_map_or reverse o [])
+    by true o = shown (get is_name old name)
+    by false o = refl
+    at : (q : Name) → textual_of new q ≡ with_first (textual_of old) name id q
+    at q = ap (λ o. option_map_or reverse o []) (after q) ∙ by (is_name name q) (get is_name old q)
 
 -- the derives after one is recorded
 pub derives-set : {S : Type 0} (old new : IndexMap DeriveKey DeriveMacroInvocation S) (position : Position) (attr : AttrId) (d : DeriveMacroInvocation) (eq : DeriveKey → DeriveKey → Bool) → eq ≡ derive_key_eq

@@ -1,20 +1,13 @@
 -- What was found so far, as the first sources of a list.
-use Rattle.std.proofs.Common.{◌≡◌, ◌∙◌, ap, sym, refl, arith, ℕ, ◌-◌, ◌<◌, Bool, true, false, List, [], ◌∷◌, ◌++◌, append_assoc, length, map, reverse, slice_get, get_or, Option, Some, None}
-use Rattle.std.proofs.lemmas.List.{get_or-reverse, length-reverse}
-use Rattle.std.proofs.lemmas.Option.{slice_get-get_or, slice_get-map}
-use Rattle.std.specs.Option.{option_or, option_map, option_map_or}
+use Rattle.std.proofs.Common.{◌≡◌, ◌∙◌, ap, sym, refl, Bool, true, false, List, [], ◌∷◌, ◌++◌, append_assoc, Option, Some, None}
+use Rattle.std.specs.Option.{option_or}
 use Rattle.item_tree.specs.declared.name.Name.{Name}
 use Rattle.def_ids.specs.declared.ids.ModuleId.{ModuleId}
 use Rattle.def_ids.specs.Ids.{is_block_root}
 use Rattle.def_bindings.specs.declared.bindings.Namespace.{Namespace}
 use Rattle.def_bindings.specs.declared.bindings.Namespace.TheVariants.{Types, Values, Macros}
-use Rattle.def_map.specs.declared.map.MapData.{MapData}
-use Rattle.def_map.specs.declared.module_data.ModuleData.{ModuleData}
 use Rattle.def_map.specs.declared.per_ns.PerNs.{PerNs}
-use Rattle.def_map.specs.Maps.{map_state, textual_at, first_of_list}
 use Rattle.def_map.specs.PerNs.{Item, kept, kept_in, nothing, otherwise, per_namespace}
-use Rattle.def_map.specs.ScopeMaps.{textual_of}
-use Rattle.def_map.specs.Scopes.{module_state}
 use Rattle.def_map.specs.Sources.{Source, first_found, with_source, unless_block_root}
 
 pub option_or-none : {A : Type 0} (o : Option A) → option_or o None ≡ o
@@ -82,28 +75,3 @@ pub with_three : (keep : Item → Bool) (xs : List Source) (s t u : Source) (nam
 with_three keep xs s t u name found a b result e p q r =
     with_source-last keep (xs ++ s ∷ t ∷ []) u name b result r (with_two keep xs s t name found a b e p q)
     ∙ ap (λ l. per_namespace (first_found keep l name)) (append_assoc xs (s ∷ t ∷ []) (u ∷ []))
-
--- the last of a list is the first of the list read backwards
-pub last-reverse : {X : Type 0} (xs : List X) → slice_get xs (length xs - 1) ≡ slice_get (reverse xs) 0
-last-reverse [] = refl
-last-reverse (x ∷ xs) =
-    let all : List _ = x ∷ xs in
-    let some : 0 < length all = omega arith in
-    let inside : length all - 1 < length all = omega arith in
-    let back : 0 < length (reverse all) = simp length-reverse (omega arith) in
-    let place : length all - 1 - 0 ≡ length all - 1 = omega arith in
-    slice_get-get_or all (length all - 1) x inside
-    ∙ ap (λ i. Some (get_or all i x)) (sym place)
-    ∙ ap Some (sym (get_or-reverse all 0 x some))
-    ∙ sym (slice_get-get_or (reverse all) 0 x back)
-
--- the textual macros of a module that is there, and of one that is not
-pub textual-module : (own : MapData) (i : ℕ) (name : Name) (data' : ModuleData) → slice_get own.modules.items i ≡ Some data'
-    → first_of_list (textual_of data'.scope.legacy_macros name) ≡ first_of_list (textual_at (map_state own) i name)
-textual-module own i name data' e =
-    sym (ap (λ o. first_of_list (option_map_or (λ m. m.textual name) o [])) (slice_get-map module_state own.modules.items i ∙ ap (option_map module_state) e))
-
-pub textual-nowhere : (own : MapData) (i : ℕ) (name : Name) → slice_get own.modules.items i ≡ None
-    → None ≡ first_of_list (textual_at (map_state own) i name)
-textual-nowhere own i name e =
-    sym (ap (λ o. first_of_list (option_map_or (λ m. m.textual name) o [])) (slice_get-map module_state own.modules.items i ∙ ap (option_map module_state) e))

@@ -16,7 +16,7 @@ use Rattle.def_map.specs.Equality.{function_eq, proc_macro_eq}
 use Rattle.def_map.specs.Fresh.{fresh_crate, fresh_state}
 use Rattle.def_map.specs.MapState.{CrateState, MapState}
 use Rattle.def_map.specs.MapView.{MapView}
-use Rattle.def_map.specs.Maps.{map_state, facts_of}
+use Rattle.def_map.specs.Maps.{map_state, facts_of, exported_of}
 use Rattle.def_map.specs.Tables.{bound_by}
 
 -- what a map shows beside its bindings
@@ -41,7 +41,7 @@ info_crate b =
       coherence_is_core = b.rustc_coherence_is_core;
       features = contains is_name b.features;
       tools = b.registered_tools;
-      exported_helpers = λ id. option_map_or (λ names. names) (get macro_eq b.exported_derives id) [];
+      exported_helpers = exported_of b.exported_derives;
       macro_of_function = get function_eq b.fn_as_proc_macro;
       function_of_macro = get proc_macro_eq b.proc_macro_as_fn;
       macro_at = λ position. None;

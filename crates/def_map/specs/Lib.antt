@@ -1,5 +1,7 @@
 pub mod MapView
 pub mod MapState
+pub mod Updates
+pub mod KeyedLists
 pub mod Equality
 pub mod ScopeMaps
 pub mod Scopes

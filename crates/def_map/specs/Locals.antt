@@ -5,6 +5,7 @@ use Rattle.item_tree.specs.declared.name.Name.{Name}
 use Rattle.def_bindings.specs.Content.{is_name}
 use Rattle.def_map.specs.declared.local_def_map.ExternPreludeEntry.{ExternPreludeEntry}
 use Rattle.def_map.specs.declared.local_def_map.LocalDefMap.{LocalDefMap}
+use Rattle.def_map.specs.Updates.{set_where}
 use Rattle.def_map.specs.MapView.{ExternCrateEntry, LocalView}
 
 -- an entry as it is shown
@@ -21,4 +22,4 @@ local_view l = record { extern_prelude = λ name. entry_in (get is_name l.extern
 
 -- a name that leads to this crate
 abbrev pub with_extern : LocalView → Name → ExternPreludeEntry → LocalView
-with_extern l name entry = record { extern_prelude = λ x. cond (is_name name x) (Some (entry_state entry)) (l.extern_prelude x) }
+with_extern l name entry = record { extern_prelude = set_where (is_name name) (Some (entry_state entry)) l.extern_prelude }

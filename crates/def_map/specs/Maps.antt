@@ -1,23 +1,38 @@
 -- What a map shows, and what each write does to it.
-use Rattle.std.specs.Prelude.{cond, nat_lt, zero, suc, List, [], ◌∷◌, ◌++◌, ℕ, Option, None, Some, length, map, slice_get}
+use Rattle.std.specs.Prelude.{true, cond, nat_lt, List, [], ◌∷◌, ◌++◌, ℕ, Option, None, Some, length, map, slice_get, unwrap_or}
 use Rattle.std.specs.Option.{option_map_or}
-use Rattle.indexmap.specs.IndexMap.{get}
+use Rattle.indexmap.specs.IndexMap.{IndexMap, get}
 use Rattle.indexmap.specs.IndexSet.{contains}
 use Rattle.item_tree.specs.declared.name.Name.{Name}
+use Rattle.def_ids.specs.declared.ids.FunctionId.{FunctionId}
 use Rattle.def_ids.specs.declared.ids.MacroId.{MacroId}
+use Rattle.def_ids.specs.declared.ids.ProcMacroId.{ProcMacroId}
 use Rattle.def_ids.specs.Equality.{macro_eq}
 use Rattle.def_bindings.specs.Content.{is_name}
 use Rattle.def_bindings.specs.Tree.{chain_of}
 use Rattle.def_map.specs.declared.map.DeriveHelper.{DeriveHelper}
 use Rattle.def_map.specs.declared.map.MapData.{MapData}
 use Rattle.def_map.specs.Equality.{position_eq, function_eq, proc_macro_eq}
-use Rattle.def_map.specs.MapState.{ModuleState, CrateState, MapState, ShownHelper}
+use Rattle.def_map.specs.MapState.{ModuleState, CrateState, MapState, ShownHelper, Position}
 use Rattle.def_map.specs.MapView.{MapFacts}
 use Rattle.def_map.specs.Scopes.{module_state}
+use Rattle.def_map.specs.Updates.{set_where, update_at}
 
 -- a helper as it is shown
 abbrev pub helper_state : DeriveHelper → ShownHelper
 helper_state h = record { name = h.name; macro_id = h.macro_id; by = h.by }
+
+-- the helpers of each position
+abbrev pub helpers_of : {S : Type 0} → IndexMap Position (List DeriveHelper) S → Position → List ShownHelper
+helpers_of helpers position = option_map_or (map helper_state) (get position_eq helpers position) []
+
+-- one helper of a position more, behind the others
+abbrev pub with_last_helper : (Position → List ShownHelper) → Position → ShownHelper → Position → List ShownHelper
+with_last_helper helpers position helper = set_where (position_eq position) (helpers position ++ helper ∷ []) helpers
+
+-- the helpers that other crates see of each derive macro
+abbrev pub exported_of : {S : Type 0} → IndexMap MacroId (List Name) S → MacroId → List Name
+exported_of exported id = option_map_or (λ names. names) (get macro_eq exported id) []
 
 -- what a map shows of its crate
 abbrev pub crate_state : MapData → CrateState
@@ -29,7 +44,7 @@ crate_state d =
       coherence_is_core = d.rustc_coherence_is_core;
       features = contains is_name d.features;
       tools = d.registered_tools;
-      exported_helpers = λ id. option_map_or (λ names. names) (get macro_eq d.exported_derives id) [];
+      exported_helpers = exported_of d.exported_derives;
       macro_of_function = get function_eq d.fn_as_proc_macro;
       function_of_macro = get proc_macro_eq d.proc_macro_as_fn;
       macro_at = get position_eq d.macro_by_position;
@@ -47,7 +62,7 @@ map_state d =
       parents = d.tree.parents;
       modules = map module_state d.modules.items;
       krate = crate_state d;
-      helpers = λ position. option_map_or (map helper_state) (get position_eq d.derive_helpers position) [];
+      helpers = helpers_of d.derive_helpers;
     }
 
 -- the first of a list
@@ -76,12 +91,6 @@ facts_in s =
 abbrev pub facts_of : MapData → MapFacts
 facts_of d = facts_in (map_state d)
 
--- a list with another element at a place, if it is there
-abbrev pub update_at : {X : Type 0} → List X → ℕ → (X → X) → List X
-update_at [] i f = []
-update_at (x ∷ xs) zero f = f x ∷ xs
-update_at (x ∷ xs) (suc i) f = x ∷ update_at xs i f
-
 -- one module changed, if it is there
 abbrev pub with_module : MapState → ℕ → (ModuleState → ModuleState) → MapState
 with_module s i f = record s { modules = update_at s.modules i f }
@@ -93,3 +102,41 @@ known_parent parents parent = cond (nat_lt parent (length parents)) (Some parent
 -- one module more, with its parent
 abbrev pub pushed : MapState → ℕ → ModuleState → MapState
 pushed s parent m = record s { parents = s.parents ++ known_parent s.parents parent ∷ []; modules = s.modules ++ m ∷ [] }
+
+-- one feature more
+abbrev pub with_feature : MapState → Name → MapState
+with_feature s name = record s { krate = record s.krate { features = set_where (is_name name) true s.krate.features } }
+
+-- one registered tool more
+abbrev pub with_tool : MapState → Name → MapState
+with_tool s tool = record s { krate = record s.krate { tools = s.krate.tools ++ tool ∷ [] } }
+
+-- the helpers that other crates see of a derive macro
+abbrev pub with_exported : MapState → MacroId → List Name → MapState
+with_exported s id helpers = record s { krate = record s.krate { exported_helpers = set_where (macro_eq id) helpers s.krate.exported_helpers } }
+
+-- a procedural macro and its function lead to each other
+abbrev pub paired : MapState → FunctionId → ProcMacroId → MapState
+paired s function id =
+    record s {
+      krate = record s.krate {
+        macro_of_function = set_where (function_eq function) (Some id) s.krate.macro_of_function;
+        function_of_macro = set_where (proc_macro_eq id) (Some function) s.krate.function_of_macro;
+      }
+    }
+
+-- a position leads to a macro
+abbrev pub with_macro_at : MapState → Position → MacroId → MapState
+with_macro_at s position id = record s { krate = record s.krate { macro_at = set_where (position_eq position) (Some id) s.krate.macro_at } }
+
+-- a macro that an extern crate brought
+abbrev pub with_macro_use : MapState → Name → MacroId → MapState
+with_macro_use s name id = record s { krate = record s.krate { macro_use = set_where (is_name name) (Some id) s.krate.macro_use } }
+
+-- one helper attribute of a position more, behind the others
+abbrev pub with_helper : MapState → Position → ShownHelper → MapState
+with_helper s position helper = record s { helpers = with_last_helper s.helpers position helper }
+
+-- how deep expansions may nest: 128 where the crate states nothing
+abbrev pub limit_of : CrateState → ℕ
+limit_of c = unwrap_or c.recursion_limit 128

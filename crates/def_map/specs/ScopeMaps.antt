@@ -1,5 +1,5 @@
 -- What a scope keeps by key.
-use Rattle.std.specs.Prelude.{Bool, true, cond, ◌&&◌, ◌==◌, List, [], ◌∷◌, Option, Some, reverse, option_map}
+use Rattle.std.specs.Prelude.{ℕ, Bool, true, cond, ◌&&◌, ◌==◌, List, [], ◌∷◌, Option, Some, reverse, option_map}
 use Rattle.std.specs.Option.{option_map_or}
 use Rattle.indexmap.specs.IndexMap.{IndexMap, get}
 use Rattle.indexmap.specs.IndexSet.{IndexSet, contains}
@@ -12,7 +12,8 @@ use Rattle.def_map.specs.declared.module_data.DeriveKey.{DeriveKey}
 use Rattle.def_map.specs.declared.module_data.DeriveMacroInvocation.{DeriveMacroInvocation}
 use Rattle.def_map.specs.declared.module_data.Invocation.{Invocation}
 use Rattle.def_map.specs.Equality.{derive_key_eq, invocation_eq, position_eq}
-use Rattle.def_map.specs.MapState.{DeriveState, Position}
+use Rattle.def_map.specs.MapState.{DeriveState, DeriveCall, Position}
+use Rattle.def_map.specs.Updates.{set_where, update_at}
 
 -- the textual macros of each name, the last one first
 abbrev pub textual_of : {S : Type 0} → IndexMap Name (List MacroId) S → Name → List MacroId
@@ -20,11 +21,16 @@ textual_of macros name = option_map_or reverse (get is_name macros name) []
 
 -- one more macro of a name, before the others
 abbrev pub with_first : (Name → List MacroId) → Name → MacroId → Name → List MacroId
-with_first textual name macro_id x = cond (is_name name x) (macro_id ∷ textual name) (textual x)
+with_first textual name macro_id = set_where (is_name name) (macro_id ∷ textual name) textual
+
+-- macros with the last one of others before them
+abbrev pub with_last : List MacroId → List MacroId → List MacroId
+with_last [] own = own
+with_last (last ∷ rest) own = last ∷ own
 
 -- a derive attribute's call, and what its list gave
 abbrev pub derive_state : DeriveMacroInvocation → DeriveState
-derive_state d = record { call = d.call; calls = d.calls }
+derive_state d = record { call = d.call; calls = d.calls.items }
 
 -- the derives of each position and attribute
 abbrev pub derives_of : {S : Type 0} → IndexMap DeriveKey DeriveMacroInvocation S → Position → AttrId → Option DeriveState
@@ -37,6 +43,14 @@ is_derive_of position attr p a = position_eq position p && (attr.0 == a.0)
 -- one derive set
 abbrev pub derive_set : (Position → AttrId → Option DeriveState) → Position → AttrId → Option DeriveState → Position → AttrId → Option DeriveState
 derive_set derives position attr derive p a = cond (is_derive_of position attr p a) derive (derives p a)
+
+-- a derive with this call at a place of its list
+abbrev pub with_call : ℕ → DeriveCall → DeriveState → DeriveState
+with_call pos call derive = record derive { calls = update_at derive.calls pos (λ before. Some call) }
+
+-- one derive with this call at a place of its list, if it is there
+abbrev pub derive_called : (Position → AttrId → Option DeriveState) → Position → AttrId → ℕ → DeriveCall → Position → AttrId → Option DeriveState
+derive_called derives position attr pos call = derive_set derives position attr (option_map (with_call pos call) (derives position attr))
 
 -- whether a call is recorded at a position
 abbrev pub invoked_of : {S : Type 0} → IndexSet Invocation S → Position → MacroCallId → Bool

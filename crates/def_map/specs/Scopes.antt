@@ -1,5 +1,5 @@
 -- What a module shows beside its bindings, and what each write does to it.
-use Rattle.std.specs.Prelude.{Bool, true, false, cond, ◌&&◌, ◌==◌, [], ◌∷◌, ◌++◌, ℕ, Option, None, Some, option_map}
+use Rattle.std.specs.Prelude.{List, Bool, true, false, cond, ◌&&◌, ◌==◌, [], ◌∷◌, ◌++◌, ℕ, Option, None, Some, option_map}
 use Rattle.indexmap.specs.IndexMap.{get}
 use Rattle.indexmap.specs.IndexSet.{contains}
 use Rattle.item_tree.specs.declared.ids.AttrId.{AttrId}
@@ -16,8 +16,9 @@ use Rattle.def_bindings.specs.Content.{is_name}
 use Rattle.def_bindings.specs.declared.visibility.Visibility.{Visibility}
 use Rattle.def_map.specs.declared.module_data.ModuleData.{ModuleData}
 use Rattle.def_map.specs.declared.module_data.ModuleOrigin.{ModuleOrigin}
-use Rattle.def_map.specs.MapState.{ModuleState, DeriveState, Position}
-use Rattle.def_map.specs.ScopeMaps.{textual_of, with_first, derives_of, derive_set, invoked_of, invoked_with}
+use Rattle.def_map.specs.MapState.{ModuleState, DeriveState, DeriveCall, Position}
+use Rattle.def_map.specs.Updates.{set_where}
+use Rattle.def_map.specs.ScopeMaps.{textual_of, with_first, derives_of, derive_set, invoked_of, invoked_with, derive_called, with_last}
 
 -- what a module shows
 abbrev pub module_state : ModuleData → ModuleState
@@ -65,7 +66,7 @@ declared_in def m = record m { declarations = m.declarations ++ def ∷ [] }
 
 -- a child's name leads to this index
 abbrev pub with_child : Name → ℕ → ModuleState → ModuleState
-with_child name child m = record m { children = λ x. cond (is_name name x) (Some child) (m.children x) }
+with_child name child m = record m { children = set_where (is_name name) (Some child) m.children }
 
 -- one textual macro more, before the others of its name
 abbrev pub with_textual : Name → MacroId → ModuleState → ModuleState
@@ -101,4 +102,16 @@ with_invocation position call m = record m { invoked = invoked_with m.invoked po
 
 -- a name marked as failed
 abbrev pub marked_failed : Name → ModuleState → ModuleState
-marked_failed name m = record m { failed = λ x. cond (is_name name x) true (m.failed x) }
+marked_failed name m = record m { failed = set_where (is_name name) true m.failed }
+
+-- a call of a derive's list at its place
+abbrev pub called_at : Position → AttrId → ℕ → DeriveCall → ModuleState → ModuleState
+called_at position attr pos call m = record m { derives = derive_called m.derives position attr pos call }
+
+-- the textual macros of another module, in the place of its own
+abbrev pub with_textual_of : (Name → List MacroId) → ModuleState → ModuleState
+with_textual_of textual m = record m { textual = textual }
+
+-- the last textual macro of each name of another module, before its own
+abbrev pub brought : (Name → List MacroId) → ModuleState → ModuleState
+brought from m = record m { textual = λ name. with_last (from name) (m.textual name) }

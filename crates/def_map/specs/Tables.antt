@@ -1,12 +1,12 @@
 -- What the table of a map contains.
-use Rattle.def_bindings.specs.declared.scope_table.ScopeTable.{ScopeTable}
+use Rattle.def_bindings.specs.declared.numbered_table.NumberedTable.{NumberedTable}
 use Rattle.def_bindings.specs.declared.visibility.Visibility.{Visibility}
 use Rattle.def_bindings.specs.Content.{Content}
-use Rattle.def_bindings.specs.ScopeTable as table
+use Rattle.def_bindings.specs.NumberedTable as table
 
 -- the table of a map
 abbrev pub Table : Type 0
-Table = ScopeTable Visibility
+Table = NumberedTable Visibility
 
 -- what is bound, which traits have no name, and where globs lead
 abbrev pub bound_by : Table → Content Visibility

@@ -11,7 +11,8 @@ ghost use Rattle.def_map.specs.DefMaps.{info_state, crate_map_id};
 
 use crate::block::BlockInfo;
 use crate::map::MapData;
-use crate::module_data::{ModuleData, ModuleOrigin, no_items};
+use crate::keyed_lists::no_items;
+use crate::module_data::{ModuleData, ModuleOrigin};
 use crate::table::Table;
 use def_bindings::{ModuleTree, Visibility};
 use def_ids::{Edition, MapId, ModuleId};

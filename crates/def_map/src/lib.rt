@@ -2,11 +2,15 @@
 #![tactic(auto)]
 
 mod block;
+mod crate_writes;
 mod def_map;
+mod keyed_lists;
 mod local_def_map;
 mod macro_resolver;
 mod map;
+mod map_reads;
 mod module_data;
+mod module_writes;
 mod path_resolution;
 mod per_ns;
 mod source_database;

@@ -1,5 +1,5 @@
 //! Maps of definitions.
-ghost use Rattle.std.specs.Prelude.{◌≡◌, ◌++◌, ◌∷◌, [], OnOk};
+ghost use Rattle.std.specs.Prelude.{◌≡◌, ◌++◌, ◌∷◌, [], length, OnOk, IfOk};
 ghost use Rattle.def_map.specs.Scopes.{module_state, declared_in};
 ghost use Rattle.def_map.specs.Maps.{map_state, with_module, pushed, known_parent};
 
@@ -61,21 +61,12 @@ fn add_parent(tree: &mut ModuleTree, parent: usize) -> Result<(), AllocError>
 impl MapData {
     /// Adds a module under its parent. Where the parent is not there, the module has none.
     pub fn push_module(&mut self, parent: usize, module: ModuleData) -> Result<usize, AllocError>
-        ensures { OnOk result (map_state self.new ≡ pushed (map_state self.old) parent (module_state «module»)) }
+        ensures state { OnOk result (map_state self.new ≡ pushed (map_state self.old) parent (module_state «module»)) }
+        ensures index { IfOk result (λ index. index ≡ length (map_state self.old).modules) }
     {
         let index = self.modules.len();
         add_parent(&mut self.tree, parent)?;
         self.modules.push(module)?;
         Ok(index)
-    }
-
-    /// Adds a declaration to a module, behind the others.
-    pub fn declare(&mut self, module: usize, def: Def) -> Result<(), AllocError>
-        ensures { OnOk result (map_state self.new ≡ with_module (map_state self.old) «module» (declared_in def)) }
-    {
-        match self.modules.get_mut(module) {
-            Some(data) => data.declare(def),
-            None => Ok(()),
-        }
     }
 }

@@ -1,7 +1,8 @@
 //! A module of a map, and what its scope holds beside its bindings.
-ghost use Rattle.std.specs.Prelude.{◌≡◌, [], OnOk};
-ghost use Rattle.def_map.specs.ScopeMaps.{textual_of, with_first, derive_state};
+ghost use Rattle.std.specs.Prelude.{◌≡◌, OnOk};
+ghost use Rattle.def_map.specs.ScopeMaps.{derive_state};
 
+use crate::keyed_lists::{no_items, push_under};
 use def_bindings::Visibility;
 use def_ids::{BuiltinDeriveImplId, ConstId, Def, ExternBlockId, ExternCrateId, ImplId, MacroId};
 use either::Either;
@@ -47,7 +48,7 @@ pub struct DeriveKey {
 #[derive(Drop)]
 pub struct DeriveMacroInvocation {
     pub call: MacroCallId,
-    pub calls: Seq<Option<DeriveCall>>,
+    pub calls: Vec<Option<DeriveCall>>,
 }
 
 /// A macro call, and the item that it stands at.
@@ -85,13 +86,6 @@ pub struct ModuleData {
     /// The indices of its child modules.
     pub children: IndexMap<Name, usize>,
     pub scope: ScopeData,
-}
-
-/// The list without elements.
-pub(crate) fn no_items<T>(alloc: Global) -> Seq<T>
-    ensures { result ≡ [] }
-{
-    Seq::from_vec(Vec::new(alloc))
 }
 
 impl ModuleData {
@@ -146,7 +140,8 @@ impl ModuleData {
     pub fn define_legacy_macro(&mut self, name: Name, macro_id: MacroId) -> Result<(), AllocError>
         ensures { OnOk result (module_state self.new ≡ with_textual name macro_id (module_state self.old)) }
     {
-        shadow(&mut self.scope.legacy_macros, name, macro_id)
+        push_under(&mut self.scope.legacy_macros, name, macro_id)?;
+        Ok(())
     }
 
     /// Records an `extern crate` item.
@@ -222,18 +217,4 @@ impl ModuleData {
         self.scope.failed.insert(name)?;
         Ok(())
     }
-}
-
-/// Puts a macro behind the others of its name, which it shadows.
-fn shadow(
-    macros: &mut IndexMap<Name, Seq<MacroId>>,
-    name: Name,
-    macro_id: MacroId,
-) -> Result<(), AllocError>
-    ensures { OnOk result (textual_of macros.new ≡ with_first (textual_of macros.old) name macro_id) }
-{
-    let alloc = *macros.allocator();
-    let same = macros.entry(name)?.or_insert(no_items(alloc));
-    same.push(macro_id)?;
-    Ok(())
 }

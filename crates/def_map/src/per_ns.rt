@@ -5,7 +5,7 @@ ghost use Rattle.def_map.specs.Items.{public_item as item_of, is_fitting, is_mod
 ghost use Rattle.def_map.specs.PerNs.{kept, kept_in};
 
 use def_bindings::{Binding, Visibility};
-use def_ids::{Def, Interner, LocationId, MacroDefKind, MacroId};
+use def_ids::{Def, Interner, MacroDefKind, MacroId};
 
 /// A definition under a visibility of the language, and what brought it: `None` for a declaration.
 pub type Item = Binding<Visibility>;
@@ -153,19 +153,9 @@ fn fits(def: Def, session: &Interner, asked: MacroSubNs) -> bool
 fn kind_of(id: MacroId, session: &Interner) -> Option<MacroDefKind>
     ensures { result ≡ macro_kind (session_of session.now) id }
 {
-    match id {
-        MacroId::MacroRules(id) => match id.lookup(session) {
-            Some(loc) => Some(loc.expander.def_kind()),
-            None => None,
-        },
-        MacroId::Macro2(id) => match id.lookup(session) {
-            Some(loc) => Some(loc.expander.def_kind()),
-            None => None,
-        },
-        MacroId::ProcMacro(id) => match id.lookup(session) {
-            Some(loc) => Some(MacroDefKind::ProcMacro(loc.expander, loc.kind)),
-            None => None,
-        },
+    match session.macro_def(id) {
+        Some(found) => Some(found.kind),
+        None => None,
     }
 }
 

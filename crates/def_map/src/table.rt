@@ -1,6 +1,6 @@
 //! The table of bindings that maps have.
 
-use def_bindings::{ScopeTable, Visibility};
+use def_bindings::{NumberedTable, Visibility};
 
 /// The bindings, unnamed traits and glob edges of a map.
-pub type Table = ScopeTable<Visibility>;
+pub type Table = NumberedTable<Visibility>;

@@ -1,26 +1,21 @@
 //! Where the first segment of a path is looked up. A source is asked only for what those before it
 //! have not.
-ghost use Rattle.std.specs.Prelude.{◌≡◌, ◌++◌, option_map, reverse, slice_get};
-ghost use Rattle.std.specs.Option.{option_copied};
+ghost use Rattle.std.specs.Prelude.{◌≡◌, ◌++◌, option_map};
 ghost use Rattle.def_map.specs.Items.{is_fitting, is_2015 as is_edition_2015};
 ghost use Rattle.def_map.specs.Asking.{question_in, map_in};
 ghost use Rattle.def_map.specs.DefMaps.{view_of};
-ghost use Rattle.def_map.specs.Maps.{facts_of, first_of_list};
 ghost use Rattle.def_map.specs.PerNs.{per_namespace, kept_in};
-ghost use Rattle.def_map.specs.ScopeMaps.{textual_of};
 ghost use Rattle.def_map.specs.Sources.{finished_map as finished_map_of, scope_source, textual_source, builtin_source, extern_source, macro_use_source, prelude_source, plain_sources, outer_sources, scope_and_builtin, root_sources, absolute_sources, relative_sources, first_found, with_source};
 
 use crate::def_map::DefMap;
 use crate::local_def_map::LocalDefMap;
 use crate::map::MapData;
-use crate::module_data::ModuleData;
 use crate::path_resolution::asked::Asked;
 use crate::per_ns::{MacroSubNs, PerNs, public_item};
 use crate::source_database::SourceDatabase;
 use def_bindings::{Binding, BindingTable, ImportOrExternCrate, Namespace, Visibility};
-use def_ids::{Def, Edition, Interner, MacroId, MapId, ModuleId};
-use indexmap::IndexMap;
-use item_tree::{Name, Seq};
+use def_ids::{Def, Edition, Interner, MapId, ModuleId};
+use item_tree::Name;
 
 /// What each step of a resolution reads: the answers, the session, and the map that is asked.
 pub(crate) struct Asking<'a, D, T> {
@@ -74,47 +69,6 @@ fn bound<T: BindingTable<Vis = Visibility>>(table: &T, place: ModuleId, name: Na
     }
 }
 
-/// The last of some macros.
-fn last_of(macros: &[MacroId]) -> Option<MacroId>
-    ensures { result ≡ first_of_list (reverse macros.now) }
-{
-    macros.last().copied()
-}
-
-/// The last textual macro of a name, of these.
-fn last_textual(macros: &IndexMap<Name, Seq<MacroId>>, name: Name) -> Option<MacroId>
-    ensures { result ≡ first_of_list (textual_of macros.now name) }
-{
-    match macros.get(&name) {
-        Some(same) => last_of(same.as_slice()),
-        None => None,
-    }
-}
-
-/// The module of this index.
-fn module_at(modules: &[ModuleData], index: usize) -> Option<&ModuleData>
-    ensures { option_copied result ≡ slice_get modules.now index }
-{
-    modules.get(index)
-}
-
-/// The last textual macro of a name in a module of this map.
-fn textual_macro(own: &MapData, place: ModuleId, name: Name) -> Option<MacroId>
-    ensures { result ≡ (facts_of own.now).textual_macro place name }
-{
-    match module_at(own.modules.as_slice(), place.index) {
-        Some(data) => last_textual(&data.scope.legacy_macros, name),
-        None => None,
-    }
-}
-
-/// The macro of a name that an extern crate brought.
-fn macro_use(own: &MapData, name: Name) -> Option<MacroId>
-    ensures { result ≡ (facts_of own.now).macro_use name }
-{
-    own.macro_use_prelude.get(&name).copied()
-}
-
 /// Whether an edition is that of 2015.
 fn is_2015(edition: Edition) -> bool
     ensures { result ≡ is_edition_2015 edition }
@@ -148,7 +102,7 @@ impl<'a, D: SourceDatabase, T: BindingTable<Vis = Visibility>> Asking<'a, D, T> 
             let own = map_in (T.content self.now.table.now) self.now in
             result ≡ kept_in (is_fitting q.kind_of segment.sub) (per_namespace (textual_source own segment.place segment.name)) }
     {
-        match textual_macro(self.own, segment.place, segment.name) {
+        match self.own.textual_macro(segment.place, segment.name) {
             Some(id) => PerNs::of_macro(public_item(Def::Macro(id))).fitting(self.session, segment.sub),
             None => PerNs::none(),
         }
@@ -196,7 +150,7 @@ impl<'a, D: SourceDatabase, T: BindingTable<Vis = Visibility>> Asking<'a, D, T> 
         if found.macros.is_some() {
             return found;
         }
-        match macro_use(self.own, segment.name) {
+        match self.own.macro_use(segment.name) {
             Some(id) => {
                 let brought = PerNs::of_macro(public_item(Def::Macro(id)));
                 found.or(brought.fitting(self.session, segment.sub))

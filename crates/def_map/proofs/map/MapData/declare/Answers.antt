@@ -1,10 +1,8 @@
 use Rattle.std.proofs.Common.{rules}
 use Rattle.def_map.specs.Scopes.{declared_in}
-use Rattle.def_map.proofs.MapsLemmas.{module_changed, module_missing}
+use Rattle.def_map.proofs.MapsLemmas.{module_changed}
 use Rattle.def_map.proofs.map.MapData.declare.Goals as goal
 
 pub returns-in-Some : goal.returns-in-Some
-returns-in-Some c = module_changed c.declare.result c.args.self.now c.args.module c.in-Some.data.now c.declare.new.self (declared_in c.args.def) (search rules) c.in-Some.ensures.value c.declare.ensures
-
-pub returns-in-None : goal.returns-in-None
-returns-in-None c = module_missing c.args.self.now c.args.module (declared_in c.args.def) (search rules)
+returns-in-Some c =
+    module_changed c.declare.result c.args.self.now c.args.module c.in-Some.found.now c.declare.new.self (declared_in c.args.def) (search rules) c.in-Some.ensures.value c.declare.ensures
