@@ -4,3 +4,4 @@ pub mod EqualityLemmas
 pub mod CrateLemmas
 pub mod SourcesLemmas
 pub mod AnswersLemmas
+pub mod PathsFacts
