@@ -1,5 +1,5 @@
 -- Answers of paths: what a missing prefix gives, and answers joined one after the other.
-use Rattle.std.proofs.Common.{◌≡◌, ◌∙◌, ap, sym, refl, arith, ◌+◌, ◌<◌, ℕ, suc, Bool, true, false, not, ◌&&◌, ◌||◌, cond, if◌then◌else◌, List, [], ◌∷◌, ◌++◌, length, take, drop, get_or, drop-cons, add-one, slice_get, Option, Some, None, is_none}
+use Rattle.std.proofs.Common.{◌≡◌, ◌∙◌, ap, sym, refl, arith, ◌+◌, ◌<◌, ℕ, Bool, true, false, not, ◌&&◌, ◌||◌, cond, if◌then◌else◌, List, [], ◌∷◌, ◌++◌, length, take, drop, get_or, drop-cons, add-one, Option, Some, None, is_none}
 use Rattle.std.proofs.lemmas.List.{take_more}
 use Rattle.std.specs.List.{list_any, find, cons_option}
 use Rattle.std.specs.Option.{option_or, unwrap_or}
@@ -16,7 +16,7 @@ use Rattle.def_map.specs.declared.per_ns.PerNs.{PerNs}
 use Rattle.def_map.specs.Answers.{missing, walk, answer_after, answer_from, leading, is_reached, joined, first_resolved}
 use Rattle.def_map.specs.MapView.{MapView}
 use Rattle.def_map.specs.Items.{is_fitting}
-use Rattle.def_map.specs.Paths.{is_alone, answer_outside, answers_outside}
+use Rattle.def_map.specs.OuterMaps.{is_alone, answer_outside, answers_outside}
 use Rattle.def_map.specs.PerNs.{Item, otherwise, is_nothing, per_namespace}
 use Rattle.def_map.specs.Sources.{Question, Source, first_found, by_sources, relative_sources}
 use Rattle.def_map.proofs.SourcesLemmas.{option_or-none, option_or-or, per_namespace-equal}

@@ -1,11 +1,10 @@
 -- Paths of small worlds, as they compute.
-use Rattle.std.proofs.Common.{◌≡◌, refl, ℕ, Bool, true, false, ◌==◌, ◌&&◌, List, [], ◌∷◌, Option, Some, None, Ok, if◌then◌else◌}
+use Rattle.std.proofs.Common.{◌≡◌, refl, ℕ, true, false, ◌==◌, ◌&&◌, List, [], ◌∷◌, Option, Some, None, Ok, if◌then◌else◌}
 use Rattle.item_tree.specs.declared.mod_path.ModPath.{ModPath}
 use Rattle.item_tree.specs.declared.mod_path.PathKind.{PathKind}
-use Rattle.item_tree.specs.declared.mod_path.PathKind.TheVariants.{Plain, Super, Crate, Abs, DollarCrate}
+use Rattle.item_tree.specs.declared.mod_path.PathKind.TheVariants.{Plain, Super, Crate, Abs}
 use Rattle.item_tree.specs.declared.items.RawVisibility.TheVariants as raw
 use Rattle.item_tree.specs.declared.name.Name.{Name}
-use Rattle.def_ids.specs.declared.ids.Def.{Def}
 use Rattle.def_ids.specs.declared.ids.Def.TheVariants as def
 use Rattle.def_ids.specs.declared.ids.MapId.{MapId}
 use Rattle.def_ids.specs.declared.ids.ModuleId.{ModuleId}
@@ -17,7 +16,6 @@ use Rattle.def_bindings.specs.declared.bindings.Namespace.TheVariants.{Types, Va
 use Rattle.def_bindings.specs.declared.visibility.Visibility.TheVariants as vis
 use Rattle.def_map.specs.declared.path_resolution.asked.BuiltinShadowMode.TheVariants as shadow
 use Rattle.def_map.specs.declared.path_resolution.asked.ResolveMode.TheVariants as mode
-use Rattle.def_map.specs.declared.path_resolution.asked.ResolvePathResult.{ResolvePathResult}
 use Rattle.def_map.specs.Answers.{missing, reached}
 use Rattle.def_map.specs.Items.{public_item, module_item}
 use Rattle.def_map.specs.MapView.{MapView}

@@ -7,7 +7,7 @@ use Rattle.def_ids.specs.Ids.{is_block_root}
 use Rattle.def_bindings.specs.declared.bindings.Namespace.{Namespace}
 use Rattle.def_bindings.specs.declared.bindings.Namespace.TheVariants.{Types, Values, Macros}
 use Rattle.def_map.specs.declared.per_ns.PerNs.{PerNs}
-use Rattle.def_map.specs.PerNs.{Item, kept, kept_in, nothing, otherwise, per_namespace}
+use Rattle.def_map.specs.PerNs.{Item, kept, nothing, otherwise, per_namespace}
 use Rattle.def_map.specs.Sources.{Source, first_found, with_source, unless_block_root}
 
 pub option_or-none : {A : Type 0} (o : Option A) → option_or o None ≡ o

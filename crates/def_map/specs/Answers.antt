@@ -5,7 +5,6 @@ use Rattle.std.specs.Option.{option_map, option_map_or, option_or, option_and_th
 use Rattle.item_tree.specs.declared.name.Name.{Name}
 use Rattle.def_ids.specs.declared.ids.Def.{Def}
 use Rattle.def_ids.specs.declared.ids.Def.TheVariants.{Module, Enum, Variant}
-use Rattle.def_map.specs.declared.path_resolution.asked.PrefixInfo.{PrefixInfo}
 use Rattle.def_map.specs.declared.path_resolution.asked.ReachedFixedPoint.{ReachedFixedPoint}
 use Rattle.def_map.specs.declared.path_resolution.asked.ReachedFixedPoint.TheVariants.{Yes, No}
 use Rattle.def_map.specs.declared.path_resolution.asked.ResolvePathResult.{ResolvePathResult}
@@ -14,7 +13,7 @@ use Rattle.def_map.specs.declared.source_database.EnumVariant.{EnumVariant}
 use Rattle.def_map.specs.Items.{public_item, module_item}
 use Rattle.def_map.specs.MapView.{MapView}
 use Rattle.def_map.specs.PerNs.{Item, per_namespace, nothing, in_types, is_nothing}
-use Rattle.def_map.specs.Sources.{Question, Source, first_found, scope_source, Beginning, at_module, by_sources}
+use Rattle.def_map.specs.Sources.{Question, Source, found_in, scope_source, Beginning, at_module, by_sources}
 
 -- the answer where something on the way is missing
 abbrev pub missing : Bool → ResolvePathResult
@@ -74,7 +73,7 @@ abbrev pub answer_from : Question → MapView → (Item → Bool) → Beginning 
 answer_from q own keep (at_module None) names = missing false
 answer_from q own keep (at_module (Some m)) names = walk q own false (in_types (module_item m)) 0 names
 answer_from q own keep (by_sources sources) [] = missing false
-answer_from q own keep (by_sources sources) (name ∷ names) = answer_after q own (per_namespace (first_found keep sources name)) names
+answer_from q own keep (by_sources sources) (name ∷ names) = answer_after q own (found_in keep sources name) names
 
 -- the first answer that has something in a namespace
 abbrev pub first_resolved : (PerNs → Option Item) → List ResolvePathResult → Option Item

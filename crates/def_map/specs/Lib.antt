@@ -17,4 +17,6 @@ pub mod Oracle
 pub mod Sources
 pub mod Asking
 pub mod Answers
+pub mod OuterMaps
+pub mod Modes
 pub mod Paths

@@ -62,6 +62,10 @@ abbrev pub first_found : (Item → Bool) → List Source → Name → Namespace 
 first_found keep [] name ns = None
 first_found keep (source ∷ sources) name ns = option_or (kept keep (source name ns)) (first_found keep sources name ns)
 
+-- what a name means in each namespace, by the first source that has it
+abbrev pub found_in : (Item → Bool) → List Source → Name → PerNs
+found_in keep sources name = per_namespace (first_found keep sources name)
+
 -- what was found, and in each namespace where nothing was, what one more source has
 abbrev pub with_source : (Item → Bool) → PerNs → Source → Name → PerNs
 with_source keep found source name = otherwise found (kept_in keep (per_namespace (source name)))

@@ -5,22 +5,23 @@ ghost use Rattle.def_map.specs.declared.path_resolution.asked.ResolveMode.TheVar
 ghost use Rattle.def_map.specs.Asking.{map_with};
 ghost use Rattle.def_map.specs.DefMaps.{view_of};
 ghost use Rattle.def_map.specs.Locals.{local_view};
+ghost use Rattle.def_map.specs.Modes.{asked_by};
+ghost use Rattle.def_map.specs.Paths.{resolve, resolve_visibility as visibility_of};
+ghost use Rattle.def_map.specs.Paths.{module_reached as module_reached_by};
 ghost use Rattle.def_map.specs.Sources.{world_of};
-ghost use Rattle.def_map.specs.Paths.{resolve, resolve_visibility as visibility_of, asked_by, module_reached as module_reached_by};
 
 mod answers;
 mod asked;
 mod sources;
-
-pub use asked::{
-    Asked, BuiltinShadowMode, PrefixInfo, ReachedFixedPoint, ResolveMode, ResolvePathResult,
-};
 
 use crate::def_map::DefMap;
 use crate::local_def_map::LocalDefMap;
 use crate::map::MapData;
 use crate::per_ns::{MacroSubNs, PerNs};
 use crate::source_database::SourceDatabase;
+pub use asked::{
+    Asked, BuiltinShadowMode, PrefixInfo, ReachedFixedPoint, ResolveMode, ResolvePathResult,
+};
 use def_bindings::{BindingTable, Visibility};
 use def_ids::{Def, Interner, ModuleId};
 use item_tree::{ModPath, RawVisibility};

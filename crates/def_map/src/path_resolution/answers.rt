@@ -3,10 +3,15 @@
 ghost use Rattle.std.specs.Prelude.{◌≡◌, ◌≤◌, ◌||◌, ◌∷◌, ◌++◌, [], None, false, length, drop, if◌then◌else◌};
 ghost use Rattle.std.specs.List.{list_any};
 ghost use Rattle.def_ids.specs.Ids.{is_same_map};
-ghost use Rattle.def_map.specs.Answers.{missing as missing_after, reached as reached_with, variant_found as found_of, variants_of, variant_named as first_named, step as step_of, is_elsewhere as elsewhere, walk as walk_of, answer_after, answer_from, joined};
+ghost use Rattle.def_map.specs.Answers.{missing as missing_after, reached as reached_with};
+ghost use Rattle.def_map.specs.Answers.{variants_of, variant_named as first_named, variant_found as found_of};
+ghost use Rattle.def_map.specs.Answers.{step as step_of, is_elsewhere as elsewhere, walk as walk_of};
+ghost use Rattle.def_map.specs.Answers.{answer_after, answer_from, joined};
 ghost use Rattle.def_map.specs.Asking.{question_in, map_in};
 ghost use Rattle.def_map.specs.Items.{is_fitting};
-ghost use Rattle.def_map.specs.Paths.{is_alone as stands_alone, is_plain as has_no_word, answer_in as answer_in_map, answer_outside as answer_outside_of, answers_outside, answer_of};
+ghost use Rattle.def_map.specs.OuterMaps.{is_alone as stands_alone, is_plain as has_no_word};
+ghost use Rattle.def_map.specs.OuterMaps.{answer_in as answer_in_map, answer_outside as answer_outside_of};
+ghost use Rattle.def_map.specs.OuterMaps.{answers_outside, answer_of};
 ghost use Rattle.def_map.specs.Sources.{at_module, by_sources, absolute_sources, relative_sources};
 
 use crate::path_resolution::asked::{PrefixInfo, ReachedFixedPoint, ResolvePathResult};

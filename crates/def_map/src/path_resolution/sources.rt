@@ -5,7 +5,10 @@ ghost use Rattle.def_map.specs.Items.{is_fitting, is_2015 as is_edition_2015};
 ghost use Rattle.def_map.specs.Asking.{question_in, map_in};
 ghost use Rattle.def_map.specs.DefMaps.{view_of};
 ghost use Rattle.def_map.specs.PerNs.{per_namespace, kept_in};
-ghost use Rattle.def_map.specs.Sources.{finished_map as finished_map_of, scope_source, textual_source, builtin_source, extern_source, macro_use_source, prelude_source, plain_sources, outer_sources, scope_and_builtin, root_sources, absolute_sources, relative_sources, first_found, with_source};
+ghost use Rattle.def_map.specs.Sources.{finished_map as finished_map_of, found_in, with_source};
+ghost use Rattle.def_map.specs.Sources.{scope_source, textual_source, builtin_source, extern_source};
+ghost use Rattle.def_map.specs.Sources.{macro_use_source, prelude_source, scope_and_builtin, outer_sources};
+ghost use Rattle.def_map.specs.Sources.{plain_sources, root_sources, absolute_sources, relative_sources};
 
 use crate::def_map::DefMap;
 use crate::local_def_map::LocalDefMap;
@@ -100,10 +103,14 @@ impl<'a, D: SourceDatabase, T: BindingTable<Vis = Visibility>> Asking<'a, D, T> 
     fn textual(&self, segment: Segment) -> PerNs
         ensures { let q = question_in (D.oracle self.now.db.now) self.now in
             let own = map_in (T.content self.now.table.now) self.now in
-            result ≡ kept_in (is_fitting q.kind_of segment.sub) (per_namespace (textual_source own segment.place segment.name)) }
+            let keep = is_fitting q.kind_of segment.sub in
+            result ≡ kept_in keep (per_namespace (textual_source own segment.place segment.name)) }
     {
         match self.own.textual_macro(segment.place, segment.name) {
-            Some(id) => PerNs::of_macro(public_item(Def::Macro(id))).fitting(self.session, segment.sub),
+            Some(id) => PerNs::of_macro(public_item(Def::Macro(id))).fitting(
+                self.session,
+                segment.sub,
+            ),
             None => PerNs::none(),
         }
     }
@@ -112,7 +119,8 @@ impl<'a, D: SourceDatabase, T: BindingTable<Vis = Visibility>> Asking<'a, D, T> 
     fn or_builtin(&self, found: PerNs, segment: Segment) -> PerNs
         ensures { let q = question_in (D.oracle self.now.db.now) self.now in
             let own = map_in (T.content self.now.table.now) self.now in
-            result ≡ with_source (is_fitting q.kind_of segment.sub) found (builtin_source q own) segment.name }
+            let keep = is_fitting q.kind_of segment.sub in
+            result ≡ with_source keep found (builtin_source q own) segment.name }
     {
         if found.types.is_some() || self.own.tree.map.block.is_some() {
             return found;
@@ -126,7 +134,8 @@ impl<'a, D: SourceDatabase, T: BindingTable<Vis = Visibility>> Asking<'a, D, T> 
     /// Adds the root of another crate.
     fn or_extern(&self, found: PerNs, segment: Segment) -> PerNs
         ensures { let q = question_in (D.oracle self.now.db.now) self.now in
-            result ≡ with_source (is_fitting q.kind_of segment.sub) found (extern_source q) segment.name }
+            let keep = is_fitting q.kind_of segment.sub in
+            result ≡ with_source keep found (extern_source q) segment.name }
     {
         if found.types.is_some() {
             return found;
@@ -145,7 +154,8 @@ impl<'a, D: SourceDatabase, T: BindingTable<Vis = Visibility>> Asking<'a, D, T> 
     fn or_macro_use(&self, found: PerNs, segment: Segment) -> PerNs
         ensures { let q = question_in (D.oracle self.now.db.now) self.now in
             let own = map_in (T.content self.now.table.now) self.now in
-            result ≡ with_source (is_fitting q.kind_of segment.sub) found (macro_use_source own) segment.name }
+            let keep = is_fitting q.kind_of segment.sub in
+            result ≡ with_source keep found (macro_use_source own) segment.name }
     {
         if found.macros.is_some() {
             return found;
@@ -163,7 +173,8 @@ impl<'a, D: SourceDatabase, T: BindingTable<Vis = Visibility>> Asking<'a, D, T> 
     fn or_prelude(&self, found: PerNs, segment: Segment) -> PerNs
         ensures { let q = question_in (D.oracle self.now.db.now) self.now in
             let own = map_in (T.content self.now.table.now) self.now in
-            result ≡ with_source (is_fitting q.kind_of segment.sub) found (prelude_source q own) segment.name }
+            let keep = is_fitting q.kind_of segment.sub in
+            result ≡ with_source keep found (prelude_source q own) segment.name }
     {
         if found.is_full() {
             return found;
@@ -182,8 +193,8 @@ impl<'a, D: SourceDatabase, T: BindingTable<Vis = Visibility>> Asking<'a, D, T> 
         ensures { let q = question_in (D.oracle self.now.db.now) self.now in
             let own = map_in (T.content self.now.table.now) self.now in
             let keep = is_fitting q.kind_of segment.sub in
-            (before : _) → found ≡ per_namespace (first_found keep before segment.name)
-            → result ≡ per_namespace (first_found keep (before ++ scope_and_builtin is_builtin_first q own segment.place) segment.name) }
+            (before : _) → found ≡ found_in keep before segment.name
+            → result ≡ found_in keep (before ++ scope_and_builtin is_builtin_first q own segment.place) segment.name }
     {
         let bound = self.scope(segment.place, segment.name);
         let fitting = bound.fitting(self.session, segment.sub);
@@ -200,8 +211,8 @@ impl<'a, D: SourceDatabase, T: BindingTable<Vis = Visibility>> Asking<'a, D, T> 
         ensures { let q = question_in (D.oracle self.now.db.now) self.now in
             let own = map_in (T.content self.now.table.now) self.now in
             let keep = is_fitting q.kind_of segment.sub in
-            (before : _) → found ≡ per_namespace (first_found keep before segment.name)
-            → result ≡ per_namespace (first_found keep (before ++ outer_sources q own segment.place) segment.name) }
+            (before : _) → found ≡ found_in keep before segment.name
+            → result ≡ found_in keep (before ++ outer_sources q own segment.place) segment.name }
     {
         if segment.place.is_block_root() {
             return self.or_macro_use(found, segment);
@@ -214,7 +225,8 @@ impl<'a, D: SourceDatabase, T: BindingTable<Vis = Visibility>> Asking<'a, D, T> 
     fn plain(&self, segment: Segment, alone: bool) -> PerNs
         ensures { let q = question_in (D.oracle self.now.db.now) self.now in
             let own = map_in (T.content self.now.table.now) self.now in
-            result ≡ per_namespace (first_found (is_fitting q.kind_of segment.sub) (plain_sources q own segment.place alone) segment.name) }
+            let keep = is_fitting q.kind_of segment.sub in
+            result ≡ found_in keep (plain_sources q own segment.place alone) segment.name }
     {
         let is_builtin_first = self.asked.is_builtin_first(alone);
         let textual = self.textual(segment);
@@ -226,7 +238,8 @@ impl<'a, D: SourceDatabase, T: BindingTable<Vis = Visibility>> Asking<'a, D, T> 
     fn from_root(&self, segment: Segment) -> PerNs
         ensures { let q = question_in (D.oracle self.now.db.now) self.now in
             let own = map_in (T.content self.now.table.now) self.now in
-            result ≡ per_namespace (first_found (is_fitting q.kind_of segment.sub) (root_sources q own) segment.name) }
+            let keep = is_fitting q.kind_of segment.sub in
+            result ≡ found_in keep (root_sources q own) segment.name }
     {
         let root = ModuleId::crate_root(self.own.tree.map.krate);
         let bound = self.scope(root, segment.name);
@@ -237,7 +250,8 @@ impl<'a, D: SourceDatabase, T: BindingTable<Vis = Visibility>> Asking<'a, D, T> 
     pub fn absolute(&self, segment: Segment) -> PerNs
         ensures { let q = question_in (D.oracle self.now.db.now) self.now in
             let own = map_in (T.content self.now.table.now) self.now in
-            result ≡ per_namespace (first_found (is_fitting q.kind_of segment.sub) (absolute_sources q own) segment.name) }
+            let keep = is_fitting q.kind_of segment.sub in
+            result ≡ found_in keep (absolute_sources q own) segment.name }
     {
         if is_2015(self.own.edition) {
             self.from_root(segment)
@@ -250,7 +264,8 @@ impl<'a, D: SourceDatabase, T: BindingTable<Vis = Visibility>> Asking<'a, D, T> 
     pub fn relative(&self, segment: Segment, alone: bool) -> PerNs
         ensures { let q = question_in (D.oracle self.now.db.now) self.now in
             let own = map_in (T.content self.now.table.now) self.now in
-            result ≡ per_namespace (first_found (is_fitting q.kind_of segment.sub) (relative_sources q own segment.place alone) segment.name) }
+            let keep = is_fitting q.kind_of segment.sub in
+            result ≡ found_in keep (relative_sources q own segment.place alone) segment.name }
     {
         if is_2015(self.own.edition) && self.asked.mode.is_for_import() {
             self.from_root(segment)

@@ -1,7 +1,6 @@
-use Rattle.std.proofs.Common.{◌≡◌, ◌∙◌, ap, sym}
-use Rattle.def_map.specs.Asking.{question_in, map_in}
+use Rattle.def_map.specs.Asking.{question_in}
 use Rattle.def_map.specs.Items.{is_fitting}
-use Rattle.def_map.specs.Paths.{asked_kind}
+use Rattle.def_map.specs.OuterMaps.{asked_kind}
 use Rattle.def_map.proofs.path_resolution.sources.Asking.answer_in.Goals as goal
 
 pub returns-in-Crate : goal.returns-in-Crate

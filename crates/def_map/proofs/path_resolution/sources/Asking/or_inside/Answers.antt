@@ -1,7 +1,5 @@
-use Rattle.std.proofs.Common.{◌≡◌, ◌∙◌, ap, sym, [], ◌∷◌, ◌++◌, append_assoc}
 use Rattle.def_map.specs.Asking.{question_in, map_in}
 use Rattle.def_map.specs.Items.{is_fitting}
-use Rattle.def_map.specs.PerNs.{kept_in, otherwise}
 use Rattle.def_map.specs.Sources.{scope_source, without_modules, builtin_source}
 use Rattle.def_map.proofs.SourcesLemmas.{with_two, with_three}
 use Rattle.def_map.proofs.path_resolution.sources.Asking.or_inside.Goals as goal

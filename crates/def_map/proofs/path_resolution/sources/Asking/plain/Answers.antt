@@ -1,6 +1,6 @@
-use Rattle.std.proofs.Common.{◌≡◌, ◌∙◌, sym, refl, [], ◌∷◌, ◌++◌, ◌&&◌}
+use Rattle.std.proofs.Common.{refl, [], ◌∷◌}
 use Rattle.def_map.specs.Asking.{question_in, map_in}
-use Rattle.def_map.specs.Items.{is_fitting, is_builtin_first}
+use Rattle.def_map.specs.Items.{is_fitting}
 use Rattle.def_map.specs.PerNs.{nothing}
 use Rattle.def_map.specs.Sources.{textual_source, scope_and_builtin}
 use Rattle.def_map.proofs.SourcesLemmas.{with_source-last}

@@ -1,7 +1,7 @@
 use Rattle.std.proofs.Common.{◌∙◌, ap, sym, [], ◌∷◌, ◌++◌, Some, None}
 use Rattle.def_map.specs.Answers.{joined}
 use Rattle.def_map.specs.Asking.{question_in}
-use Rattle.def_map.specs.Paths.{answers_outside}
+use Rattle.def_map.specs.OuterMaps.{answers_outside}
 use Rattle.def_map.proofs.AnswersLemmas.{joined-more, outside-seen, outside-new}
 use Rattle.def_map.proofs.path_resolution.sources.Asking.with_map.Goals as goal
 

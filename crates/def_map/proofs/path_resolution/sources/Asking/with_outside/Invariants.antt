@@ -1,7 +1,7 @@
 use Rattle.std.proofs.Common.{◌≡◌, take, drop, []}
 use Rattle.def_map.specs.Answers.{joined}
 use Rattle.def_map.specs.Asking.{question_in}
-use Rattle.def_map.specs.Paths.{answers_outside}
+use Rattle.def_map.specs.OuterMaps.{answers_outside}
 use Rattle.def_map.proofs.path_resolution.sources.Asking.with_outside.Given as goal
 
 -- the answer so far, joined with those of the maps that are left
