@@ -126,32 +126,32 @@ proc_macro_loc loc =
     }
 
 -- the item of this kind and number
-unfoldable pub item_at : Interner → ItemKind → ℕ → Option ItemLoc
-item_at s FunctionItem i = option_map (λ loc. in_container loc.container loc.position) (slice_get s.functions i)
-item_at s StructItem i = option_map (λ loc. in_module loc.container loc.position) (slice_get s.structs i)
-item_at s UnionItem i = option_map (λ loc. in_module loc.container loc.position) (slice_get s.unions i)
-item_at s EnumItem i = option_map (λ loc. in_module loc.container loc.position) (slice_get s.enums i)
-item_at s ConstItem i = option_map (λ loc. in_container loc.container loc.position) (slice_get s.consts i)
-item_at s StaticItem i = option_map (λ loc. in_container loc.container loc.position) (slice_get s.statics i)
-item_at s TraitItem i = option_map (λ loc. in_module loc.container loc.position) (slice_get s.traits i)
-item_at s TypeAliasItem i = option_map (λ loc. in_container loc.container loc.position) (slice_get s.type_aliases i)
-item_at s ImplItem i = option_map (λ loc. in_module loc.container loc.position) (slice_get s.impls i)
-item_at s UseItem i = option_map (λ loc. in_module loc.container loc.position) (slice_get s.uses i)
-item_at s ExternCrateItem i = option_map (λ loc. in_module loc.container loc.position) (slice_get s.extern_crates i)
-item_at s ExternBlockItem i = option_map (λ loc. in_module loc.container loc.position) (slice_get s.extern_blocks i)
+unfoldable pub shown_item : Interner → ItemKind → ℕ → Option ItemLoc
+shown_item s FunctionItem i = option_map (λ loc. in_container loc.container loc.position) (slice_get s.functions i)
+shown_item s StructItem i = option_map (λ loc. in_module loc.container loc.position) (slice_get s.structs i)
+shown_item s UnionItem i = option_map (λ loc. in_module loc.container loc.position) (slice_get s.unions i)
+shown_item s EnumItem i = option_map (λ loc. in_module loc.container loc.position) (slice_get s.enums i)
+shown_item s ConstItem i = option_map (λ loc. in_container loc.container loc.position) (slice_get s.consts i)
+shown_item s StaticItem i = option_map (λ loc. in_container loc.container loc.position) (slice_get s.statics i)
+shown_item s TraitItem i = option_map (λ loc. in_module loc.container loc.position) (slice_get s.traits i)
+shown_item s TypeAliasItem i = option_map (λ loc. in_container loc.container loc.position) (slice_get s.type_aliases i)
+shown_item s ImplItem i = option_map (λ loc. in_module loc.container loc.position) (slice_get s.impls i)
+shown_item s UseItem i = option_map (λ loc. in_module loc.container loc.position) (slice_get s.uses i)
+shown_item s ExternCrateItem i = option_map (λ loc. in_module loc.container loc.position) (slice_get s.extern_crates i)
+shown_item s ExternBlockItem i = option_map (λ loc. in_module loc.container loc.position) (slice_get s.extern_blocks i)
 
 -- the macro of this id
-unfoldable pub macro_at : Interner → MacroId → Option MacroLoc
-macro_at s (MacroRules id) = option_map rules_loc (slice_get s.macro_rules id.0)
-macro_at s (Macro2 id) = option_map macro2_loc (slice_get s.macro2s id.0)
-macro_at s (ProcMacro id) = option_map proc_macro_loc (slice_get s.proc_macros id.0)
+unfoldable pub shown_macro : Interner → MacroId → Option MacroLoc
+shown_macro s (MacroRules id) = option_map rules_loc (slice_get s.macro_rules id.0)
+shown_macro s (Macro2 id) = option_map macro2_loc (slice_get s.macro2s id.0)
+shown_macro s (ProcMacro id) = option_map proc_macro_loc (slice_get s.proc_macros id.0)
 
 -- what a session's tables show
 abbrev pub session_of : Interner → Session
 session_of s =
     record {
       text = λ name. slice_get s.names name.0;
-      item = item_at s;
-      macro_at = macro_at s;
+      item = shown_item s;
+      macro_at = shown_macro s;
       derive_impl = slice_get s.builtin_derive_impls;
     }

@@ -36,7 +36,7 @@ impl Interner {
     ghost use Rattle.std.specs.Prelude.{OnOk, slice_get};
     ghost use Rattle.item_tree.specs.Numbering.{IsGrownBy};
     ghost use Rattle.def_ids.specs.Interner.{first_tables};
-    ghost use Rattle.def_ids.specs.Session.{Grows, session_of};
+    ghost use Rattle.def_ids.specs.Session.{Grows, IsInjective, session_of};
 
     /// A session that knows the names with which every table begins, and no location.
     pub fn new(alloc: Global) -> Result<Interner, AllocError>
@@ -63,7 +63,7 @@ impl Interner {
         })
     }
     /// The name of this text: its own if it has one, else the next.
-    #[tactic(auto, using(crate::specs::TableLaws::grows_names))]
+    #[tactic(auto, using(crate::proofs::TableLemmas::grows_names))]
     pub fn intern_name(&mut self, text: &str) -> Result<Name, AllocError>
         // On success the name has this text.
         ensures stored { IfOk result (λ name. (session_of self.new).text name ≡ Some text.now) }
@@ -84,5 +84,25 @@ impl Interner {
         ensures { option_map (λ t. t.now) result ≡ (session_of self.now).text name }
     {
         self.names.text(name)
+    }
+    /// A law for contracts: equal items, and equal impls of derives, have equal ids.
+    /// Nothing happens when it runs.
+    #[tactic(auto, using(crate::proofs::SessionLemmas::injective_from_tables))]
+    pub fn has_unique_ids(&self)
+        ensures { IsInjective (session_of self.now) }
+    {
+        self.functions.len();
+        self.structs.len();
+        self.unions.len();
+        self.enums.len();
+        self.consts.len();
+        self.statics.len();
+        self.traits.len();
+        self.type_aliases.len();
+        self.impls.len();
+        self.uses.len();
+        self.extern_crates.len();
+        self.extern_blocks.len();
+        self.builtin_derive_impls.len();
     }
 }

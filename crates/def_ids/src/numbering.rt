@@ -1,5 +1,5 @@
 //! `Numbering`: values that are numbered as they are first met.
-ghost use Rattle.std.specs.Prelude.{◌≡◌, [], Some, slice_get, IfOk, OnOk, OnErr};
+ghost use Rattle.std.specs.Prelude.{◌≡◌, [], length, Some, slice_get, IfOk, OnOk, OnErr};
 ghost use Rattle.std.specs.Option.{option_copied};
 ghost use Rattle.item_tree.specs.Numbering.{IsInjective, IsGrownBy};
 
@@ -34,6 +34,14 @@ impl<T: Exact + Hash + Drop> Numbering<T> {
         Numbering {
             values: IndexSet::new(alloc),
         }
+    }
+
+    /// How many values there are. No two of them are equal.
+    pub fn len(&self) -> usize
+        ensures len { result ≡ length self.now }
+        ensures injective { IsInjective self.now }
+    {
+        self.values.len()
     }
 
     /// The number of this value: its own if it has one, else the next.

@@ -5,3 +5,6 @@ pub mod CrateLemmas
 pub mod FreshLemmas
 pub mod BareLemmas
 pub mod EmptiedLemmas
+pub mod SourcesLemmas
+pub mod AnswersLemmas
+pub mod PathsFacts

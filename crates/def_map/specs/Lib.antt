@@ -10,3 +10,13 @@ pub mod Tables
 pub mod Fresh
 pub mod DefMaps
 pub mod Locals
+pub mod PerNs
+pub mod Items
+pub mod Queries
+pub mod Oracle
+pub mod Sources
+pub mod Asking
+pub mod Answers
+pub mod OuterMaps
+pub mod Modes
+pub mod Paths

@@ -7,18 +7,32 @@ mod def_map;
 mod fresh;
 mod keyed_lists;
 mod local_def_map;
+mod macro_resolver;
 mod map;
 mod map_reads;
 mod module_data;
 mod module_writes;
+mod path_resolution;
+mod per_ns;
+mod source_database;
 mod table;
 
 pub use block::BlockInfo;
 pub use def_map::DefMap;
 pub use local_def_map::{ExternPreludeEntry, LocalDefMap};
+pub use macro_resolver::MacroResolver;
 pub use map::{DeriveHelper, MapData};
 pub use module_data::{
     DeriveCall, DeriveKey, DeriveMacroInvocation, Invocation, ModuleData, ModuleOrigin, Position,
     ScopeData,
+};
+pub use path_resolution::{
+    Asked, BuiltinShadowMode, PrefixInfo, ReachedFixedPoint, ResolveMode, ResolvePathResult,
+};
+pub use per_ns::{Item, MacroSubNs, PerNs, public_item};
+pub use source_database::{
+    AssocItem, AssocItemKind, AssocItemsOwner, AssocList, AttrCallQuery, CallAnswer, CallQuery,
+    CrateData, Dependency, DeriveCallQuery, EnumVariant, LangCrate, SourceDatabase,
+    UnresolvedMacro,
 };
 pub use table::Table;

@@ -1,10 +1,11 @@
 //! The ids of items.
-#![tactic(auto, using(crate::specs::TableLaws::item_tables), unfolding(crate::specs::Session::item_at))]
+#![tactic(auto, using(crate::proofs::TableLemmas::items), unfolding(crate::specs::Session::shown_item))]
 
 ghost use Rattle.std.specs.Prelude.{◌≡◌};
 ghost use Rattle.def_ids.specs.Session.{ItemLoc, in_container, in_module};
-ghost use Rattle.def_ids.specs.Session.{FunctionItem, StructItem, UnionItem, EnumItem, ConstItem, StaticItem};
-ghost use Rattle.def_ids.specs.Session.{TraitItem, TypeAliasItem, ImplItem, UseItem, ExternCrateItem, ExternBlockItem};
+ghost use Rattle.def_ids.specs.Session.{FunctionItem, StructItem, UnionItem, EnumItem};
+ghost use Rattle.def_ids.specs.Session.{ConstItem, StaticItem, TraitItem, TypeAliasItem};
+ghost use Rattle.def_ids.specs.Session.{ImplItem, UseItem, ExternCrateItem, ExternBlockItem};
 
 use crate::ids::{
     ConstId, EnumId, ExternBlockId, ExternCrateId, FunctionId, ImplId, StaticId, StructId, TraitId,

@@ -1,5 +1,5 @@
 //! The ids of macros and of builtin derives' impls.
-#![tactic(auto, using(crate::specs::TableLaws::other_tables), unfolding(crate::specs::Session::macro_at))]
+#![tactic(auto, using(crate::proofs::TableLemmas::others), unfolding(crate::specs::Session::shown_macro))]
 
 ghost use Rattle.std.specs.Prelude.{◌≡◌};
 ghost use Rattle.def_ids.specs.Session.{MacroLoc, rules_loc, macro2_loc, proc_macro_loc};
@@ -10,6 +10,7 @@ use crate::ids::{BuiltinDeriveImplId, Macro2Id, MacroId, MacroRulesId, ProcMacro
 use crate::interner::Interner;
 use crate::location::{Location, LocationId};
 use crate::locs::{BuiltinDeriveImplLoc, Macro2Loc, MacroRulesLoc, ProcMacroLoc};
+use crate::macro_def::{MacroDefId, MacroDefKind};
 use std::alloc::AllocError;
 
 impl LocationId for MacroRulesId {
@@ -121,5 +122,41 @@ impl Location for BuiltinDeriveImplLoc {
 
     fn intern(self, session: &mut Interner) -> Result<BuiltinDeriveImplId, AllocError> {
         Ok(BuiltinDeriveImplId(session.builtin_derive_impls.number(self)?))
+    }
+}
+
+impl Interner {
+    ghost use Rattle.def_ids.specs.Session.{macro_def, session_of};
+
+    /// A macro with its crate and what expands it, if the session knows it.
+    pub fn macro_def(&self, id: MacroId) -> Option<MacroDefId>
+        ensures { result ≡ macro_def (session_of self.now) id }
+    {
+        match id {
+            MacroId::MacroRules(rules) => {
+                let loc = rules.lookup(self)?;
+                Some(MacroDefId {
+                    krate: loc.container.map.krate,
+                    id,
+                    kind: loc.expander.def_kind(),
+                })
+            }
+            MacroId::Macro2(macro2) => {
+                let loc = macro2.lookup(self)?;
+                Some(MacroDefId {
+                    krate: loc.container.map.krate,
+                    id,
+                    kind: loc.expander.def_kind(),
+                })
+            }
+            MacroId::ProcMacro(proc_macro) => {
+                let loc = proc_macro.lookup(self)?;
+                Some(MacroDefId {
+                    krate: loc.container.map.krate,
+                    id,
+                    kind: MacroDefKind::ProcMacro(loc.expander, loc.kind),
+                })
+            }
+        }
     }
 }

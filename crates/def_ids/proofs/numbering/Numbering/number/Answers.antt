@@ -1,4 +1,4 @@
-use Rattle.item_tree.proofs.NumberingLemmas.{injective_from_distinct}
+use Rattle.def_ids.proofs.NumberingLemmas.{injective_from_distinct}
 use Rattle.def_ids.proofs.numbering.Numbering.number.Goals as goal
 
 pub returns-in_err-i-clause-injective : goal.returns-in_err-i-clause-injective

@@ -1,0 +1,6 @@
+mod IdsFacts
+mod MacroKindsFacts
+mod NumberingLemmas
+mod SessionFacts
+mod SessionLemmas
+mod TableLemmas

@@ -1,0 +1,193 @@
+-- Answers of paths: what a missing prefix gives, and answers joined one after the other.
+use Rattle.std.proofs.Common.{◌≡◌, ◌∙◌, ap, sym, refl, arith, ◌+◌, ◌<◌, ℕ, Bool, true, false, not, ◌&&◌, ◌||◌, cond, if◌then◌else◌, List, [], ◌∷◌, ◌++◌, length, take, drop, get_or, drop-cons, add-one, Option, Some, None, is_none}
+use Rattle.std.proofs.lemmas.List.{take_more}
+use Rattle.std.specs.List.{list_any, find, cons_option}
+use Rattle.std.specs.Option.{option_or, unwrap_or}
+use Rattle.item_tree.specs.declared.mod_path.ModPath.{ModPath}
+use Rattle.item_tree.specs.declared.name.Name.{Name}
+use Rattle.def_ids.specs.declared.ids.ModuleId.{ModuleId}
+use Rattle.def_ids.specs.Ids.{is_same_map}
+use Rattle.def_map.specs.declared.path_resolution.asked.PrefixInfo.{PrefixInfo}
+use Rattle.def_map.specs.declared.path_resolution.asked.ReachedFixedPoint.{ReachedFixedPoint}
+use Rattle.def_map.specs.declared.path_resolution.asked.ReachedFixedPoint.TheVariants.{Yes, No}
+use Rattle.def_map.specs.declared.path_resolution.asked.ResolvePathResult.{ResolvePathResult}
+use Rattle.def_map.specs.declared.per_ns.MacroSubNs.{MacroSubNs}
+use Rattle.def_map.specs.declared.per_ns.PerNs.{PerNs}
+use Rattle.def_map.specs.Answers.{missing, walk, answer_after, answer_from, leading, is_reached, joined, first_resolved}
+use Rattle.def_map.specs.MapView.{MapView}
+use Rattle.def_map.specs.Items.{is_fitting}
+use Rattle.def_map.specs.OuterMaps.{is_alone, answer_outside, answers_outside}
+use Rattle.def_map.specs.PerNs.{Item, otherwise, is_nothing, per_namespace}
+use Rattle.def_map.specs.Sources.{Question, Source, first_found, by_sources, relative_sources}
+use Rattle.def_map.proofs.SourcesLemmas.{option_or-none, option_or-or, per_namespace-equal}
+
+-- with nothing in types no later segment means anything
+pub walk-missing : (q : Question) (own : MapView) (crossed : Bool) (found : PerNs) (i : ℕ) (names : List Name)
+    → found.types ≡ None → 0 < length names → missing crossed ≡ walk q own crossed found i names
+walk-missing q own crossed found i [] e l = let none : ⊥ = omega arith in absurd none
+walk-missing q own crossed found i (name ∷ names) e l = rw e
+
+-- a path by sources, from what its first segment means
+answer_from-first : (q : Question) (own : MapView) (keep : Item → Bool) (sources : List Source) (names : List Name) (d : Name) (found : PerNs)
+    → 0 < length names → found ≡ per_namespace (first_found keep sources (get_or names 0 d))
+    → answer_after q own found (drop 1 names) ≡ answer_from q own keep (by_sources sources) names
+answer_from-first q own keep sources [] d found l p = let none : ⊥ = omega arith in absurd none
+answer_from-first q own keep sources (name ∷ names) d found l p = ap (λ f. answer_after q own f names) p
+
+-- a plain path, from what its first segment means
+pub plain-answer : (q : Question) (own : MapView) (place : ModuleId) (asked : Option MacroSubNs) (segments names : List Name)
+    (alone : Bool) (sub : Option MacroSubNs) (d : Name) (found : PerNs) (result : ResolvePathResult)
+    → segments ≡ names → 0 < length segments → alone ≡ is_alone segments → sub ≡ (if alone then asked else None)
+    → found ≡ per_namespace (first_found (is_fitting q.kind_of sub) (relative_sources q own place alone) (get_or segments 0 d))
+    → result ≡ answer_after q own found (drop 1 segments)
+    → result ≡ answer_from q own (is_fitting q.kind_of (if is_alone names then asked else None)) (by_sources (relative_sources q own place (is_alone names))) names
+plain-answer q own place asked segments names alone sub d found result same some is_one is_asked first after =
+    let answer : Bool → Option MacroSubNs → List Name → ResolvePathResult = λ b s n. answer_from q own (is_fitting q.kind_of s) (by_sources (relative_sources q own place b)) n in
+    after
+    ∙ answer_from-first q own (is_fitting q.kind_of sub) (relative_sources q own place alone) segments d found some first
+    ∙ ap (λ s. answer alone s segments) is_asked
+    ∙ ap (λ b. answer b (if b then asked else None) segments) is_one
+    ∙ ap (λ n. answer (is_alone n) (if is_alone n then asked else None) n) same
+
+abbrev pub answer_with : PerNs → Option ℕ → ReachedFixedPoint → PrefixInfo → ResolvePathResult
+answer_with found index fixed info = record { resolved_def = found; segment_index = index; reached_fixedpoint = fixed; prefix_info = info }
+
+-- equal in each field
+pub answer-equal : (a b : ResolvePathResult) → a.resolved_def ≡ b.resolved_def → a.segment_index ≡ b.segment_index
+    → a.reached_fixedpoint ≡ b.reached_fixedpoint → a.prefix_info ≡ b.prefix_info → a ≡ b
+answer-equal a b p q r s =
+    ap (λ x. answer_with x a.segment_index a.reached_fixedpoint a.prefix_info) p
+    ∙ ap (λ x. answer_with b.resolved_def x a.reached_fixedpoint a.prefix_info) q
+    ∙ ap (λ x. answer_with b.resolved_def b.segment_index x a.prefix_info) r
+    ∙ ap (answer_with b.resolved_def b.segment_index b.reached_fixedpoint) s
+
+-- reached where one of two is
+abbrev either_reached : ReachedFixedPoint → ReachedFixedPoint → ReachedFixedPoint
+either_reached Yes b = Yes
+either_reached No b = b
+
+-- two answers as one
+abbrev join_of : ResolvePathResult → ResolvePathResult → ResolvePathResult
+join_of a b = record {
+  resolved_def = otherwise a.resolved_def b.resolved_def;
+  segment_index = (leading a (b ∷ [])).segment_index;
+  reached_fixedpoint = either_reached a.reached_fixedpoint b.reached_fixedpoint;
+  prefix_info = (leading a (b ∷ [])).prefix_info;
+}
+
+reached-join : (a b : ReachedFixedPoint) (rest : Bool)
+    → (if is_reached a || (is_reached b || rest) then Yes else No) ≡ (if is_reached (either_reached a b) || rest then Yes else No)
+reached-join Yes b rest = refl
+reached-join No b rest = refl
+
+none-or : (a b : Option Item) → is_none (option_or a b) ≡ (is_none a && is_none b)
+none-or None b = refl
+none-or (Some x) b = refl
+
+is_nothing-otherwise : (a b : PerNs) → is_nothing (otherwise a b) ≡ (is_nothing a && is_nothing b)
+is_nothing-otherwise a b = by_options a.types a.values a.macros b
+  where
+    by_options : (t v m : Option Item) (b : PerNs)
+        → is_nothing (otherwise (record { types = t; values = v; macros = m }) b) ≡ (is_nothing (record { types = t; values = v; macros = m }) && is_nothing b)
+    by_options None None None b = refl
+    by_options None None (Some m) b = by_two (is_none b.types) (is_none b.values)
+      where
+        by_two : (x y : Bool) → ((x && y) && false) ≡ false
+        by_two true true = refl
+        by_two true false = refl
+        by_two false y = refl
+    by_options None (Some v) m b = by_one (is_none b.types)
+      where
+        by_one : (x : Bool) → ((x && false) && is_none (option_or m b.macros)) ≡ false
+        by_one true = refl
+        by_one false = refl
+    by_options (Some t) v m b = refl
+
+-- the leading answer of three in two steps
+pick-join : {F : Type 0} (field : ResolvePathResult → F) (x y : Bool) (a b j : ResolvePathResult) (r : Option ResolvePathResult)
+    → field j ≡ field (unwrap_or (cond (not x) (Some a) (cond (not y) (Some b) None)) a)
+    → field (unwrap_or (cond (not x) (Some a) (cond (not y) (Some b) r)) a) ≡ field (unwrap_or (cond (not (x && y)) (Some j) r) j)
+pick-join field false y a b j r e = sym e
+pick-join field true false a b j r e = sym e
+pick-join field true true a b j None e = sym e
+pick-join field true true a b j (Some c) e = refl
+
+leading-join : {F : Type 0} (field : ResolvePathResult → F) (a b : ResolvePathResult) (rest : List ResolvePathResult)
+    → field (join_of a b) ≡ field (leading a (b ∷ [])) → field (leading a (b ∷ rest)) ≡ field (leading (join_of a b) rest)
+leading-join field a b rest e =
+    let r : Option ResolvePathResult = find (λ x. not (is_nothing x.resolved_def)) rest in
+    pick-join field (is_nothing a.resolved_def) (is_nothing b.resolved_def) a b (join_of a b) r e
+    ∙ ap (λ n. field (unwrap_or (cond (not n) (Some (join_of a b)) r) (join_of a b))) (sym (is_nothing-otherwise a.resolved_def b.resolved_def))
+
+join-more : (a b : ResolvePathResult) (rest : List ResolvePathResult) → joined a (b ∷ rest) ≡ joined (join_of a b) rest
+join-more a b rest =
+    answer-equal _ _
+    (per_namespace-equal _ _
+    (sym (option_or-or a.resolved_def.types b.resolved_def.types (first_resolved (λ p. p.types) rest)))
+    (sym (option_or-or a.resolved_def.values b.resolved_def.values (first_resolved (λ p. p.values) rest)))
+    (sym (option_or-or a.resolved_def.macros b.resolved_def.macros (first_resolved (λ p. p.macros) rest))))
+    (leading-join (λ x. x.segment_index) a b rest refl)
+    (reached-join a.reached_fixedpoint b.reached_fixedpoint (list_any (λ x. is_reached x.reached_fixedpoint) rest))
+    (leading-join (λ x. x.prefix_info) a b rest refl)
+
+-- one answer alone
+pub joined-none : (a : ResolvePathResult) → joined a [] ≡ a
+joined-none a =
+    answer-equal _ _
+    (per_namespace-equal _ _ (option_or-none a.resolved_def.types) (option_or-none a.resolved_def.values) (option_or-none a.resolved_def.macros))
+    (alone (λ x. x.segment_index) (not (is_nothing a.resolved_def)))
+    (fixed a.reached_fixedpoint)
+    (alone (λ x. x.prefix_info) (not (is_nothing a.resolved_def)))
+  where
+    alone : {F : Type 0} (field : ResolvePathResult → F) (x : Bool) → field (unwrap_or (cond x (Some a) None) a) ≡ field a
+    alone field true = refl
+    alone field false = refl
+
+    fixed : (r : ReachedFixedPoint) → (if is_reached r || false then Yes else No) ≡ r
+    fixed Yes = refl
+    fixed No = refl
+
+-- answers are joined two at a time
+pub joined-more : (a b : ResolvePathResult) (rest : List ResolvePathResult) → joined a (b ∷ rest) ≡ joined (joined a (b ∷ [])) rest
+joined-more a b rest = join-more a b rest ∙ ap (λ x. joined x rest) (sym (join-more a b [] ∙ joined-none (join_of a b)))
+
+or_false : (b : Bool) → (b || false) ≡ b
+or_false true = refl
+or_false false = refl
+
+-- two answers as one, field by field
+pub joined-two : (a b : ResolvePathResult) (found : PerNs) (r : ReachedFixedPoint) (lead : ResolvePathResult)
+    → found ≡ otherwise a.resolved_def b.resolved_def → is_reached r ≡ (is_reached a.reached_fixedpoint || is_reached b.reached_fixedpoint)
+    → lead ≡ leading a (b ∷ []) → answer_with found lead.segment_index r lead.prefix_info ≡ joined a (b ∷ [])
+joined-two a b found r lead p q e =
+    answer-equal _ _
+    (p ∙ per_namespace-equal _ _ (one a.resolved_def.types b.resolved_def.types) (one a.resolved_def.values b.resolved_def.values) (one a.resolved_def.macros b.resolved_def.macros))
+    (ap (λ x. x.segment_index) e)
+    (by_test r ∙ ap (λ t. if t then Yes else No) (q ∙ ap (λ y. is_reached a.reached_fixedpoint || y) (sym (or_false (is_reached b.reached_fixedpoint)))))
+    (ap (λ x. x.prefix_info) e)
+  where
+    one : (x y : Option Item) → option_or x y ≡ option_or x (option_or y None)
+    one x y = ap (option_or x) (sym (option_or-none y))
+
+    by_test : (r : ReachedFixedPoint) → r ≡ (if is_reached r then Yes else No)
+    by_test Yes = refl
+    by_test No = refl
+
+-- a map that was asked before, and one that is asked now
+pub outside-seen : (q : Question) (path : ModPath) (before : List ModuleId) (m : ModuleId) (rest : List ModuleId)
+    → list_any (λ b. is_same_map b.map m.map) before ≡ true → answers_outside q path (before ++ m ∷ []) rest ≡ answers_outside q path before (m ∷ rest)
+outside-seen q path before m rest e = rw e
+
+pub outside-new : (q : Question) (path : ModPath) (before : List ModuleId) (m : ModuleId) (rest : List ModuleId) (answer : Option ResolvePathResult)
+    → list_any (λ b. is_same_map b.map m.map) before ≡ false → answer ≡ answer_outside q path m
+    → answers_outside q path before (m ∷ rest) ≡ cons_option answer (answers_outside q path (before ++ m ∷ []) rest)
+outside-new q path before m rest answer e p = rw (e, p)
+
+-- one more of the modules that contain a block
+pub outside-step : (q : Question) (path : ModPath) (xs : List ModuleId) (i : ℕ) (d : ModuleId) (result answer : ResolvePathResult) → i < length xs
+    → ((rest : List ModuleId) → joined result (answers_outside q path (take i xs ++ get_or xs i d ∷ []) rest) ≡ joined answer (answers_outside q path (take i xs) (get_or xs i d ∷ rest)))
+    → joined result (answers_outside q path (take (i + 1) xs) (drop (i + 1) xs)) ≡ joined answer (answers_outside q path (take i xs) (drop i xs))
+outside-step q path xs i d result answer l h =
+    ap (λ b. joined result (answers_outside q path b (drop (i + 1) xs))) (take_more xs i d l)
+    ∙ h (drop (i + 1) xs)
+    ∙ ap (λ rest. joined answer (answers_outside q path (take i xs) rest)) (sym (drop-cons xs i d l ∙ ap (λ j. get_or xs i d ∷ drop j xs) (sym (add-one i))))

@@ -1,0 +1,271 @@
+//! What is handed in: the answers on files, crates, macros and finished maps.
+ghost use Rattle.std.specs.Prelude.{◌≡◌, map, option_map, IfOk};
+ghost use Rattle.std.specs.Option.{option_copied};
+
+use crate::def_map::DefMap;
+use crate::local_def_map::LocalDefMap;
+use crate::macro_resolver::MacroResolver;
+use def_ids::{BuiltinAttr, EnumLoc, ImplId, MacroDefId, TraitId, VariantId};
+use either::Either;
+use item_tree::{
+    AttrId, AttrInput, AttrsOrCfg, BlockId, Crate, ExpandTo, FileAstId, FileId, HirFileId, InFile,
+    ItemTree, MacroCallId, MacroCallStyles, ModPath, Name, Seq, SyntaxContext, TreeId,
+};
+use std::alloc::{AllocError, Global};
+
+/// A crate of the language itself.
+#[derive(Clone, Copy)]
+pub enum LangCrate {
+    Core,
+    Std,
+}
+
+/// A crate that another one depends on.
+#[derive(Clone, Copy)]
+pub struct Dependency {
+    /// Under which name the other crate knows it.
+    pub name: Name,
+    pub krate: Crate,
+    /// Whether its name is in the extern prelude.
+    pub prelude: bool,
+    /// Whether it comes with the compiler.
+    pub sysroot: bool,
+}
+
+/// What is known of a crate.
+#[derive(Drop)]
+pub struct CrateData {
+    pub root_file: FileId,
+    /// Whether it is a crate of procedural macros.
+    pub proc_macro: bool,
+    pub lang: Option<LangCrate>,
+    pub deps: Seq<Dependency>,
+}
+
+/// A macro call that is asked for.
+#[derive(Clone, Copy)]
+pub struct CallQuery<'a> {
+    pub position: InFile<FileAstId>,
+    pub path: &'a ModPath,
+    pub ctxt: SyntaxContext,
+    pub kind: ExpandTo,
+    pub krate: Crate,
+    /// The depth of the expansion that the call would give.
+    pub depth: u32,
+    pub recursion_limit: u32,
+}
+
+/// What a macro call gave: its number, if there is one, an error's number, and the calls that were
+/// made for its arguments, each with its position.
+#[derive(Drop)]
+pub struct CallAnswer {
+    pub value: Option<MacroCallId>,
+    pub err: Option<u32>,
+    pub inner: Seq<(InFile<FileAstId>, MacroCallId)>,
+}
+
+/// The path of a macro that was not found.
+#[derive(Drop)]
+pub struct UnresolvedMacro {
+    pub path: ModPath,
+}
+
+/// An attribute macro's call that is asked for.
+#[derive(Clone, Copy)]
+pub struct AttrCallQuery<'a> {
+    pub krate: Crate,
+    pub macro_def: MacroDefId,
+    /// The item that has the attribute.
+    pub position: InFile<FileAstId>,
+    pub attr_id: AttrId,
+    pub input: Option<&'a AttrInput>,
+    pub ctxt: SyntaxContext,
+    /// The attributes that the expansion is not to see.
+    pub censored: &'a [AttrId],
+    pub depth: u32,
+}
+
+/// A derive's call that is asked for.
+#[derive(Clone, Copy)]
+pub struct DeriveCallQuery {
+    pub krate: Crate,
+    pub macro_def: MacroDefId,
+    /// The item that has the derive attribute.
+    pub position: InFile<FileAstId>,
+    pub attr_id: AttrId,
+    /// The place of the derive's path in the attribute's list.
+    pub pos: usize,
+    /// The context of that path.
+    pub ctxt: SyntaxContext,
+    /// The call of the derive attribute.
+    pub derive_call: MacroCallId,
+    pub depth: u32,
+}
+
+/// A variant of an enum.
+#[derive(Clone, Copy)]
+pub struct EnumVariant {
+    pub name: Name,
+    pub id: VariantId,
+    /// Whether it is in values too.
+    pub value_ctor: bool,
+}
+
+/// What has associated items.
+#[derive(Clone, Copy, PartialEq, Eq)]
+pub enum AssocItemsOwner {
+    Trait(TraitId),
+    Impl(ImplId),
+    /// The expansion of a macro call among associated items.
+    Expansion(MacroCallId),
+}
+
+/// What an associated item is.
+#[derive(Drop)]
+pub enum AssocItemKind {
+    Fn(Option<Name>),
+    TypeAlias(Option<Name>),
+    Const(Option<Name>),
+    MacroCall {
+        path: Option<ModPath>,
+        ctxt: SyntaxContext,
+    },
+    Other,
+}
+
+/// An associated item.
+#[derive(Drop)]
+pub struct AssocItem {
+    pub ast_id: FileAstId,
+    pub attrs: Option<AttrsOrCfg>,
+    pub kind: AssocItemKind,
+}
+
+/// The items of a trait, an impl or an expansion.
+#[derive(Drop)]
+pub struct AssocList {
+    /// Whether the trait is an alias of other traits.
+    pub is_alias: bool,
+    pub items: Seq<AssocItem>,
+}
+
+/// The answers on files, crates, macros and finished maps. Each is a function of its arguments.
+///
+/// A macro call asks the resolver only for paths that the call itself determines, and its answer
+/// follows from what the resolver finds for them: resolvers of equal meaning get equal answers.
+pub trait SourceDatabase {
+    ghost use Rattle.def_ids.specs.Session.{in_module};
+    ghost use Rattle.def_map.specs.DefMaps.{view_of};
+    ghost use Rattle.def_map.specs.Locals.{local_view};
+    ghost use Rattle.def_map.specs.Oracle.{Oracle};
+    ghost use Rattle.def_map.specs.Queries.{plain_call, plain_attr_call};
+
+    /// All answers.
+    ghost oracle: { Self → Oracle };
+
+    /// The items of a file or a block. None counts as an empty tree.
+    fn item_tree(&self, id: TreeId) -> Option<&ItemTree>
+        ensures { option_copied result ≡ (oracle self.now).item_tree id };
+
+    fn crate_data(&self, krate: Crate) -> Option<&CrateData>
+        ensures { option_copied result ≡ (oracle self.now).crate_data krate };
+
+    /// The finished map of a crate.
+    fn crate_def_map(&self, krate: Crate) -> Option<&DefMap>
+        ensures { option_map (λ m. view_of m.now) result ≡ (oracle self.now).crate_def_map krate };
+
+    /// The finished map of a block.
+    fn outer_map(&self, block: BlockId) -> Option<&DefMap>
+        ensures { option_map (λ m. view_of m.now) result ≡ (oracle self.now).outer_map block };
+
+    /// The finished local map of a crate.
+    fn local_def_map(&self, krate: Crate) -> Option<&LocalDefMap>
+        ensures { option_map (λ m. local_view m.now) result ≡ (oracle self.now).local_def_map krate };
+
+    /// The file at a path, seen from another file.
+    fn resolve_path(&self, anchor: FileId, path: &str) -> Option<FileId>
+        ensures { result ≡ (oracle self.now).resolve_path anchor path.now };
+
+    /// The source file behind expansions.
+    fn original_file(&self, file: HirFileId) -> FileId
+        ensures { result ≡ (oracle self.now).original_file file };
+
+    /// How many expansions lead to a file.
+    fn expansion_depth(&self, file: HirFileId) -> u32
+        ensures { result ≡ (oracle self.now).expansion_depth file };
+
+    /// Expands a macro call, if the resolver finds its macro.
+    fn macro_call<R: MacroResolver>(
+        &self,
+        alloc: Global,
+        query: CallQuery<'_>,
+        resolver: &R,
+    ) -> Result<Result<CallAnswer, UnresolvedMacro>, AllocError>
+        ensures { let asked = (oracle self.now).asked_paths (plain_call query.entry) in
+            let found = map (R.resolved resolver.now) asked in
+            IfOk result (λ answer. answer ≡ (oracle self.now).macro_call (plain_call query.entry) found) };
+
+    fn make_attr_call(&self, query: AttrCallQuery<'_>) -> MacroCallId
+        ensures { result ≡ (oracle self.now).make_attr_call (plain_attr_call query.entry) };
+
+    fn make_derive_call(&self, query: DeriveCallQuery) -> MacroCallId
+        ensures { result ≡ (oracle self.now).make_derive_call query };
+
+    /// Whether a call is one of `include!`.
+    fn is_include(&self, call: MacroCallId) -> bool
+        ensures { result ≡ (oracle self.now).is_include call };
+
+    /// The variants of an enum, in order.
+    fn enum_variants(&self, loc: &EnumLoc) -> Option<&[EnumVariant]>
+        ensures { option_copied result ≡ (oracle self.now).enum_variants (in_module loc.now.container loc.now.position) };
+
+    fn assoc_items(&self, owner: AssocItemsOwner) -> Option<&AssocList>
+        ensures { option_copied result ≡ (oracle self.now).assoc_items owner };
+
+    /// The ways in which the rules of a macro, in a crate, may be called.
+    fn rule_styles(&self, position: InFile<FileAstId>, krate: Crate) -> MacroCallStyles
+        ensures { result ≡ (oracle self.now).rule_styles position krate };
+
+    /// The procedural macros that were built for a crate: name, number, and whether it is switched
+    /// off.
+    fn proc_macros(&self, krate: Crate) -> &[(Name, u32, bool)]
+        ensures { result.now ≡ (oracle self.now).proc_macros krate };
+
+    /// The builtin macro of a name: on the left one that is expanded as it stands, on the right an
+    /// eager one.
+    fn find_builtin_macro(&self, name: Name) -> Option<Either<u32, u32>>
+        ensures { result ≡ (oracle self.now).find_builtin_macro name };
+
+    fn find_builtin_derive(&self, name: Name) -> Option<u32>
+        ensures { result ≡ (oracle self.now).find_builtin_derive name };
+
+    fn find_builtin_attr(&self, name: Name) -> Option<BuiltinAttr>
+        ensures { result ≡ (oracle self.now).find_builtin_attr name };
+
+    fn builtin_type(&self, name: Name) -> Option<u32>
+        ensures { result ≡ (oracle self.now).builtin_type name };
+
+    /// Whether an attribute of this name is the compiler's own.
+    fn is_builtin_attr(&self, name: Name) -> bool
+        ensures { result ≡ (oracle self.now).is_builtin_attr name };
+
+    /// Whether a builtin derive gives an impl with no expansion.
+    fn has_builtin_derive_impl(&self, derive: u32) -> bool
+        ensures { result ≡ (oracle self.now).has_builtin_derive_impl derive };
+
+    /// The traits that a builtin derive implements.
+    fn derive_traits(&self, derive: u32) -> &[u32]
+        ensures { result.now ≡ (oracle self.now).derive_traits derive };
+
+    /// Whether a crate is compiled with this condition of one word.
+    fn cfg_flag(&self, krate: Crate, name: Name) -> bool
+        ensures { result ≡ (oracle self.now).cfg_flag krate name };
+
+    /// Whether builtin derives give impls with no expansion where they can.
+    fn builtin_derive_fast_path(&self) -> bool
+        ensures { result ≡ (oracle self.now).builtin_derive_fast_path };
+
+    /// Whether attribute macros are expanded.
+    fn expand_proc_attr_macros(&self) -> bool
+        ensures { result ≡ (oracle self.now).expand_proc_attr_macros };
+}
