@@ -77,7 +77,7 @@ pub record KnowsNothing (d : MapData) : Type 0 where
   pub no_core : d.no_core ≡ false
   pub no_std : d.no_std ≡ false
   pub coherence : d.rustc_coherence_is_core ≡ false
-  pub features : d.features.keys ≡ []
+  pub features : d.features.names.keys ≡ []
   pub tools : d.registered_tools ≡ known_tools
   pub exported : (k : MacroId) → unwrap_or (get macros.ghosts.eq d.exported_derives k) [] ≡ []
   pub macro_of_function : d.fn_as_proc_macro.entries ≡ []
@@ -105,7 +105,7 @@ module _ (d : MapData) where
       no_core = n.no_core i;
       no_std = n.no_std i;
       coherence_is_core = n.coherence i;
-      features = members_none is_name name-refl d.features n.features i;
+      features = members_none is_name name-refl d.features.names n.features i;
       tools = n.tools i;
       exported_helpers = λ k. (same_exported k ∙ n.exported k) i;
       macro_of_function = keys_none function_eq function-refl d.fn_as_proc_macro n.macro_of_function i;
@@ -123,7 +123,7 @@ module _ (d : MapData) where
     no_core = λ i. (h.krate i).no_core;
     no_std = λ i. (h.krate i).no_std;
     coherence = λ i. (h.krate i).coherence_is_core;
-    features = no_members is_name name-refl d.features (λ i. (h.krate i).features);
+    features = no_members is_name name-refl d.features.names (λ i. (h.krate i).features);
     tools = λ i. (h.krate i).tools;
     exported = λ k. sym (same_exported k) ∙ (λ i. (h.krate i).exported_helpers k);
     macro_of_function = no_keys function_eq function-refl d.fn_as_proc_macro (λ i. (h.krate i).macro_of_function);

@@ -8,3 +8,4 @@ pub mod EmptiedLemmas
 pub mod SourcesLemmas
 pub mod AnswersLemmas
 pub mod PathsFacts
+pub mod IterLemmas

@@ -4,9 +4,10 @@ ghost use Rattle.std.specs.Option.{option_map_or};
 ghost use Rattle.def_bindings.specs.Tree.{are_apart};
 
 use crate::def_map::DefMap;
+use crate::map::UnstableFeatures;
 use def_bindings::ModuleTree;
 use def_ids::{FunctionId, MacroId, MapId, ModuleId, ProcMacroId};
-use indexmap::{IndexMap, IndexSet};
+use indexmap::IndexMap;
 use item_tree::{BlockId, Crate, Name, Seq};
 use std::alloc::{AllocError, Global};
 
@@ -21,7 +22,7 @@ pub struct BlockInfo {
     pub(crate) no_core: bool,
     pub(crate) no_std: bool,
     pub(crate) rustc_coherence_is_core: bool,
-    pub(crate) features: IndexSet<Name>,
+    pub(crate) features: UnstableFeatures,
     pub(crate) registered_tools: Seq<Name>,
     pub(crate) exported_derives: IndexMap<MacroId, Seq<Name>>,
     pub(crate) fn_as_proc_macro: IndexMap<FunctionId, ProcMacroId>,
@@ -81,10 +82,12 @@ impl BlockInfo {
 }
 
 /// A copy of the features.
-fn copied_features(features: &IndexSet<Name>) -> Result<IndexSet<Name>, AllocError>
-    ensures { IfOk result (λ copy. copy.keys ≡ features.now.keys) }
+fn copied_features(features: &UnstableFeatures) -> Result<UnstableFeatures, AllocError>
+    ensures { IfOk result (λ copy. copy.names.keys ≡ features.now.names.keys) }
 {
-    features.clone()
+    Ok(UnstableFeatures {
+        names: features.names.clone()?,
+    })
 }
 
 /// A copy of the tools.

@@ -15,7 +15,7 @@ impl MapData {
     pub fn enable_feature(&mut self, name: Name) -> Result<(), AllocError>
         ensures { OnOk result (map_state self.new ≡ with_feature (map_state self.old) name) }
     {
-        self.features.insert(name)?;
+        self.features.names.insert(name)?;
         Ok(())
     }
 

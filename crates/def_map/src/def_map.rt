@@ -11,7 +11,7 @@ ghost use Rattle.def_map.specs.DefMaps.{info_state, crate_map_id};
 
 use crate::block::BlockInfo;
 use crate::keyed_lists::no_items;
-use crate::map::MapData;
+use crate::map::{MapData, UnstableFeatures};
 use crate::module_data::{ModuleData, ModuleOrigin};
 use crate::table::Table;
 use def_bindings::{ModuleTree, Visibility};
@@ -123,7 +123,9 @@ fn crate_data(alloc: Global, krate: Crate, edition: Edition) -> Result<MapData, 
         no_core: false,
         no_std: false,
         rustc_coherence_is_core: false,
-        features: IndexSet::new(alloc),
+        features: UnstableFeatures {
+            names: IndexSet::new(alloc),
+        },
         registered_tools: tools_known(alloc)?,
         exported_derives: IndexMap::new(alloc),
         fn_as_proc_macro: IndexMap::new(alloc),

@@ -144,7 +144,7 @@ impl MapData {
             !self.no_core,
             !self.no_std,
             !self.rustc_coherence_is_core,
-            self.features.is_empty(),
+            self.features.names.is_empty(),
             are_known_tools(&self.registered_tools),
             are_lists_empty(&self.exported_derives),
             self.fn_as_proc_macro.is_empty(),
