@@ -5,3 +5,8 @@ pub mod RowEntriesLemmas
 pub mod ScopeTableLemmas
 pub mod NumbersLemmas
 pub mod NumberedTableLemmas
+pub mod TreeLemmas
+pub mod PutsFacts
+pub mod VisibilityFacts
+pub mod ContentFacts
+pub mod EmptyLemmas

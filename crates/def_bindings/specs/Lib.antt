@@ -2,7 +2,10 @@ pub mod Content
 pub mod Order
 pub mod Chains
 pub mod Tree
+pub mod IdLaws
+pub mod ContainingLaws
 pub mod TreeLaws
+pub mod ParentLaws
 pub mod Visibility
 pub mod VisibilityLaws
 pub mod ModuleTree
@@ -12,7 +15,6 @@ pub mod NameBindings
 pub mod Link
 pub mod RowEntries
 pub mod Row
-pub mod IdLaws
 pub mod ScopeTable
 pub mod ScopeTableLaws
 pub mod Lists
@@ -20,3 +22,8 @@ pub mod Numbers
 pub mod Places
 pub mod NumberedTable
 pub mod NumberedTableLaws
+pub mod Slots
+pub mod DefLaws
+pub mod HeldLaws
+pub mod SettledLaws
+pub mod PutsLaws

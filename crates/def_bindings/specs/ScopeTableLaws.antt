@@ -12,7 +12,7 @@ use Rattle.def_bindings.specs.declared.bindings.EdgeTo.{EdgeTo}
 use Rattle.def_bindings.specs.declared.name_bindings.NameBindings.{NameBindings}
 use Rattle.def_bindings.specs.declared.row.Row.{Row}
 use Rattle.def_bindings.specs.declared.scope_table.ScopeTable.{ScopeTable}
-use Rattle.def_bindings.specs.TreeLaws.{same_module_equal}
+use Rattle.def_bindings.specs.IdLaws.{same_module_equal}
 use Rattle.def_bindings.specs.IdLaws.{both}
 use Rattle.def_bindings.specs.Content.{is_name, is_listed, AreSources, AreTied}
 use Rattle.def_bindings.specs.NameBindings.{is_unbound}

@@ -1,5 +1,5 @@
 //! Values by module and key.
-ghost use Rattle.std.specs.Prelude.{◌≡◌, ◌<◌, ◌^◌, IsTrue, IsFalse, is_some, true, [], length, slice_get, OnOk, OnErr, Some};
+ghost use Rattle.std.specs.Prelude.{◌≡◌, ◌↔◌, ◌<◌, ◌^◌, IsTrue, IsFalse, is_some, true, [], length, slice_get, OnOk, OnErr, Some};
 ghost use Rattle.std.specs.List.{IsDistinct};
 ghost use Rattle.std.specs.Map.{lookup, keys_of};
 ghost use Rattle.indexmap.specs.IndexMap.{get, insert_entry, keys, Updates};
@@ -70,6 +70,13 @@ impl<K: Copy + Eq + Hash, W: Copy> Keyed<K, W> {
         ensures { result ≡ lookup (K.eq key) (own_entries self.now.entries.entries «module») }
     {
         self.entries.get(&Placed { at: module, key }).copied()
+    }
+
+    /// Whether there are no values.
+    pub fn is_empty(&self) -> bool
+        ensures { IsTrue result ↔ (own_entries self.now.entries.entries ≡ (λ m. [])) }
+    {
+        self.entries.is_empty()
     }
 
     /// Sets a value, in the place of the one with its key or last.

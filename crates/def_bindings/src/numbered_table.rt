@@ -1,5 +1,5 @@
 //! A table that keeps all bindings in one numbered list.
-ghost use Rattle.std.specs.Prelude.{◌≡◌, is_some, OnOk, OnErr, IfOk};
+ghost use Rattle.std.specs.Prelude.{◌≡◌, ◌↔◌, IsTrue, is_some, OnOk, OnErr, IfOk};
 ghost use Rattle.def_bindings.specs.Content.{AreTied, is_bound};
 ghost use Rattle.def_bindings.specs.Lists.{lists_of};
 ghost use Rattle.def_bindings.specs.Places.{bindings_of};
@@ -65,6 +65,19 @@ impl<V: Copy> NumberedTable<V> {
             unnamed: Keyed::new(alloc),
             edges: Keyed::new(alloc),
         })
+    }
+
+    /// Whether the table has nothing in it.
+    pub fn is_empty(&self) -> bool
+        ensures { IsTrue result ↔ (content_of self.now ≡ empty) }
+    {
+        if !self.places.is_empty() {
+            return false;
+        }
+        if !self.unnamed.is_empty() {
+            return false;
+        }
+        self.edges.is_empty()
     }
 
     /// Binds a name in a namespace, for the first time there.

@@ -31,6 +31,7 @@ exported-set eq same old new id helpers written = λ i q. at q i
     by : (b : Bool) (o : Option (List Name)) → option_map_or (λ names. names) (cond b (Some helpers) o) [] ≡ cond b helpers (option_map_or (λ names. names) o [])
     by true o = refl
     by false o = refl
+
     at : (q : MacroId) → exported_of new q ≡ set_where (macro_eq id) helpers (exported_of old) q
     at q = ap (λ f. option_map_or (λ names. names) (f q) []) (rekeyed eq macro_eq same old new id (Some helpers) written) ∙ by (macro_eq id q) (get macro_eq old q)
 
@@ -41,11 +42,14 @@ helpers-added eq same old new position helper written = λ i q. at q i
   where
     after : PushesUnder position_eq (get position_eq old) (get position_eq new) position helper
     after = let P : (Position → Position → Bool) → Type 0 = λ e. PushesUnder e (get e old) (get e new) position helper in subst P same written
+
     shown : (o : Option (List DeriveHelper)) → map helper_state (unwrap_or o [] ++ helper ∷ []) ≡ option_map_or (map helper_state) o [] ++ helper_state helper ∷ []
     shown None = refl
     shown (Some xs) = map-append helper_state xs (helper ∷ [])
+
     by : (b : Bool) (o : Option (List DeriveHelper)) → option_map_or (map helper_state) (cond b (Some (unwrap_or (get position_eq old position) [] ++ helper ∷ [])) o) [] ≡ cond b (helpers_of old position ++ helper_state helper ∷ []) (option_map_or (map helper_state) o [])
     by true o = shown (get position_eq old position)
     by false o = refl
+
     at : (q : Position) → helpers_of new q ≡ with_last_helper (helpers_of old) position (helper_state helper) q
     at q = ap (λ o. option_map_or (map helper_state) o []) (after q) ∙ by (position_eq position q) (get position_eq old q)

@@ -18,8 +18,14 @@ shown-set shown [] i was new f within at is = absurd (omega arith)
 shown-set shown (x ∷ xs) zero was new f within at is = ap (λ y. y ∷ map shown xs) (is ∙ ap (λ y. f (shown y)) at)
 shown-set shown (x ∷ xs) (suc i) was new f within at is = ap (λ ys. shown x ∷ ys) (shown-set shown xs i was new f (omega arith) at is)
 
+-- one element replaced
+pub set-update : {X : Type 0} (xs : List X) (i : ℕ) (new : X) → i < length xs → set xs i new ≡ update_at xs i (λ before. new)
+set-update [] i new within = absurd (omega arith)
+set-update (x ∷ xs) zero new within = refl
+set-update (x ∷ xs) (suc i) new within = ap (λ ys. x ∷ ys) (set-update xs i new (omega arith))
+
 -- a list without the index stays
-missing : {Y : Type 0} (ys : List Y) (i : ℕ) (f : Y → Y) → length ys ≤ i → update_at ys i f ≡ ys
+pub missing : {Y : Type 0} (ys : List Y) (i : ℕ) (f : Y → Y) → length ys ≤ i → update_at ys i f ≡ ys
 missing [] i f h = refl
 missing (y ∷ ys) zero f h = absurd (omega arith)
 missing (y ∷ ys) (suc i) f h = ap (λ zs. y ∷ zs) (missing ys i f (omega arith))

@@ -13,7 +13,7 @@ use Rattle.def_map.specs.declared.source_database.EnumVariant.{EnumVariant}
 use Rattle.def_map.specs.Items.{public_item, module_item}
 use Rattle.def_map.specs.MapView.{MapView}
 use Rattle.def_map.specs.PerNs.{Item, per_namespace, nothing, in_types, is_nothing}
-use Rattle.def_map.specs.Sources.{Question, Source, found_in, scope_source, Beginning, at_module, by_sources}
+use Rattle.def_map.specs.Sources.{Question, found_in, scope_source, Beginning, at_module, by_sources}
 
 -- the answer where something on the way is missing
 abbrev pub missing : Bool → ResolvePathResult

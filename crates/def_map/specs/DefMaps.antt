@@ -1,22 +1,19 @@
 -- What finished maps show, and what a block's map is made of.
 use Rattle.std.specs.Prelude.{[], Option, None, Some}
-use Rattle.std.specs.Option.{option_map_or}
 use Rattle.indexmap.specs.IndexMap.{get}
-use Rattle.indexmap.specs.IndexSet.{contains}
 use Rattle.item_tree.specs.declared.ids.BlockId.{BlockId}
 use Rattle.item_tree.specs.declared.ids.Crate.{Crate}
 use Rattle.def_ids.specs.declared.ids.MapId.{MapId}
 use Rattle.def_ids.specs.declared.macro_def.Edition.{Edition}
-use Rattle.def_ids.specs.Equality.{macro_eq}
 use Rattle.def_bindings.specs.declared.visibility.Visibility.{Visibility}
-use Rattle.def_bindings.specs.Content.{Content, is_name}
+use Rattle.def_bindings.specs.Content.{Content}
 use Rattle.def_map.specs.declared.block.BlockInfo.{BlockInfo}
 use Rattle.def_map.specs.declared.def_map.DefMap.{DefMap}
 use Rattle.def_map.specs.Equality.{function_eq, proc_macro_eq}
 use Rattle.def_map.specs.Fresh.{fresh_crate, fresh_state}
 use Rattle.def_map.specs.MapState.{CrateState, MapState}
 use Rattle.def_map.specs.MapView.{MapView}
-use Rattle.def_map.specs.Maps.{map_state, facts_of, exported_of}
+use Rattle.def_map.specs.Maps.{map_state, facts_of, exported_of, features_of}
 use Rattle.def_map.specs.Tables.{bound_by}
 
 -- what a map shows beside its bindings
@@ -39,7 +36,7 @@ info_crate b =
       no_core = b.no_core;
       no_std = b.no_std;
       coherence_is_core = b.rustc_coherence_is_core;
-      features = contains is_name b.features;
+      features = features_of b.features;
       tools = b.registered_tools;
       exported_helpers = exported_of b.exported_derives;
       macro_of_function = get function_eq b.fn_as_proc_macro;

@@ -61,10 +61,19 @@ fresh_state id edition containing krate =
       helpers = λ position. [];
     }
 
--- the fresh map with the same number: a block's keeps what is around it and what it has of its crate
+-- the map with nothing in it that keeps what is around it and what a block has of its crate
+abbrev pub emptied : MapState → MapState
+emptied s = fresh_state s.id s.edition s.containing (block_crate s.krate)
+
+-- the fresh map with the same number
 abbrev pub fresh_by : Option BlockId → MapState → MapState
 fresh_by None s = fresh_state s.id s.edition [] fresh_crate
-fresh_by (Some block) s = fresh_state s.id s.edition s.containing (block_crate s.krate)
+fresh_by (Some block) s = emptied s
+
+-- a crate's map stands in no module, and nothing is known of its crate
+pub record IsOfFreshCrate (s : MapState) : Type 0 where
+  pub containing : s.containing ≡ []
+  pub krate : block_crate s.krate ≡ fresh_crate
 
 -- nothing was collected in a map
 pub record IsFresh (s : MapState) (content : Content Visibility) : Type 0 where

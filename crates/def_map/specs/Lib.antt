@@ -10,6 +10,7 @@ pub mod Tables
 pub mod Fresh
 pub mod DefMaps
 pub mod Locals
+pub mod ItemScopes
 pub mod PerNs
 pub mod Items
 pub mod Queries

@@ -1,5 +1,5 @@
 -- What a local map shows.
-use Rattle.std.specs.Prelude.{cond, Option, Some, option_map}
+use Rattle.std.specs.Prelude.{Option, Some, option_map}
 use Rattle.indexmap.specs.IndexMap.{get}
 use Rattle.item_tree.specs.declared.name.Name.{Name}
 use Rattle.def_bindings.specs.Content.{is_name}

@@ -1,5 +1,5 @@
 -- What a map shows, and what each write does to it.
-use Rattle.std.specs.Prelude.{true, cond, nat_lt, List, [], ◌∷◌, ◌++◌, ℕ, Option, None, Some, length, map, slice_get, unwrap_or}
+use Rattle.std.specs.Prelude.{Bool, true, cond, nat_lt, List, [], ◌∷◌, ◌++◌, ℕ, Option, None, Some, length, map, slice_get, unwrap_or}
 use Rattle.std.specs.Option.{option_map_or}
 use Rattle.indexmap.specs.IndexMap.{IndexMap, get}
 use Rattle.indexmap.specs.IndexSet.{contains}
@@ -12,6 +12,7 @@ use Rattle.def_bindings.specs.Content.{is_name}
 use Rattle.def_bindings.specs.Tree.{chain_of}
 use Rattle.def_map.specs.declared.map.DeriveHelper.{DeriveHelper}
 use Rattle.def_map.specs.declared.map.MapData.{MapData}
+use Rattle.def_map.specs.declared.map.UnstableFeatures.{UnstableFeatures}
 use Rattle.def_map.specs.Equality.{position_eq, function_eq, proc_macro_eq}
 use Rattle.def_map.specs.MapState.{ModuleState, CrateState, MapState, ShownHelper, Position}
 use Rattle.def_map.specs.MapView.{MapFacts}
@@ -34,6 +35,10 @@ with_last_helper helpers position helper = set_where (position_eq position) (hel
 abbrev pub exported_of : {S : Type 0} → IndexMap MacroId (List Name) S → MacroId → List Name
 exported_of exported id = option_map_or (λ names. names) (get macro_eq exported id) []
 
+-- which features are enabled
+abbrev pub features_of : UnstableFeatures → Name → Bool
+features_of f = contains is_name f.names
+
 -- what a map shows of its crate
 abbrev pub crate_state : MapData → CrateState
 crate_state d =
@@ -42,7 +47,7 @@ crate_state d =
       no_core = d.no_core;
       no_std = d.no_std;
       coherence_is_core = d.rustc_coherence_is_core;
-      features = contains is_name d.features;
+      features = features_of d.features;
       tools = d.registered_tools;
       exported_helpers = exported_of d.exported_derives;
       macro_of_function = get function_eq d.fn_as_proc_macro;
@@ -122,7 +127,7 @@ paired s function id =
       krate = record s.krate {
         macro_of_function = set_where (function_eq function) (Some id) s.krate.macro_of_function;
         function_of_macro = set_where (proc_macro_eq id) (Some function) s.krate.function_of_macro;
-      }
+      };
     }
 
 -- a position leads to a macro

@@ -1,5 +1,5 @@
 -- What a module shows beside its bindings, and what each write does to it.
-use Rattle.std.specs.Prelude.{List, Bool, true, false, cond, ◌&&◌, ◌==◌, [], ◌∷◌, ◌++◌, ℕ, Option, None, Some, option_map}
+use Rattle.std.specs.Prelude.{List, Bool, true, false, [], ◌∷◌, ◌++◌, ℕ, Option, None, Some}
 use Rattle.indexmap.specs.IndexMap.{get}
 use Rattle.indexmap.specs.IndexSet.{contains}
 use Rattle.item_tree.specs.declared.ids.AttrId.{AttrId}

@@ -15,7 +15,7 @@ impl MapData {
     pub fn enable_feature(&mut self, name: Name) -> Result<(), AllocError>
         ensures { OnOk result (map_state self.new ≡ with_feature (map_state self.old) name) }
     {
-        self.features.insert(name)?;
+        self.features.names.insert(name)?;
         Ok(())
     }
 
@@ -36,7 +36,11 @@ impl MapData {
     }
 
     /// Leads a procedural macro and its function to each other.
-    pub fn pair_proc_macro(&mut self, function: FunctionId, id: ProcMacroId) -> Result<(), AllocError>
+    pub fn pair_proc_macro(
+        &mut self,
+        function: FunctionId,
+        id: ProcMacroId,
+    ) -> Result<(), AllocError>
         ensures { OnOk result (map_state self.new ≡ paired (map_state self.old) function id) }
     {
         self.fn_as_proc_macro.insert(function, id)?;
@@ -61,7 +65,11 @@ impl MapData {
     }
 
     /// Adds a helper attribute that is read at a position, behind the others.
-    pub fn add_derive_helper(&mut self, position: Position, helper: DeriveHelper) -> Result<(), AllocError>
+    pub fn add_derive_helper(
+        &mut self,
+        position: Position,
+        helper: DeriveHelper,
+    ) -> Result<(), AllocError>
         ensures { OnOk result (map_state self.new ≡ with_helper (map_state self.old) position (helper_state helper)) }
     {
         push_under(&mut self.derive_helpers, position, helper)?;

@@ -6,12 +6,12 @@ ghost use Rattle.std.specs.Prelude.{true, ◌∷◌, [], map};
 ghost use Rattle.def_bindings.specs.Tree.{are_apart};
 ghost use Rattle.def_bindings.specs.declared.visibility.Visibility.TheVariants.{Public};
 ghost use Rattle.def_map.specs.Scopes.{module_state, empty_module};
-ghost use Rattle.def_map.specs.Fresh.{known_tools, fresh_state, fresh_crate};
+ghost use Rattle.def_map.specs.Fresh.{known_tools, fresh_state, fresh_crate, IsFresh};
 ghost use Rattle.def_map.specs.DefMaps.{info_state, crate_map_id};
 
 use crate::block::BlockInfo;
-use crate::map::MapData;
 use crate::keyed_lists::no_items;
+use crate::map::{MapData, UnstableFeatures};
 use crate::module_data::{ModuleData, ModuleOrigin};
 use crate::table::Table;
 use def_bindings::{ModuleTree, Visibility};
@@ -42,6 +42,7 @@ impl DefMap {
     ) -> Result<DefMap, AllocError>
         ensures state { IfOk result (λ map. state_of map ≡ seeded krate edition block) }
         ensures content { IfOk result (λ map. content_of map ≡ empty) }
+        ensures fresh { IfOk result (λ map. IsFresh (state_of map) (content_of map)) }
     {
         match block {
             None => Ok(DefMap {
@@ -122,7 +123,9 @@ fn crate_data(alloc: Global, krate: Crate, edition: Edition) -> Result<MapData, 
         no_core: false,
         no_std: false,
         rustc_coherence_is_core: false,
-        features: IndexSet::new(alloc),
+        features: UnstableFeatures {
+            names: IndexSet::new(alloc),
+        },
         registered_tools: tools_known(alloc)?,
         exported_derives: IndexMap::new(alloc),
         fn_as_proc_macro: IndexMap::new(alloc),

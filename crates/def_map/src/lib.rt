@@ -4,6 +4,9 @@
 mod block;
 mod crate_writes;
 mod def_map;
+mod def_map_reads;
+mod fresh;
+mod item_scope;
 mod keyed_lists;
 mod local_def_map;
 mod macro_resolver;
@@ -18,9 +21,10 @@ mod table;
 
 pub use block::BlockInfo;
 pub use def_map::DefMap;
+pub use item_scope::{ItemScope, Resolutions, UnnamedTraits};
 pub use local_def_map::{ExternPreludeEntry, LocalDefMap};
 pub use macro_resolver::MacroResolver;
-pub use map::{DeriveHelper, MapData};
+pub use map::{DeriveHelper, MapData, UnstableFeatures};
 pub use module_data::{
     DeriveCall, DeriveKey, DeriveMacroInvocation, Invocation, ModuleData, ModuleOrigin, Position,
     ScopeData,

@@ -18,6 +18,12 @@ pub struct DeriveHelper {
     pub by: DeriveCall,
 }
 
+/// The features that a crate enables.
+#[derive(Drop)]
+pub struct UnstableFeatures {
+    pub names: IndexSet<Name>,
+}
+
 /// All of a map but its bindings, unnamed traits and glob edges. The collector works on it.
 #[derive(Drop)]
 pub struct MapData {
@@ -31,7 +37,7 @@ pub struct MapData {
     pub no_core: bool,
     pub no_std: bool,
     pub rustc_coherence_is_core: bool,
-    pub features: IndexSet<Name>,
+    pub features: UnstableFeatures,
     pub registered_tools: Seq<Name>,
     /// The helper attributes of each derive macro that other crates may name.
     pub exported_derives: IndexMap<MacroId, Seq<Name>>,

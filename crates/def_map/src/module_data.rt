@@ -1,6 +1,6 @@
 //! A module of a map, and what its scope holds beside its bindings.
-ghost use Rattle.std.specs.Prelude.{◌≡◌, OnOk};
-ghost use Rattle.def_map.specs.ScopeMaps.{derive_state};
+ghost use Rattle.std.specs.Prelude.{◌≡◌, OnOk, IfOk};
+ghost use Rattle.def_map.specs.ScopeMaps.{derive_state, with_call};
 
 use crate::keyed_lists::{no_items, push_under};
 use def_bindings::Visibility;
@@ -88,8 +88,28 @@ pub struct ModuleData {
     pub scope: ScopeData,
 }
 
+impl DeriveMacroInvocation {
+    /// Records the call of one path, if there is such a path.
+    fn set_call(&mut self, pos: usize, call: DeriveCall)
+        ensures { derive_state self.new ≡ with_call pos call (derive_state self.old) }
+    {
+        if let Some(place) = self.calls.get_mut(pos) {
+            *place = Some(call);
+        }
+    }
+}
+
+/// A copy of textual macros.
+fn copied_macros(
+    macros: &IndexMap<Name, Seq<MacroId>>,
+) -> Result<IndexMap<Name, Seq<MacroId>>, AllocError>
+    ensures { IfOk result (λ copy. copy.entries ≡ macros.now.entries) }
+{
+    macros.clone()
+}
+
 impl ModuleData {
-    ghost use Rattle.def_map.specs.Scopes.{module_state, empty_module, declared_in, with_child, with_textual, with_extern_crate, with_extern_block, with_unnamed_const, with_impl, with_derive_impl, with_derive, with_invocation, marked_failed};
+    ghost use Rattle.def_map.specs.Scopes.{module_state, empty_module, declared_in, with_child, with_textual, with_extern_crate, with_extern_block, with_unnamed_const, with_impl, with_derive_impl, with_derive, called_at, with_textual_of, with_invocation, marked_failed};
 
     /// A module with nothing in it.
     pub fn new(
@@ -194,7 +214,32 @@ impl ModuleData {
     ) -> Result<(), AllocError>
         ensures { OnOk result (module_state self.new ≡ with_derive position attr (derive_state derive) (module_state self.old)) }
     {
-        self.scope.derives.insert(DeriveKey { position, attr }, derive)?;
+        self.scope
+            .derives
+            .insert(DeriveKey { position, attr }, derive)?;
+        Ok(())
+    }
+
+    /// Records the call of one path of a derive attribute, where the attribute has such a path.
+    pub fn set_derive_call(
+        &mut self,
+        position: Position,
+        attr: AttrId,
+        pos: usize,
+        call: DeriveCall,
+    )
+        ensures { module_state self.new ≡ called_at position attr pos call (module_state self.old) }
+    {
+        if let Some(derive) = self.scope.derives.get_mut(&DeriveKey { position, attr }) {
+            derive.set_call(pos, call);
+        }
+    }
+
+    /// Takes over the textual macros of a module around this one, in the place of its own.
+    pub fn inherit_legacy_macros(&mut self, parent: &ModuleData) -> Result<(), AllocError>
+        ensures { OnOk result (module_state self.new ≡ with_textual_of (module_state parent.now).textual (module_state self.old)) }
+    {
+        self.scope.legacy_macros = copied_macros(&parent.scope.legacy_macros)?;
         Ok(())
     }
 
@@ -206,7 +251,9 @@ impl ModuleData {
     ) -> Result<(), AllocError>
         ensures { OnOk result (module_state self.new ≡ with_invocation position call (module_state self.old)) }
     {
-        self.scope.invocations.insert(Invocation { position, call })?;
+        self.scope
+            .invocations
+            .insert(Invocation { position, call })?;
         Ok(())
     }
 

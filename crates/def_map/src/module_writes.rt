@@ -35,7 +35,12 @@ impl MapData {
     }
 
     /// Defines a textual macro in a module, which shadows the earlier ones of its name.
-    pub fn define_legacy_macro(&mut self, module: usize, name: Name, macro_id: MacroId) -> Result<(), AllocError>
+    pub fn define_legacy_macro(
+        &mut self,
+        module: usize,
+        name: Name,
+        macro_id: MacroId,
+    ) -> Result<(), AllocError>
         ensures { OnOk result (map_state self.new ≡ with_module (map_state self.old) «module» (with_textual name macro_id)) }
     {
         match self.modules.get_mut(module) {
@@ -45,7 +50,11 @@ impl MapData {
     }
 
     /// Records an `extern crate` item of a module.
-    pub fn define_extern_crate_decl(&mut self, module: usize, id: ExternCrateId) -> Result<(), AllocError>
+    pub fn define_extern_crate_decl(
+        &mut self,
+        module: usize,
+        id: ExternCrateId,
+    ) -> Result<(), AllocError>
         ensures { OnOk result (map_state self.new ≡ with_module (map_state self.old) «module» (with_extern_crate id)) }
     {
         match self.modules.get_mut(module) {
@@ -55,7 +64,11 @@ impl MapData {
     }
 
     /// Records an extern block of a module.
-    pub fn define_extern_block(&mut self, module: usize, id: ExternBlockId) -> Result<(), AllocError>
+    pub fn define_extern_block(
+        &mut self,
+        module: usize,
+        id: ExternBlockId,
+    ) -> Result<(), AllocError>
         ensures { OnOk result (map_state self.new ≡ with_module (map_state self.old) «module» (with_extern_block id)) }
     {
         match self.modules.get_mut(module) {
@@ -75,7 +88,12 @@ impl MapData {
     }
 
     /// Records an impl, and whether it is one of a trait.
-    pub fn define_impl(&mut self, module: usize, id: ImplId, is_trait_impl: bool) -> Result<(), AllocError>
+    pub fn define_impl(
+        &mut self,
+        module: usize,
+        id: ImplId,
+        is_trait_impl: bool,
+    ) -> Result<(), AllocError>
         ensures { OnOk result (map_state self.new ≡ with_module (map_state self.old) «module» (with_impl id is_trait_impl)) }
     {
         match self.modules.get_mut(module) {
@@ -85,7 +103,11 @@ impl MapData {
     }
 
     /// Records the impl of a builtin derive.
-    pub fn define_builtin_derive_impl(&mut self, module: usize, id: BuiltinDeriveImplId) -> Result<(), AllocError>
+    pub fn define_builtin_derive_impl(
+        &mut self,
+        module: usize,
+        id: BuiltinDeriveImplId,
+    ) -> Result<(), AllocError>
         ensures { OnOk result (map_state self.new ≡ with_module (map_state self.old) «module» (with_derive_impl id)) }
     {
         match self.modules.get_mut(module) {
@@ -95,7 +117,12 @@ impl MapData {
     }
 
     /// Records a macro call at its position.
-    pub fn add_macro_invoc(&mut self, module: usize, position: Position, call: MacroCallId) -> Result<(), AllocError>
+    pub fn add_macro_invoc(
+        &mut self,
+        module: usize,
+        position: Position,
+        call: MacroCallId,
+    ) -> Result<(), AllocError>
         ensures { OnOk result (map_state self.new ≡ with_module (map_state self.old) «module» (with_invocation position call)) }
     {
         match self.modules.get_mut(module) {
@@ -115,7 +142,13 @@ impl MapData {
     }
 
     /// Records a derive attribute of a module: its call, and what each path of its list gave.
-    pub fn set_derive(&mut self, module: usize, position: Position, attr: AttrId, derive: DeriveMacroInvocation) -> Result<(), AllocError>
+    pub fn set_derive(
+        &mut self,
+        module: usize,
+        position: Position,
+        attr: AttrId,
+        derive: DeriveMacroInvocation,
+    ) -> Result<(), AllocError>
         ensures { OnOk result (map_state self.new ≡ with_module (map_state self.old) «module» (with_derive position attr (derive_state derive))) }
     {
         match self.modules.get_mut(module) {

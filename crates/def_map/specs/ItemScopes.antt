@@ -1,0 +1,46 @@
+-- What is seen of a module's scope.
+use Rattle.std.specs.Prelude.{◌≡◌, ℕ, List, Some, map, drop, slice_get}
+use Rattle.item_tree.specs.declared.name.Name.{Name}
+use Rattle.def_ids.specs.declared.ids.ModuleId.{ModuleId}
+use Rattle.def_ids.specs.declared.ids.TraitId.{TraitId}
+use Rattle.def_bindings.specs.Content.{Content}
+use Rattle.def_bindings.specs.Tree.{module_of}
+use Rattle.def_bindings.specs.declared.visibility.Visibility.{Visibility}
+use Rattle.def_map.specs.declared.def_map.DefMap.{DefMap}
+use Rattle.def_map.specs.declared.item_scope.ItemScope.{ItemScope}
+use Rattle.def_map.specs.declared.per_ns.PerNs.{PerNs}
+use Rattle.def_map.specs.DefMaps.{state_of, content_of}
+use Rattle.def_map.specs.MapState.{ModuleState}
+use Rattle.def_map.specs.PerNs.{per_namespace}
+use Rattle.def_map.specs.Scopes.{module_state}
+use Rattle.def_map.specs.Tables.{bound_by}
+
+-- the module of a scope
+abbrev pub place_of : ItemScope → ModuleId
+place_of s = s.place
+
+-- what its map binds
+abbrev pub scope_content : ItemScope → Content Visibility
+scope_content s = bound_by s.table.now
+
+-- what its module shows beside
+abbrev pub scope_state : ItemScope → ModuleState
+scope_state s = module_state s.module_data.now
+
+-- what a name means in a module
+abbrev pub meaning : Content Visibility → ModuleId → Name → PerNs
+meaning c m name = per_namespace (c.binding m name)
+
+-- the names of a module from one on, in first-bound order, with what they mean
+abbrev pub resolutions_from : ℕ → Content Visibility → ModuleId → List (Name × PerNs)
+resolutions_from i c m = map (λ name. (name, meaning c m name)) (drop i (c.names m))
+
+-- the unnamed traits of a module from one on
+abbrev pub unnamed_from : ℕ → Content Visibility → ModuleId → List (TraitId × Visibility)
+unnamed_from i c m = drop i (c.unnamed m)
+
+-- a scope is that of a map's module
+pub record IsScopeOf (m : DefMap) (index : ℕ) (s : ItemScope) : Type 0 where
+  pub place : place_of s ≡ module_of (state_of m).id index
+  pub content : scope_content s ≡ content_of m
+  pub state : slice_get (state_of m).modules index ≡ Some (scope_state s)

@@ -1,0 +1,176 @@
+//! Whether a map is as it was seeded.
+ghost use Rattle.std.specs.Prelude.{◌≡◌, ◌↔◌, ◌∷◌, None, IsTrue, [], map, unwrap_or};
+ghost use Rattle.std.specs.List.{list_all};
+ghost use Rattle.indexmap.specs.IndexMap.{get};
+ghost use Rattle.def_bindings.specs.declared.visibility.Visibility.TheVariants.{Public};
+ghost use Rattle.def_map.specs.Fresh.{root_origin, known_tools, emptied, IsOfFreshCrate, IsFresh};
+ghost use Rattle.def_map.specs.Scopes.{module_state, empty_module};
+ghost use Rattle.def_map.specs.Maps.{map_state};
+
+use crate::def_map::DefMap;
+use crate::map::MapData;
+use crate::module_data::{ModuleData, ModuleOrigin};
+use def_bindings::Visibility;
+use indexmap::IndexMap;
+use item_tree::{BlockId, Name, Seq};
+use std::hash::Hash;
+
+/// Whether all of these hold.
+fn are_all(tests: &[bool]) -> bool
+    ensures { result ≡ list_all (λ b. b) tests.now }
+{
+    tests.iter().all(|test| *test)
+}
+
+/// Whether no key has an item.
+fn are_lists_empty<K: Eq + Hash, V>(lists: &IndexMap<K, Seq<V>>) -> bool
+    ensures { IsTrue result ↔ ((k : K) → unwrap_or (get K.eq lists.now k) [] ≡ []) }
+{
+    for i in 0..lists.len() {
+        if let Some((_, list)) = lists.get_index(i) {
+            if !list.is_empty() {
+                return false;
+            }
+        }
+    }
+    true
+}
+
+/// Whether this is public.
+fn is_public(vis: Visibility) -> bool
+    ensures { IsTrue result ↔ (vis ≡ Public) }
+{
+    match vis {
+        Visibility::Public => true,
+        Visibility::PubCrate | Visibility::Module(_) => false,
+    }
+}
+
+/// Whether this is how the root of such a map is made.
+fn is_root_origin(origin: ModuleOrigin, block: Option<BlockId>) -> bool
+    ensures { IsTrue result ↔ (origin ≡ root_origin block) }
+{
+    match (origin, block) {
+        (ModuleOrigin::CrateRoot, None) => true,
+        (ModuleOrigin::Block, Some(_)) => true,
+        _ => false,
+    }
+}
+
+impl ModuleData {
+    /// Whether this is the root of such a map with nothing in it.
+    pub(crate) fn is_bare_root(&self, block: Option<BlockId>) -> bool
+        ensures { IsTrue result ↔ (module_state self.now ≡ empty_module None (root_origin block) Public) }
+    {
+        let tests = [
+            self.name.is_none(),
+            is_root_origin(self.origin, block),
+            is_public(self.visibility),
+            self.children.is_empty(),
+            are_lists_empty(&self.scope.legacy_macros),
+            self.scope.declarations.is_empty(),
+            self.scope.extern_crates.is_empty(),
+            self.scope.unnamed_consts.is_empty(),
+            self.scope.impls.is_empty(),
+            self.scope.builtin_derive_impls.is_empty(),
+            self.scope.extern_blocks.is_empty(),
+            self.scope.derives.is_empty(),
+            self.scope.invocations.is_empty(),
+            self.scope.failed.is_empty(),
+        ];
+        are_all(&tests)
+    }
+}
+
+/// Whether there is one module, and it has no parent.
+fn is_one_root(parents: &Seq<Option<usize>>) -> bool
+    ensures { IsTrue result ↔ (parents.now ≡ None ∷ []) }
+{
+    match parents.as_slice() {
+        [parent] => parent.is_none(),
+        _ => false,
+    }
+}
+
+/// Whether there is one module, the root of such a map with nothing in it.
+fn is_one_bare_root(modules: &[ModuleData], block: Option<BlockId>) -> bool
+    ensures { IsTrue result ↔ (map module_state modules.now ≡ empty_module None (root_origin block) Public ∷ []) }
+{
+    match modules {
+        [root] => root.is_bare_root(block),
+        _ => false,
+    }
+}
+
+/// Whether these are the tools that need no declaration.
+fn are_known_tools(tools: &Seq<Name>) -> bool
+    ensures { IsTrue result ↔ (tools.now ≡ known_tools) }
+{
+    match tools.as_slice() {
+        [clippy, rustfmt, diagnostic, miri, rust_analyzer] => are_all(&[
+            clippy.0 == 27,
+            rustfmt.0 == 28,
+            diagnostic.0 == 29,
+            miri.0 == 30,
+            rust_analyzer.0 == 31,
+        ]),
+        _ => false,
+    }
+}
+
+impl MapData {
+    /// Whether a map has nothing but what a block's takes over.
+    fn is_emptied(&self) -> bool
+        ensures { IsTrue result ↔ (map_state self.now ≡ emptied (map_state self.now)) }
+    {
+        let tests = [
+            is_one_root(&self.tree.parents),
+            is_one_bare_root(self.modules.as_slice(), self.tree.map.block),
+            are_lists_empty(&self.derive_helpers),
+            self.macro_by_position.is_empty(),
+            self.macro_use_prelude.is_empty(),
+            self.prelude.is_none(),
+        ];
+        are_all(&tests)
+    }
+
+    /// Whether a map stands in no module and knows nothing of its crate.
+    fn is_of_fresh_crate(&self) -> bool
+        ensures { IsTrue result ↔ IsOfFreshCrate (map_state self.now) }
+    {
+        let tests = [
+            self.tree.containing.is_empty(),
+            self.recursion_limit.is_none(),
+            !self.no_core,
+            !self.no_std,
+            !self.rustc_coherence_is_core,
+            self.features.names.is_empty(),
+            are_known_tools(&self.registered_tools),
+            are_lists_empty(&self.exported_derives),
+            self.fn_as_proc_macro.is_empty(),
+            self.proc_macro_as_fn.is_empty(),
+        ];
+        are_all(&tests)
+    }
+}
+
+impl DefMap {
+    ghost use Rattle.def_map.specs.DefMaps.{state_of, content_of};
+
+    /// Whether the map is as `seed` leaves one: a root with nothing in it. The data that a block's
+    /// map takes over of its crate's may be any.
+    pub fn is_fresh(&self) -> bool
+        ensures { IsTrue result ↔ IsFresh (state_of self.now) (content_of self.now) }
+    {
+        if !self.table.is_empty() {
+            return false;
+        }
+        if !self.data.is_emptied() {
+            return false;
+        }
+        match self.data.tree.map.block {
+            None => self.data.is_of_fresh_crate(),
+            Some(_) => true,
+        }
+    }
+}

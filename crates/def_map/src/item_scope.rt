@@ -1,0 +1,210 @@
+//! What is seen of a module's scope.
+ghost use Rattle.std.specs.Prelude.{◌≡◌, reverse};
+ghost use Rattle.indexmap.specs.IndexMap.{get};
+ghost use Rattle.def_map.specs.ItemScopes.{place_of, scope_content, scope_state, meaning, resolutions_from, unnamed_from};
+ghost use Rattle.def_map.specs.ScopeMaps.{textual_of, derives_of, invoked_of};
+
+use crate::module_data::{DeriveKey, DeriveMacroInvocation, Invocation, ModuleData};
+use crate::per_ns::PerNs;
+use crate::table::Table;
+use def_bindings::{BindingTable, Namespace, Visibility};
+use def_ids::{
+    BuiltinDeriveImplId, ConstId, Def, ExternBlockId, ExternCrateId, ImplId, MacroId, ModuleId,
+    TraitId,
+};
+use indexmap::{IndexMap, IndexSet};
+use item_tree::{Name, Seq};
+use std::marker::Model;
+
+/// The scope of a module: what it binds, and what else it holds.
+#[derive(Clone, Copy)]
+pub struct ItemScope<'a> {
+    pub(crate) place: ModuleId,
+    pub(crate) module_data: &'a ModuleData,
+    pub(crate) table: &'a Table,
+}
+
+impl<'a> ItemScope<'a> {
+    /// What a name means in each namespace.
+    pub fn get(&self, name: Name) -> PerNs
+        ensures { result ≡ meaning (scope_content self.now) (place_of self.now) name }
+    {
+        PerNs {
+            types: self.table.binding(self.place, name, Namespace::Types),
+            values: self.table.binding(self.place, name, Namespace::Values),
+            macros: self.table.binding(self.place, name, Namespace::Macros),
+        }
+    }
+
+    /// The names in the order in which they were first bound, with what they mean.
+    pub fn resolutions(&self) -> Resolutions<'a>
+        ensures { result ≡ resolutions_from 0 (scope_content self.now) (place_of self.now) }
+    {
+        Resolutions {
+            scope: *self,
+            next: 0,
+        }
+    }
+
+    /// The traits that are in scope without a name.
+    pub fn unnamed_traits(&self) -> UnnamedTraits<'a>
+        ensures { result ≡ unnamed_from 0 (scope_content self.now) (place_of self.now) }
+    {
+        UnnamedTraits {
+            scope: *self,
+            next: 0,
+        }
+    }
+
+    /// The declarations, in order.
+    pub fn declarations(&self) -> &'a [Def]
+        ensures { result.now ≡ (scope_state self.now).declarations }
+    {
+        self.module_data.scope.declarations.as_slice()
+    }
+
+    /// The textual macros of each name, the last one last.
+    pub fn legacy_macros(&self) -> &'a IndexMap<Name, Seq<MacroId>>
+        ensures { textual_of result.now ≡ (scope_state self.now).textual }
+    {
+        &self.module_data.scope.legacy_macros
+    }
+
+    /// Whether an import left over would have bound this name.
+    pub fn failed(&self, name: Name) -> bool
+        ensures { result ≡ (scope_state self.now).failed name }
+    {
+        self.module_data.scope.failed.contains(&name)
+    }
+
+    /// The impls, each with whether it is one of a trait.
+    pub fn impls(&self) -> &'a [(ImplId, bool)]
+        ensures { result.now ≡ (scope_state self.now).impls }
+    {
+        self.module_data.scope.impls.as_slice()
+    }
+
+    /// The impls that builtin derives gave.
+    pub fn builtin_derive_impls(&self) -> &'a [BuiltinDeriveImplId]
+        ensures { result.now ≡ (scope_state self.now).derive_impls }
+    {
+        self.module_data.scope.builtin_derive_impls.as_slice()
+    }
+
+    /// The `extern crate` items.
+    pub fn extern_crates(&self) -> &'a [ExternCrateId]
+        ensures { result.now ≡ (scope_state self.now).extern_crates }
+    {
+        self.module_data.scope.extern_crates.as_slice()
+    }
+
+    /// The extern blocks.
+    pub fn extern_blocks(&self) -> &'a [ExternBlockId]
+        ensures { result.now ≡ (scope_state self.now).extern_blocks }
+    {
+        self.module_data.scope.extern_blocks.as_slice()
+    }
+
+    /// The constants without a name.
+    pub fn unnamed_consts(&self) -> &'a [ConstId]
+        ensures { result.now ≡ (scope_state self.now).unnamed_consts }
+    {
+        self.module_data.scope.unnamed_consts.as_slice()
+    }
+
+    /// The macro calls, each with its position.
+    pub fn invocations(&self) -> &'a IndexSet<Invocation>
+        ensures { invoked_of result.now ≡ (scope_state self.now).invoked }
+    {
+        &self.module_data.scope.invocations
+    }
+
+    /// The derive attributes, each with its call and what its paths gave.
+    pub fn derives(&self) -> &'a IndexMap<DeriveKey, DeriveMacroInvocation>
+        ensures { derives_of result.now ≡ (scope_state self.now).derives }
+    {
+        &self.module_data.scope.derives
+    }
+}
+
+/// The names of a scope that are still to come, with what they mean.
+#[derive(Drop)]
+pub struct Resolutions<'a> {
+    scope: ItemScope<'a>,
+    next: usize,
+}
+
+impl<'a> Model for Resolutions<'a> {
+    ghost use Rattle.std.specs.Prelude.{List};
+    ghost use Rattle.std.specs.Coded.{coded_list, coded×};
+    ghost use Rattle.item_tree.specs.declared.name.Name.{Name};
+    ghost use Rattle.item_tree.specs.contracts.name.Name as name;
+    ghost use Rattle.def_map.specs.declared.per_ns.PerNs.{PerNs};
+    ghost use Rattle.def_map.specs.contracts.per_ns.PerNs as per_ns;
+
+    ghost Value = { List (Name × PerNs) };
+
+    ghost coded = { coded_list (coded× name.the_row.coded per_ns.the_row.coded) };
+
+    ghost use Rattle.def_map.specs.ItemScopes.{place_of, scope_content, resolutions_from};
+
+    ghost view = { λ r. resolutions_from r.next (scope_content r.scope) (place_of r.scope) };
+}
+
+impl<'a> Iterator for Resolutions<'a> {
+    type Item = (Name, PerNs);
+
+    ghost use Rattle.std.specs.Prelude.{length};
+    ghost use Rattle.std.specs.Iterator.{YieldsFirst, at_most};
+
+    ghost next_gives = { YieldsFirst (λ r. r) };
+
+    ghost remaining = { λ r. at_most (length r) };
+
+    fn next(&mut self) -> Option<(Name, PerNs)> {
+        let name = self.scope.table.name_at(self.scope.place, self.next)?;
+        self.next += 1;
+        Some((name, self.scope.get(name)))
+    }
+}
+
+/// The unnamed traits of a scope that are still to come.
+#[derive(Drop)]
+pub struct UnnamedTraits<'a> {
+    scope: ItemScope<'a>,
+    next: usize,
+}
+
+impl<'a> Model for UnnamedTraits<'a> {
+    ghost use Rattle.std.specs.Prelude.{List};
+    ghost use Rattle.std.specs.Coded.{coded_list, coded×};
+    ghost use Rattle.def_ids.specs.declared.ids.TraitId.{TraitId};
+    ghost use Rattle.def_ids.specs.contracts.ids.TraitId as trait_id;
+    ghost use Rattle.def_bindings.specs.declared.visibility.Visibility.{Visibility};
+    ghost use Rattle.def_bindings.specs.contracts.visibility.Visibility as vis;
+
+    ghost Value = { List (TraitId × Visibility) };
+
+    ghost coded = { coded_list (coded× trait_id.the_row.coded vis.the_row.coded) };
+
+    ghost use Rattle.def_map.specs.ItemScopes.{place_of, scope_content, unnamed_from};
+
+    ghost view = { λ u. unnamed_from u.next (scope_content u.scope) (place_of u.scope) };
+}
+
+impl<'a> Iterator for UnnamedTraits<'a> {
+    type Item = (TraitId, Visibility);
+
+    ghost use Rattle.std.specs.Prelude.{length};
+    ghost use Rattle.std.specs.Iterator.{YieldsFirst, at_most};
+
+    ghost next_gives = { YieldsFirst (λ u. u) };
+
+    ghost remaining = { λ u. at_most (length u) };
+
+    fn next(&mut self) -> Option<(TraitId, Visibility)> {
+        let item = self.scope.table.unnamed_at(self.scope.place, self.next)?;
+        self.next += 1;
+        Some(item)
+    }
+}
