@@ -22,10 +22,10 @@ use Rattle.def_map.specs.Sources.{Question, Source, first_found, by_sources, rel
 use Rattle.def_map.proofs.SourcesLemmas.{option_or-none, option_or-or, per_namespace-equal}
 
 -- with nothing in types no later segment means anything
-pub walk-missing : (q : Question) (own : MapView) (crossed : Bool) (found : PerNs) (i : ℕ) (names : List Name)
-    → found.types ≡ None → 0 < length names → missing crossed ≡ walk q own crossed found i names
-walk-missing q own crossed found i [] e l = let none : ⊥ = omega arith in absurd none
-walk-missing q own crossed found i (name ∷ names) e l = rw e
+pub walk-missing : (q : Question) (own : MapView) (crossed : Bool) (found : PerNs) (i : ℕ) (names : List Name) (result whole : ResolvePathResult)
+    → result ≡ missing crossed → found.types ≡ None → 0 < length names → walk q own crossed found i names ≡ whole → result ≡ whole
+walk-missing q own crossed found i [] result whole p e l w = let none : ⊥ = omega arith in absurd none
+walk-missing q own crossed found i (name ∷ names) result whole p e l w = p ∙ (rw e at w)
 
 -- a path by sources, from what its first segment means
 answer_from-first : (q : Question) (own : MapView) (keep : Item → Bool) (sources : List Source) (names : List Name) (d : Name) (found : PerNs)
@@ -173,21 +173,38 @@ joined-two a b found r lead p q e =
     by_test Yes = refl
     by_test No = refl
 
--- a map that was asked before, and one that is asked now
-pub outside-seen : (q : Question) (path : ModPath) (before : List ModuleId) (m : ModuleId) (rest : List ModuleId)
-    → list_any (λ b. is_same_map b.map m.map) before ≡ true → answers_outside q path (before ++ m ∷ []) rest ≡ answers_outside q path before (m ∷ rest)
-outside-seen q path before m rest e = rw e
-
-pub outside-new : (q : Question) (path : ModPath) (before : List ModuleId) (m : ModuleId) (rest : List ModuleId) (answer : Option ResolvePathResult)
+outside-new : (q : Question) (path : ModPath) (before : List ModuleId) (m : ModuleId) (rest : List ModuleId) (answer : Option ResolvePathResult)
     → list_any (λ b. is_same_map b.map m.map) before ≡ false → answer ≡ answer_outside q path m
     → answers_outside q path before (m ∷ rest) ≡ cons_option answer (answers_outside q path (before ++ m ∷ []) rest)
 outside-new q path before m rest answer e p = rw (e, p)
 
+-- an answer with that of one more map: one that was asked before, one that there is not, and one that answers
+abbrev pub IsJoinedAt : Question → ModPath → List ModuleId → ModuleId → ResolvePathResult → ResolvePathResult → Type 0
+IsJoinedAt q path before m answer result =
+    (rest : List ModuleId) → joined result (answers_outside q path (before ++ m ∷ []) rest) ≡ joined answer (answers_outside q path before (m ∷ rest))
+
+pub outside-seen : (q : Question) (path : ModPath) (before : List ModuleId) (m : ModuleId) (answer : ResolvePathResult)
+    → list_any (λ b. is_same_map b.map m.map) before ≡ true → IsJoinedAt q path before m answer answer
+outside-seen q path before m answer e rest = rw e
+
+pub outside-unknown : (q : Question) (path : ModPath) (before : List ModuleId) (m : ModuleId) (answer : ResolvePathResult)
+    → list_any (λ b. is_same_map b.map m.map) before ≡ false → None ≡ answer_outside q path m → IsJoinedAt q path before m answer answer
+outside-unknown q path before m answer e p rest = sym (ap (joined answer) (outside-new q path before m rest None e p))
+
+pub outside-joined : (q : Question) (path : ModPath) (before : List ModuleId) (m : ModuleId) (answer other result : ResolvePathResult)
+    → list_any (λ b. is_same_map b.map m.map) before ≡ false → Some other ≡ answer_outside q path m
+    → result ≡ joined answer (other ∷ []) → IsJoinedAt q path before m answer result
+outside-joined q path before m answer other result e p r rest =
+    let others = answers_outside q path (before ++ m ∷ []) rest in
+    ap (λ a. joined a others) r ∙ sym (joined-more answer other others) ∙ sym (ap (joined answer) (outside-new q path before m rest (Some other) e p))
+
 -- one more of the modules that contain a block
-pub outside-step : (q : Question) (path : ModPath) (xs : List ModuleId) (i : ℕ) (d : ModuleId) (result answer : ResolvePathResult) → i < length xs
-    → ((rest : List ModuleId) → joined result (answers_outside q path (take i xs ++ get_or xs i d ∷ []) rest) ≡ joined answer (answers_outside q path (take i xs) (get_or xs i d ∷ rest)))
-    → joined result (answers_outside q path (take (i + 1) xs) (drop (i + 1) xs)) ≡ joined answer (answers_outside q path (take i xs) (drop i xs))
-outside-step q path xs i d result answer l h =
+pub outside-step : (q : Question) (path : ModPath) (xs : List ModuleId) (i : ℕ) (d : ModuleId) (result answer whole : ResolvePathResult) → i < length xs
+    → IsJoinedAt q path (take i xs) (get_or xs i d) answer result
+    → joined answer (answers_outside q path (take i xs) (drop i xs)) ≡ whole
+    → joined result (answers_outside q path (take (i + 1) xs) (drop (i + 1) xs)) ≡ whole
+outside-step q path xs i d result answer whole l h w =
     ap (λ b. joined result (answers_outside q path b (drop (i + 1) xs))) (take_more xs i d l)
     ∙ h (drop (i + 1) xs)
     ∙ ap (λ rest. joined answer (answers_outside q path (take i xs) rest)) (sym (drop-cons xs i d l ∙ ap (λ j. get_or xs i d ∷ drop j xs) (sym (add-one i))))
+    ∙ w

@@ -54,10 +54,10 @@ pub with_skipped : (keep : Item → Bool) (place : ModuleId) (s : Source) (name 
     → is_block_root place ≡ true → found ≡ with_source keep found (unless_block_root place s) name
 with_skipped keep place s name found e = rw e (sym (otherwise-nothing found))
 
--- one that is not skipped is the source itself
-pub with_unskipped : (keep : Item → Bool) (place : ModuleId) (s : Source) (name : Name) (found : PerNs)
-    → is_block_root place ≡ false → with_source keep found s name ≡ with_source keep found (unless_block_root place s) name
-with_unskipped keep place s name found e = rw e refl
+-- one that is not skipped adds what it has
+pub with_unskipped : (keep : Item → Bool) (place : ModuleId) (s : Source) (name : Name) (found result : PerNs)
+    → is_block_root place ≡ false → result ≡ with_source keep found s name → result ≡ with_source keep found (unless_block_root place s) name
+with_unskipped keep place s name found result e p = rw e p
 
 -- two sources more
 pub with_two : (keep : Item → Bool) (xs : List Source) (s t : Source) (name : Name) (found a result : PerNs)

@@ -29,6 +29,6 @@ returns g c before e =
     let inner : is_block_root place ≡ false = sym c.is_block_root.ensures ∙ c.if-is_block_root.false in
     with_three keep before (unless_block_root place (extern_source q)) (macro_use_source own) (unless_block_root place (prelude_source q own))
     c.args.segment.name c.args.found c.or_extern.result c.or_macro_use-found.result c.or_prelude.result e
-    (c.or_extern.ensures ∙ with_unskipped keep place (extern_source q) c.args.segment.name c.args.found inner)
+    (with_unskipped keep place (extern_source q) c.args.segment.name c.args.found c.or_extern.result inner c.or_extern.ensures)
     c.or_macro_use-found.ensures
-    (c.or_prelude.ensures ∙ with_unskipped keep place (prelude_source q own) c.args.segment.name c.or_macro_use-found.result inner)
+    (with_unskipped keep place (prelude_source q own) c.args.segment.name c.or_macro_use-found.result c.or_prelude.result inner c.or_prelude.ensures)

@@ -1,11 +1,12 @@
-use Rattle.std.proofs.Common.{◌∙◌}
 use Rattle.def_ids.specs.Ids.{crate_root}
+use Rattle.def_map.specs.Answers.{joined}
 use Rattle.def_map.specs.Asking.{question_in}
+use Rattle.def_map.specs.OuterMaps.{answers_outside}
 use Rattle.def_map.proofs.AnswersLemmas.{outside-step}
 use Rattle.def_map.proofs.path_resolution.sources.Asking.with_outside.Goals as goal
 
 pub maps-preserved : goal.maps-preserved
 maps-preserved g c =
     let q = question_in (g.D.SourceDatabase.oracle c.args.self.now.db.now) c.args.self.now in
-    outside-step q c.args.path.now c.args.containing.now c.maps.i (crate_root (record { 0 = 0 })) c.with_map-answer.result c.maps.answer c.maps-test.true c.with_map-answer.ensures
-    ∙ c.maps.invariant
+    outside-step q c.args.path.now c.args.containing.now c.maps.i (crate_root (record { 0 = 0 })) c.with_map-answer.result c.maps.answer
+    _ c.maps-test.true c.with_map-answer.ensures c.maps.invariant
