@@ -7,7 +7,7 @@ use Rattle.item_tree.specs.declared.attrs.AttrInput.TheVariants.{Str, TokenTree}
 use Rattle.item_tree.specs.declared.ids.AttrId.{AttrId}
 use Rattle.item_tree.specs.declared.name.Name.{Name}
 use Rattle.item_tree.specs.declared.tt.TtElement.{TtElement}
-use Rattle.item_tree.specs.Path.{as_ident}
+use Rattle.item_tree.specs.Paths.{as_ident}
 
 -- whether an attribute's path is this name alone
 abbrev pub has_key : Name → Attr → Bool

@@ -1,6 +1,6 @@
 pub mod formers
-pub mod Attrs
 pub mod Names
 pub mod Numbering
-pub mod Path
-pub mod Tree
+pub mod Paths
+pub mod Attrs
+pub mod Trees

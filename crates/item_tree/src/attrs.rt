@@ -7,8 +7,8 @@ ghost use Rattle.item_tree.specs.Attrs.{has_key, text_of, tokens_of, first_text,
 
 use crate::ids::{AttrId, CfgExpr, SyntaxContext};
 use crate::list::Seq;
-use crate::name::Name;
 use crate::mod_path::ModPath;
+use crate::name::Name;
 use crate::text::Text;
 use crate::tt::TopSubtree;
 use std::marker::Model;
