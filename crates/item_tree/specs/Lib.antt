@@ -4,3 +4,4 @@ pub mod Numbering
 pub mod Paths
 pub mod Attrs
 pub mod Trees
+pub mod TextOrder

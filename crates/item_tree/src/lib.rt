@@ -9,6 +9,7 @@ mod macro_flags;
 mod mod_path;
 mod name;
 mod text;
+mod text_order;
 mod tree;
 mod tt;
 
