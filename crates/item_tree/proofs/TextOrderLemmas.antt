@@ -1,15 +1,16 @@
 -- Items in the order of the text are a tree.
-use Rattle.std.proofs.Common.{◌≡◌, ℕ, ◌+◌, ◌<◌, ◌≤◌, ◌⊎◌, zero, suc, Bool, true, false, List, [], ◌∷◌, length, length-take-le, get_or, take, cond, ◌-◌, refl, sym, ap, ◌∙◌, subst, inl, inr, arith}
-use Rattle.std.specs.Prelude.{Some, None, Option, slice_get, option_map, unwrap_or, ◌==◌, sum_by, count_by, Any, if◌then◌else◌}
+use Rattle.std.proofs.Common.{◌≡◌, ℕ, ◌+◌, ◌<◌, ◌≤◌, ◌⊎◌, zero, suc, Bool, List, [], ◌∷◌, length, length-take-le, take, drop, cond, ◌-◌, refl, sym, ap, ◌∙◌, subst, inl, inr, arith}
+use Rattle.std.specs.Prelude.{Some, None, slice_get, ◌==◌, sum_by, if◌then◌else◌}
 use Rattle.std.proofs.lemmas.Bool.{cases_lt}
 use Rattle.std.proofs.lemmas.Bool.Decides.{eqb_tells}
-use Rattle.std.proofs.lemmas.Option.{slice_get_within, slice_get_past, slice_get_read, slice_get-get_or, get_or_from_slice_get}
+use Rattle.std.proofs.lemmas.Option.{slice_get_within, slice_get_read, slice_get-get_or}
 use Rattle.std.proofs.lemmas.List.Sums.{sum_by-cons}
 use Rattle.item_tree.specs.declared.ids.ModItemId.{ModItemId}
 use Rattle.item_tree.specs.declared.items.ItemNode.{ItemNode}
 use Rattle.item_tree.specs.declared.tree.TreeFault.TheVariants.{ChildOutOfRange, ChildNotAfterParent, TwoParents}
 use Rattle.item_tree.specs.Trees.{IsSound, children_at, children_of, count_in, occurrences, list_at}
-use Rattle.item_tree.specs.TextOrder.{IsRising, AreRising, IsWithin, IsCut, AreCut}
+use Rattle.item_tree.proofs.TreesLemmas.{children_there}
+use Rattle.item_tree.specs.TextOrder.{IsRising, AreRising, IsWithin, IsCut, AreCut, IsInTextOrder}
 
 -- a number of a rising list is in range
 pub rising_at : (bound low : ℕ) (list : List ModItemId) (k : ℕ) (c : ModItemId) → IsRising bound low list → slice_get list k ≡ Some c → (low ≤ c.0) × (c.0 < bound)
@@ -35,17 +36,20 @@ rising_last bound low (x ∷ xs) (suc k) zero c d rises at_k at_l before = absur
 rising_last bound low (x ∷ xs) (suc k) (suc l) c d rises at_k at_l before =
     rising_last bound (x.0 + 1) xs k l c d rises.2 at_k at_l (omega arith)
 
--- the children of an item that was read
-pub children_read : (items : List ItemNode) (i : ℕ) (item : ItemNode) → i < length items → item ≡ get_or items i item → children_at items i ≡ children_of item
-children_read items i item there read = ap (λ o. unwrap_or (option_map children_of o) []) (slice_get_read items (length items) i item refl there read)
+-- a list that rises from a number on rises from a lesser one on
+pub rising_lower : (bound low low' : ℕ) (list : List ModItemId) → low' ≤ low → IsRising bound low list → IsRising bound low' list
+rising_lower bound low low' [] below rises = tt
+rising_lower bound low low' (c ∷ cs) below rises = (omega (arith, rises.0), rises.1, rises.2)
 
--- the children of an item, by its place
-children_at_place : (items : List ItemNode) (i : ℕ) (item : ItemNode) → slice_get items i ≡ Some item → children_at items i ≡ children_of item
-children_at_place items i item at = ap (λ o. unwrap_or (option_map children_of o) []) at
-
--- an item that is not there has no children
-pub children_past : (items : List ItemNode) (i : ℕ) → length items ≤ i → children_at items i ≡ []
-children_past items i past = ap (λ o. unwrap_or (option_map children_of o) []) (slice_get_past items i past)
+-- what is left of a rising list behind one of its numbers
+pub rising_rest : (bound low i : ℕ) (list : List ModItemId) (c : ModItemId) → slice_get list i ≡ Some c → IsRising bound low (drop i list) → (low ≤ c.0) × (c.0 < bound) × IsRising bound (c.0 + 1) (drop (i + 1) list)
+rising_rest bound low i [] c at rises = cc
+rising_rest bound low zero (d ∷ ds) c at rises =
+    let same : d ≡ c = cc in
+    subst (λ (x : ModItemId). (low ≤ x.0) × (x.0 < bound) × IsRising bound (x.0 + 1) ds) same rises
+rising_rest bound low (suc i) (d ∷ ds) c at rises =
+    let next : suc (i + 1) ≡ suc i + 1 = omega arith in
+    subst (λ (n : ℕ). (low ≤ c.0) × (c.0 < bound) × IsRising bound (c.0 + 1) (drop n (d ∷ ds))) next (rising_rest bound low i ds c at rises)
 
 -- the last element of a list has its greatest place
 pub last_place : (list there : List ModItemId) (c : ModItemId) → list ≡ there → slice_get list (length list - 1) ≡ Some c → (slice_get there (length there - 1) ≡ Some c) × (length there ≡ (length there - 1) + 1)
@@ -182,14 +186,14 @@ sum_one f (x ∷ xs) each apart =
 -- an item is counted once at most in the list of one item
 one_of_each : (items : List ItemNode) → AreRising items → (i k : ℕ) (item : ItemNode) → slice_get items k ≡ Some item → count_in i (children_of item) ≤ 1
 one_of_each items rising i k item at =
-    let same = children_at_place items k item at in
+    let same = children_there items k item at in
     subst (λ (list : List ModItemId). count_in i list ≤ 1) same (count_rising (length items) (k + 1) i (children_at items k) (rising k))
 
 -- no item stands in the lists of two items
 apart : (items : List ItemNode) → AreRising items → AreCut items 0 → (i k l : ℕ) (x y : ItemNode) → k < l → slice_get items k ≡ Some x → slice_get items l ≡ Some y → 0 < count_in i (children_of x) → 0 < count_in i (children_of y) → ⊥
 apart items rising cut i k l x y before at_k at_l in_x in_y =
-    let first = counted_at i (children_at items k) (subst (λ (list : List ModItemId). 0 < count_in i list) (sym (children_at_place items k x at_k)) in_x) in
-    let second = counted_at i (children_at items l) (subst (λ (list : List ModItemId). 0 < count_in i list) (sym (children_at_place items l y at_l)) in_y) in
+    let first = counted_at i (children_at items k) (subst (λ (list : List ModItemId). 0 < count_in i list) (sym (children_there items k x at_k)) in_x) in
+    let second = counted_at i (children_at items l) (subst (λ (list : List ModItemId). 0 < count_in i list) (sym (children_there items l y at_l)) in_y) in
     let ahead = rising_at (length items) (l + 1) (children_at items l) second.0 second.1 (rising l) second.2 in
     let fits = cut k (omega arith) first.0 first.1 first.2 l second.0 second.1 (omega arith) (omega (arith, ahead.0, second.3, first.3)) second.2 in
     omega (arith, fits, first.3, second.3)
@@ -198,7 +202,7 @@ apart items rising cut i k l x y before at_k at_l in_x in_y =
 apart_from_top : (items : List ItemNode) (top : List ModItemId) → AreRising items → IsCut items 0 top → (i l : ℕ) (y : ItemNode) → slice_get items l ≡ Some y → 0 < count_in i top → 0 < count_in i (children_of y) → ⊥
 apart_from_top items top rising cut i l y at_l in_top in_y =
     let first = counted_at i top in_top in
-    let second = counted_at i (children_at items l) (subst (λ (list : List ModItemId). 0 < count_in i list) (sym (children_at_place items l y at_l)) in_y) in
+    let second = counted_at i (children_at items l) (subst (λ (list : List ModItemId). 0 < count_in i list) (sym (children_there items l y at_l)) in_y) in
     let ahead = rising_at (length items) (l + 1) (children_at items l) second.0 second.1 (rising l) second.2 in
     let fits = cut first.0 first.1 first.2 l second.0 second.1 (omega arith) (omega (arith, ahead.0, second.3, first.3)) second.2 in
     omega (arith, fits, first.3, second.3)
@@ -230,15 +234,15 @@ list_in_range items top rising top_rising i k c at =
     ]
 
 -- items in the order of the text have no fault
-pub sound_in_text_order : (items : List ItemNode) (top : List ModItemId) → AreRising items → IsRising (length items) 0 top → AreCut items 0 → IsCut items 0 top → IsSound items top
-sound_in_text_order items top rising top_rising cut top_cut (ChildOutOfRange i) fault =
+pub sound_in_text_order : (items : List ItemNode) (top : List ModItemId) → IsInTextOrder items top → IsSound items top
+sound_in_text_order items top ordered (ChildOutOfRange i) fault =
     let at = slice_get_read (list_at items top i) (length (list_at items top i)) fault.0 fault.1 refl fault.2 (sym fault.3) in
-    let there = list_in_range items top rising top_rising i fault.0 fault.1 at in
+    let there = list_in_range items top ordered.rising ordered.top_rising i fault.0 fault.1 at in
     omega (arith, there, fault.4)
-sound_in_text_order items top rising top_rising cut top_cut (ChildNotAfterParent i) fault =
+sound_in_text_order items top ordered (ChildNotAfterParent i) fault =
     let at = slice_get_read (children_at items i) (length (children_at items i)) fault.0 fault.1 refl fault.2 (sym fault.3) in
-    let ahead = rising_at (length items) (i + 1) (children_at items i) fault.0 fault.1 (rising i) at in
+    let ahead = rising_at (length items) (i + 1) (children_at items i) fault.0 fault.1 (ordered.rising i) at in
     omega (arith, ahead.0, fault.4)
-sound_in_text_order items top rising top_rising cut top_cut (TwoParents i) fault =
-    let one = once items top rising top_rising cut top_cut i in
+sound_in_text_order items top ordered (TwoParents i) fault =
+    let one = once items top ordered.rising ordered.top_rising ordered.cut ordered.top_cut i in
     omega (arith, one, fault.1)

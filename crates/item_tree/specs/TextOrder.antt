@@ -24,3 +24,10 @@ IsCut items low list = (k : ℕ) (c : ModItemId) → slice_get list k ≡ Some c
 -- the children of each item from `low` on cut the items behind it
 abbrev pub AreCut : List ItemNode → ℕ → Type 0
 AreCut items low = (i : ℕ) → low ≤ i → IsCut items (i + 1) (children_at items i)
+
+-- a parent comes before its children, siblings rise, and each subtree ends before the next sibling; likewise the top list
+pub record IsInTextOrder (items : List ItemNode) (top : List ModItemId) : Type 0 where
+  pub rising : AreRising items
+  pub top_rising : IsRising (length items) 0 top
+  pub cut : AreCut items 0
+  pub top_cut : IsCut items 0 top

@@ -1,7 +1,6 @@
 //! A test for items that are numbered in the order of the text.
-ghost use Rattle.std.specs.Prelude.{◌<◌, ◌≤◌, ◌+◌, length, IsTrue};
-ghost use Rattle.item_tree.specs.Trees.{IsSound};
-ghost use Rattle.item_tree.specs.TextOrder.{IsRising, AreRising, IsWithin, IsCut, AreCut};
+ghost use Rattle.std.specs.Prelude.{◌<◌, ◌≤◌, ◌+◌, length, IsTrue, ◌↔◌, ℕ};
+ghost use Rattle.item_tree.specs.TextOrder.{IsRising, AreRising, IsWithin, IsCut, AreCut, IsInTextOrder};
 
 use crate::ids::ModItemId;
 use crate::items::ItemNode;
@@ -9,10 +8,11 @@ use crate::items::ItemNode;
 /// Whether each parent comes before its children, siblings rise, and each subtree ends before the
 /// next sibling. Such items are a tree.
 ///
-/// An answer of `true` takes linear time: two walks over the lists, and for each child but the last
-/// of its list a walk down the last children below it. No two of these walks share an item.
+/// Takes no memory. An answer of `true` takes linear time: two walks over the lists, and for each
+/// child but the last of its list, and each item between subtrees that stands in no list, a walk
+/// down the last children below it. No two of these walks share an item.
 pub fn is_in_text_order(items: &[ItemNode], top: &[ModItemId]) -> bool
-    ensures { IsTrue result → IsSound items.now top.now }
+    ensures { IsTrue result ↔ IsInTextOrder items.now top.now }
 {
     if !are_rising(items) {
         return false;
@@ -28,7 +28,7 @@ pub fn is_in_text_order(items: &[ItemNode], top: &[ModItemId]) -> bool
 
 /// Whether the children of each item rise behind it.
 fn are_rising(items: &[ItemNode]) -> bool
-    ensures { IsTrue result → AreRising items.now }
+    ensures { IsTrue result ↔ AreRising items.now }
 {
     for i in 0..items.len() {
         if !is_rising(items[i].children(), i + 1, items.len()) {
@@ -40,7 +40,7 @@ fn are_rising(items: &[ItemNode]) -> bool
 
 /// Whether the numbers in a list rise from `low` on and stay below `bound`.
 fn is_rising(list: &[ModItemId], low: usize, bound: usize) -> bool
-    ensures { IsTrue result → IsRising bound low list.now }
+    ensures { IsTrue result ↔ IsRising bound low list.now }
 {
     let mut next = low;
     for c in list {
@@ -55,7 +55,7 @@ fn is_rising(list: &[ModItemId], low: usize, bound: usize) -> bool
 /// Whether each list of children goes from subtree to subtree.
 fn are_cut(items: &[ItemNode]) -> bool
     requires { AreRising items.now }
-    ensures { IsTrue result → AreCut items.now 0 }
+    ensures { IsTrue result ↔ AreCut items.now 0 }
 {
     let mut i = items.len();
     'items: while i > 0 {
@@ -73,7 +73,7 @@ fn is_cut(items: &[ItemNode], list: &[ModItemId], low: usize) -> bool
     requires rising { AreRising items.now }
     requires cut { AreCut items.now low }
     requires list_rising { IsRising (length items.now) low list.now }
-    ensures { IsTrue result → IsCut items.now low list.now }
+    ensures { IsTrue result ↔ IsCut items.now low list.now }
 {
     let mut at = low;
     for c in list {
@@ -91,7 +91,9 @@ fn next_subtree(items: &[ItemNode], from: usize, to: usize) -> usize
     requires rising { AreRising items.now }
     requires cut { AreCut items.now from }
     ensures after { from ≤ result }
+    ensures behind { to ≤ result }
     ensures within { IsWithin items.now from result result }
+    ensures nearest { from ≤ to → IsWithin items.now from to to → result ≤ to }
 {
     let mut at = from;
     'subtrees: while at < to {
@@ -107,6 +109,7 @@ fn subtree_end(items: &[ItemNode], i: usize) -> usize
     requires cut { AreCut items.now i }
     ensures after { i < result }
     ensures within { IsWithin items.now i result result }
+    ensures nearest { (to : ℕ) → i < to → IsWithin items.now i to to → result ≤ to }
 {
     let mut last = i;
     'last: while let Some(child) = items[last].children().last() {

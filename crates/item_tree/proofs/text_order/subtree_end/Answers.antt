@@ -1,7 +1,8 @@
-use Rattle.std.proofs.Common.{◌≡◌, ◌+◌, ◌<◌, ◌-◌, length, arith, sym, ap, ◌∙◌, [], List}
+use Rattle.std.proofs.Common.{arith, sym, ap, ◌∙◌}
 use Rattle.std.specs.Option.{option_copied}
 use Rattle.item_tree.specs.Trees.{children_at}
-use Rattle.item_tree.proofs.TextOrderLemmas.{rising_at, children_read, last_place, empty_from_none, within_last, within_end}
+use Rattle.item_tree.proofs.TextOrderLemmas.{rising_at, last_place, empty_from_none, within_last, within_end}
+use Rattle.item_tree.proofs.TreesLemmas.{children_read}
 use Rattle.item_tree.proofs.text_order.subtree_end.Goals as goal
 
 pub last-smaller : goal.last-smaller
@@ -24,6 +25,7 @@ last-preserved c =
       there = ahead.1;
       after = omega (arith, ahead.0, c.last.invariant.after);
       within = within_last items c.args.i last _ _ c.last.invariant.within c.requires.rising (c.requires.cut last c.last.invariant.after) child.0 child.1;
+      nearest = λ to before within. within last _ _ c.last.invariant.after (c.last.invariant.nearest to before within) child.0;
     }
 
 pub returns-clause-within : goal.returns-clause-within
