@@ -1,7 +1,10 @@
 pub mod formers
+pub mod Lists
 pub mod Names
+pub mod KnownNames
 pub mod Numbering
 pub mod Paths
+pub mod TokenTrees
 pub mod Attrs
 pub mod Trees
 pub mod TextOrder

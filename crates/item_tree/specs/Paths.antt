@@ -1,21 +1,22 @@
 -- Paths.
-use Rattle.std.specs.Prelude.{Option, None, Some, List, [], ◌∷◌}
+use Rattle.std.specs.Prelude.{Option, None, Bool, false, Some, List}
 use Rattle.item_tree.specs.declared.name.Name.{Name}
 use Rattle.item_tree.specs.declared.mod_path.PathKind.{PathKind}
 use Rattle.item_tree.specs.declared.mod_path.PathKind.TheVariants.{Plain}
 use Rattle.item_tree.specs.declared.mod_path.ModPath.{ModPath}
+use Rattle.item_tree.specs.KnownNames.{name_eq}
+use Rattle.item_tree.specs.Lists.{only_of_list}
 
--- the one element of a list of one
-abbrev pub only : {A : Type 0} → List A → Option A
-only [] = None
-only (x ∷ []) = Some x
-only (x ∷ y ∷ rest) = None
-
--- the only segment of a path of this kind, if the kind is plain
-abbrev pub plain_only : PathKind → List Name → Option Name
-plain_only Plain segments = only segments
-plain_only _ segments = None
+-- the segment of a path of this kind, where it is plain and the segment stands alone
+abbrev pub ident_of : PathKind → List Name → Option Name
+ident_of Plain segments = only_of_list segments
+ident_of _ segments = None
 
 -- the segment of a plain path of one segment
 abbrev pub as_ident : ModPath → Option Name
-as_ident path = plain_only path.kind path.segments
+as_ident path = ident_of path.kind path.segments
+
+-- whether an identifier is there, and is this name
+abbrev pub is_ident : Option Name → Name → Bool
+is_ident None name = false
+is_ident (Some ident) name = name_eq ident name

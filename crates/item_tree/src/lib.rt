@@ -8,6 +8,7 @@ mod list;
 mod macro_flags;
 mod mod_path;
 mod name;
+pub mod sym;
 mod text;
 mod text_order;
 mod tree;
