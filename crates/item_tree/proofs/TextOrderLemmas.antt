@@ -69,8 +69,8 @@ empty_from_none (x ∷ xs) there same none =
 pub within_join : (items : List ItemNode) (low middle high : ℕ) → IsWithin items low middle middle → IsWithin items middle high high → middle ≤ high → IsWithin items low high high
 within_join items low middle high first second ordered i k c from to at =
     elim (cases_lt i middle) [
-      inl before ↦ (let fits = first i k c from before at in omega (arith, fits, ordered))
-    | inr behind ↦ second i k c behind to at
+      | inl before ↦ (let fits = first i k c from before at in omega (arith, fits, ordered))
+      | inr behind ↦ second i k c behind to at
     ]
 
 -- a walk from an item down to the last child below it passes no other child
@@ -78,15 +78,15 @@ pub within_last : (items : List ItemNode) (low last l : ℕ) (child : ModItemId)
 within_last items low last l child within rising cut at_last long i k c from to at =
     let ahead = rising_at (length items) (last + 1) (children_at items last) l child (rising last) at_last in
     elim (cases_lt i last) [
-      inl before ↦ (let fits = within i k c from before at in omega (arith, fits, ahead.0))
-    | inr behind ↦ elim (cases_lt last i) [
-        inl between ↦ (let fits = cut l child at_last i k c (omega arith) to at in omega (arith, fits))
-      | inr upto ↦
-        (let same : i ≡ last = omega arith in
-        let here : slice_get (children_at items last) k ≡ Some c = subst (λ (j : ℕ). slice_get (children_at items j) k ≡ Some c) same at in
-        let place = slice_get_within (children_at items last) k c here in
-        let fits = rising_last (length items) (last + 1) (children_at items last) k l c child (rising last) here at_last (omega (arith, place, long)) in
-        omega (arith, fits))
+      | inl before ↦ (let fits = within i k c from before at in omega (arith, fits, ahead.0))
+      | inr behind ↦ elim (cases_lt last i) [
+        | inl between ↦ (let fits = cut l child at_last i k c (omega arith) to at in omega (arith, fits))
+        | inr upto ↦
+            (let same : i ≡ last = omega arith in
+            let here : slice_get (children_at items last) k ≡ Some c = subst (λ (j : ℕ). slice_get (children_at items j) k ≡ Some c) same at in
+            let place = slice_get_within (children_at items last) k c here in
+            let fits = rising_last (length items) (last + 1) (children_at items last) k l c child (rising last) here at_last (omega (arith, place, long)) in
+            omega (arith, fits))
       ]
     ]
 
@@ -94,11 +94,11 @@ within_last items low last l child within rising cut at_last long i k c from to 
 pub within_end : (items : List ItemNode) (low last : ℕ) → IsWithin items low last (last + 1) → children_at items last ≡ [] → IsWithin items low (last + 1) (last + 1)
 within_end items low last within none i k c from to at =
     elim (cases_lt i last) [
-      inl before ↦ within i k c from before at
-    | inr behind ↦
-      (let same : i ≡ last = omega arith in
-      let here : slice_get [] k ≡ Some c = subst (λ (list : List ModItemId). slice_get list k ≡ Some c) none (subst (λ (j : ℕ). slice_get (children_at items j) k ≡ Some c) same at) in
-      cc)
+      | inl before ↦ within i k c from before at
+      | inr behind ↦
+          (let same : i ≡ last = omega arith in
+          let here : slice_get [] k ≡ Some c = subst (λ (list : List ModItemId). slice_get list k ≡ Some c) none (subst (λ (j : ℕ). slice_get (children_at items j) k ≡ Some c) same at) in
+          cc)
     ]
 
 -- an element of a prefix is one of the list
@@ -122,11 +122,11 @@ cut_more items low i list c cut stands here k d at =
     let place = slice_get_within (take (i + 1) list) k d at in
     let room = slice_get_within list i c stands in
     elim (cases_lt k i) [
-      inl before ↦ cut k d (into_prefix i list k d before there)
-    | inr behind ↦
-      (let last : k ≡ i = omega (arith, place, length-take-le {A = ModItemId}) in
-      let same : c ≡ d = cc in
-      subst (λ (x : ModItemId). IsWithin items low x.0 x.0) same here)
+      | inl before ↦ cut k d (into_prefix i list k d before there)
+      | inr behind ↦
+          (let last : k ≡ i = omega (arith, place, length-take-le {A = ModItemId}) in
+          let same : c ≡ d = cc in
+          subst (λ (x : ModItemId). IsWithin items low x.0 x.0) same here)
     ]
 
 -- numbers below those of a rising list are not in it
@@ -135,8 +135,8 @@ count_below bound low i [] rises below = refl
 count_below bound low i (c ∷ cs) rises below =
     let rest = count_below bound (c.0 + 1) i cs rises.2 (omega (arith, rises.0)) in
     elim (eqb_tells c.0 i) [
-      inl w ↦ absurd (let same = w.1 in omega (arith, rises.0))
-    | inr w ↦ sum_by-cons (λ (d : ModItemId). cond (d.0 == i) 1 0) c cs ∙ omega (arith, ap {B = ℕ} (λ b. cond b 1 0) w.0, rest)
+      | inl w ↦ absurd (let same = w.1 in omega (arith, rises.0))
+      | inr w ↦ sum_by-cons (λ (d : ModItemId). cond (d.0 == i) 1 0) c cs ∙ omega (arith, ap {B = ℕ} (λ b. cond b 1 0) w.0, rest)
     ]
 
 -- a rising list has no number twice
@@ -145,8 +145,8 @@ count_rising bound low i [] rises = omega arith
 count_rising bound low i (c ∷ cs) rises =
     let more = sum_by-cons (λ (d : ModItemId). cond (d.0 == i) 1 0) c cs in
     elim (eqb_tells c.0 i) [
-      inl w ↦ (let same = w.1 in let rest = count_below bound (c.0 + 1) i cs rises.2 (omega arith) in omega (arith, more, ap {B = ℕ} (λ b. cond b 1 0) w.0, rest))
-    | inr w ↦ (let rest = count_rising bound (c.0 + 1) i cs rises.2 in omega (arith, more, ap {B = ℕ} (λ b. cond b 1 0) w.0, rest))
+      | inl w ↦ (let same = w.1 in let rest = count_below bound (c.0 + 1) i cs rises.2 (omega arith) in omega (arith, more, ap {B = ℕ} (λ b. cond b 1 0) w.0, rest))
+      | inr w ↦ (let rest = count_rising bound (c.0 + 1) i cs rises.2 in omega (arith, more, ap {B = ℕ} (λ b. cond b 1 0) w.0, rest))
     ]
 
 -- a number that is counted stands at a place
@@ -155,8 +155,8 @@ counted_at i [] some = absurd (omega arith)
 counted_at i (c ∷ cs) some =
     let more = sum_by-cons (λ (d : ModItemId). cond (d.0 == i) 1 0) c cs in
     elim (eqb_tells c.0 i) [
-      inl w ↦ (zero, c, refl, w.1)
-    | inr w ↦ (let rest = counted_at i cs (omega (arith, more, ap {B = ℕ} (λ b. cond b 1 0) w.0, some)) in (suc rest.0, rest.1, rest.2, rest.3))
+      | inl w ↦ (zero, c, refl, w.1)
+      | inr w ↦ (let rest = counted_at i cs (omega (arith, more, ap {B = ℕ} (λ b. cond b 1 0) w.0, some)) in (suc rest.0, rest.1, rest.2, rest.3))
     ]
 
 -- a sum of nothing
@@ -176,12 +176,11 @@ sum_one f [] each apart = omega arith
 sum_one f (x ∷ xs) each apart =
     let more = sum_by-cons f x xs in
     elim (positive (f x)) [
-      inl none ↦ (let rest = sum_one f xs (λ k y at. each (suc k) y at) (λ k l y z before at_y at_z. apart (suc k) (suc l) y z (omega arith) at_y at_z) in omega (arith, more, none, rest))
-    | inr some ↦
-      (let rest = sum_none f xs (λ k y at. elim (positive (f y)) [ inl none ↦ none | inr other ↦ absurd (apart zero (suc k) x y (omega arith) refl at some other) ]) in
-      omega (arith, more, each zero x refl, rest))
+      | inl none ↦ (let rest = sum_one f xs (λ k y at. each (suc k) y at) (λ k l y z before at_y at_z. apart (suc k) (suc l) y z (omega arith) at_y at_z) in omega (arith, more, none, rest))
+      | inr some ↦
+          (let rest = sum_none f xs (λ k y at. elim (positive (f y)) [ inl none ↦ none | inr other ↦ absurd (apart zero (suc k) x y (omega arith) refl at some other) ]) in
+          omega (arith, more, each zero x refl, rest))
     ]
-
 
 -- an item is counted once at most in the list of one item
 one_of_each : (items : List ItemNode) → AreRising items → (i k : ℕ) (item : ItemNode) → slice_get items k ≡ Some item → count_in i (children_of item) ≤ 1
@@ -213,24 +212,24 @@ once items top rising top_rising cut top_cut i =
     let counted : ItemNode → ℕ = λ item. count_in i (children_of item) in
     let in_top = count_rising (length items) 0 i top top_rising in
     elim (positive (count_in i top)) [
-      inl none ↦
-      (let below = sum_one counted items (one_of_each items rising i) (apart items rising cut i) in
-      omega (arith, none, below))
-    | inr some ↦
-      (let below = sum_none counted items (λ k item at. elim (positive (counted item)) [ inl none ↦ none | inr other ↦ absurd (apart_from_top items top rising top_cut i k item at some other) ]) in
-      omega (arith, in_top, below))
+      | inl none ↦
+          (let below = sum_one counted items (one_of_each items rising i) (apart items rising cut i) in
+          omega (arith, none, below))
+      | inr some ↦
+          (let below = sum_none counted items (λ k item at. elim (positive (counted item)) [ inl none ↦ none | inr other ↦ absurd (apart_from_top items top rising top_cut i k item at some other) ]) in
+          omega (arith, in_top, below))
     ]
 
 -- each number of a list of a tree in the order of the text is in range
 list_in_range : (items : List ItemNode) (top : List ModItemId) → AreRising items → IsRising (length items) 0 top → (i k : ℕ) (c : ModItemId) → slice_get (list_at items top i) k ≡ Some c → c.0 < length items
 list_in_range items top rising top_rising i k c at =
     elim (eqb_tells i (length items)) [
-      inl w ↦
-      (let here : slice_get top k ≡ Some c = subst (λ (b : Bool). slice_get (if b then top else children_at items i) k ≡ Some c) w.0 at in
-      (rising_at (length items) 0 top k c top_rising here).1)
-    | inr w ↦
-      (let here : slice_get (children_at items i) k ≡ Some c = subst (λ (b : Bool). slice_get (if b then top else children_at items i) k ≡ Some c) w.0 at in
-      (rising_at (length items) (i + 1) (children_at items i) k c (rising i) here).1)
+      | inl w ↦
+          (let here : slice_get top k ≡ Some c = subst (λ (b : Bool). slice_get (if b then top else children_at items i) k ≡ Some c) w.0 at in
+          (rising_at (length items) 0 top k c top_rising here).1)
+      | inr w ↦
+          (let here : slice_get (children_at items i) k ≡ Some c = subst (λ (b : Bool). slice_get (if b then top else children_at items i) k ≡ Some c) w.0 at in
+          (rising_at (length items) (i + 1) (children_at items i) k c (rising i) here).1)
     ]
 
 -- items in the order of the text have no fault

@@ -1,4 +1,7 @@
 //! Items.
+ghost use Rattle.std.specs.Prelude.{◌≡◌};
+ghost use Rattle.item_tree.specs.Trees.{children_of};
+
 use crate::attrs::AttrsOrCfg;
 use crate::ids::{FileAstId, ModItemId};
 use crate::list::Seq;
@@ -73,4 +76,19 @@ pub struct ItemNode {
     pub ast_id: FileAstId,
     pub attrs: Option<AttrsOrCfg>,
     pub kind: ModItemKind,
+}
+
+impl ItemNode {
+    /// The items in this one.
+    pub fn children(&self) -> &[ModItemId]
+        ensures { result.now ≡ children_of self.now }
+    {
+        match &self.kind {
+            ModItemKind::Mod {
+                contents: ModContents::Inline(children),
+                ..
+            } => children.as_slice(),
+            _ => &[],
+        }
+    }
 }

@@ -11,10 +11,9 @@ returns-then-not-is_cut c =
     let items = c.args.items.now in
     let i = c.items.i - 1 in
     let there : i < length items = omega (arith, c.items-test.true, c.items.invariant.within) in
-    let same = children_read items i c.index-items-i.result there c.index-items-i.is ∙ sym c.children.ensures in
-    (
+    let same = children_read items i c.index-items-i.result there c.index-items-i.is ∙ sym c.children.ensures in (
       λ yes. absurd (search (rules, yes)),
-      λ cut. sym c.if-not-is_cut.true ∙ c.is_cut.ensures.1 (subst (λ (list : List ModItemId). IsCut items (i + 1) list) same (cut i (omega arith)))
+      λ cut. sym c.if-not-is_cut.true ∙ c.is_cut.ensures.1 (subst (λ (list : List ModItemId). IsCut items (i + 1) list) same (cut i (omega arith))),
     )
 
 pub items-preserved : goal.items-preserved
@@ -27,7 +26,7 @@ items-preserved c =
     record {
       within = omega (arith, c.items.invariant.within);
       cut = λ j from. elim (cases_lt i j) [
-        inl behind ↦ c.items.invariant.cut j (omega (arith, behind))
-      | inr upto ↦ (let equal : i ≡ j = omega (arith, from, upto) in subst (λ (n : ℕ). IsCut items (n + 1) (children_at items n)) equal here)
+        | inl behind ↦ c.items.invariant.cut j (omega (arith, behind))
+        | inr upto ↦ (let equal : i ≡ j = omega (arith, from, upto) in subst (λ (n : ℕ). IsCut items (n + 1) (children_at items n)) equal here)
       ];
     }

@@ -34,18 +34,17 @@ returns-then-at-c c =
     let i = c.loop-c.c-index in
     let child = get_or list i (record { 0 = 0 }) in
     let at = slice_get-get_or list i (record { 0 = 0 }) c.loop-c-test.true in
-    let rest = rising_rest (length items) c.loop-c.at i list child at c.loop-c.invariant.rest in
-    (
+    let rest = rising_rest (length items) c.loop-c.at i list child at c.loop-c.invariant.rest in (
       λ yes. absurd (search (rules, yes)),
       λ cut.
-        let near = c.next_subtree-at.ensures.nearest rest.0 (λ j k d from. cut i child at j k d (omega (arith, c.loop-c.invariant.after, from))) in
-        absurd (c.if-at-c.true (omega (arith, near, c.next_subtree-at.ensures.behind)))
+          let near = c.next_subtree-at.ensures.nearest rest.0 (λ j k d from. cut i child at j k d (omega (arith, c.loop-c.invariant.after, from))) in
+          absurd (c.if-at-c.true (omega (arith, near, c.next_subtree-at.ensures.behind))),
     )
 
 pub returns : goal.returns
 returns c = (
-    λ yes k d at.
+  λ yes k d at.
       let place = slice_get_within c.args.list.now k d at in
       c.loop-c.invariant.cut k d (into_prefix c.loop-c.c-index c.args.list.now k d (omega (arith, place, c.loop-c-test.false)) at),
-    λ cut. search rules
-  )
+  λ cut. search rules,
+)
