@@ -9,7 +9,7 @@ use Rattle.item_tree.specs.declared.ids.ModItemId.{ModItemId}
 use Rattle.item_tree.specs.declared.items.ItemNode.{ItemNode}
 use Rattle.item_tree.specs.declared.tree.TreeFault.TheVariants.{ChildOutOfRange, ChildNotAfterParent, TwoParents}
 use Rattle.item_tree.specs.Trees.{IsSound, children_at, children_of, count_in, occurrences, list_at}
-use Rattle.item_tree.proofs.TreesLemmas.{children_there}
+use Rattle.item_tree.specs.TreesLaws.{children_there}
 use Rattle.item_tree.specs.TextOrder.{IsRising, AreRising, IsWithin, IsCut, AreCut, IsInTextOrder}
 
 -- a number of a rising list is in range

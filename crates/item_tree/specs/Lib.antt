@@ -7,4 +7,5 @@ pub mod Paths
 pub mod TokenTrees
 pub mod Attrs
 pub mod Trees
+pub mod TreesLaws
 pub mod TextOrder
