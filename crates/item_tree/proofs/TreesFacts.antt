@@ -1,6 +1,6 @@
 -- Trees and faults, at worked rows.
 use Rattle.std.proofs.Common.{◌≡◌, ℕ, ◌<◌, ◌≤◌, ◌⊎◌, List, [], ◌∷◌, refl, arith, lit<, lit≤}
-use Rattle.std.specs.Prelude.{None}
+use Rattle.std.specs.Prelude.{true, false, None}
 use Rattle.item_tree.specs.declared.ids.ModItemId.{ModItemId}
 use Rattle.item_tree.specs.declared.items.ItemNode.{ItemNode}
 use Rattle.item_tree.specs.declared.items.ModContents.TheVariants.{Inline}
@@ -10,6 +10,7 @@ use Rattle.item_tree.specs.declared.items.CtorVisibility.TheVariants.{NoValueNsC
 use Rattle.item_tree.specs.declared.tree.TreeFault.TheVariants.{ChildOutOfRange, ChildNotAfterParent, TwoParents}
 use Rattle.item_tree.specs.KnownNames.{self_name}
 use Rattle.item_tree.specs.Trees.{children_of, occurrences, list_at, IsFault, IsFirstFault, item_of, rank_of}
+use Rattle.item_tree.specs.TreesLaws.{is_tree}
 use Rattle.item_tree.specs.TextOrder.{IsRising}
 
 abbrev id : ℕ → ModItemId
@@ -68,3 +69,16 @@ top_leads_out = (0, id 1, lit< tt, refl, lit≤ tt)
 
 siblings_rise : IsRising 4 1 (id 1 ∷ id 3 ∷ [])
 siblings_rise = (lit≤ tt, lit< tt, (lit≤ tt, lit< tt, tt))
+
+-- a struct, and a module that holds a struct
+abbrev small : List ItemNode
+small = leaf ∷ module_of (id 2 ∷ []) ∷ leaf ∷ []
+
+small_is_a_tree : is_tree small (id 0 ∷ id 1 ∷ []) ≡ true
+small_is_a_tree = refl
+
+shared_is_none : is_tree shared (id 0 ∷ id 1 ∷ []) ≡ false
+shared_is_none = refl
+
+child_5_is_none : is_tree (module_of (id 5 ∷ []) ∷ []) (id 0 ∷ []) ≡ false
+child_5_is_none = refl
