@@ -35,9 +35,9 @@ list_there items top i below = ap (λ b. if b then top else children_at items i)
 -- the list behind those of the items is the top list
 list_on_top : (items : List ItemNode) (top : List ModItemId) → list_at items top (length items) ≡ top
 list_on_top items top = elim (eqb_tells (length items) (length items)) [
-    inl w ↦ ap (λ b. if b then top else children_at items (length items)) w.0
+  | inl w ↦ ap (λ b. if b then top else children_at items (length items)) w.0
   | inr w ↦ absurd (w.1 refl)
-  ]
+]
 
 -- a child is there
 pub child_there : (items : List ItemNode) (top : List ModItemId) (i k : ℕ) (item : ItemNode) (c : ModItemId) → IsSound items top → slice_get items i ≡ Some item → slice_get (children_of item) k ≡ Some c → c.0 < length items
@@ -95,8 +95,8 @@ once_at items top zero i all below = absurd (omega arith)
 once_at items top (suc n) i all below =
     let parts = both (nat_lt (occurrences items top n) 2) (stand_once items top n) all in
     elim (eqb_tells i n) [
-      inl w ↦ subst (λ (j : ℕ). occurrences items top j < 2) (sym w.1) (ltb-true (occurrences items top n) 2 parts.0)
-    | inr w ↦ once_at items top n i parts.1 (let apart = w.1 in omega (arith, apart))
+      | inl w ↦ subst (λ (j : ℕ). occurrences items top j < 2) (sym w.1) (ltb-true (occurrences items top n) 2 parts.0)
+      | inr w ↦ once_at items top n i parts.1 (let apart = w.1 in omega (arith, apart))
     ]
 
 -- a child of an item at a place
@@ -113,15 +113,15 @@ sound_from_test items top all (ChildOutOfRange i) fault =
     let parts = both (are_behind n 0 items) _ (both _ (stand_once items top n) all).0 in
     let at = slice_get_read list (length list) fault.0 fault.1 refl fault.2 (sym fault.3) in
     elim (eqb_tells i n) [
-      inl w ↦
-      (let here : slice_get top fault.0 ≡ Some fault.1 = subst (λ (b : Bool). slice_get (if b then top else children_at items i) fault.0 ≡ Some fault.1) w.0 at in
-      let below = ltb-true fault.1.0 n (each_passes (λ c. nat_lt c.0 n) top fault.0 fault.1 parts.1 here) in
-      omega (arith, below, fault.4))
-    | inr w ↦
-      (let here : slice_get (children_at items i) fault.0 ≡ Some fault.1 = subst (λ (b : Bool). slice_get (if b then top else children_at items i) fault.0 ≡ Some fault.1) w.0 at in
-      let child = child_at items i fault.0 fault.1 here in
-      let behind = behind_at n 0 items i fault.0 child.0 fault.1 parts.0 child.1 child.2 in
-      omega (arith, behind.1, fault.4))
+      | inl w ↦
+          (let here : slice_get top fault.0 ≡ Some fault.1 = subst (λ (b : Bool). slice_get (if b then top else children_at items i) fault.0 ≡ Some fault.1) w.0 at in
+          let below = ltb-true fault.1.0 n (each_passes (λ c. nat_lt c.0 n) top fault.0 fault.1 parts.1 here) in
+          omega (arith, below, fault.4))
+      | inr w ↦
+          (let here : slice_get (children_at items i) fault.0 ≡ Some fault.1 = subst (λ (b : Bool). slice_get (if b then top else children_at items i) fault.0 ≡ Some fault.1) w.0 at in
+          let child = child_at items i fault.0 fault.1 here in
+          let behind = behind_at n 0 items i fault.0 child.0 fault.1 parts.0 child.1 child.2 in
+          omega (arith, behind.1, fault.4))
     ]
 sound_from_test items top all (ChildNotAfterParent i) fault =
     let list = children_at items i in
