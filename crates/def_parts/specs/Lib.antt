@@ -1,0 +1,4 @@
+pub mod Waves
+pub mod Pending
+pub mod EqualityLaws
+pub mod PlacesLaws
