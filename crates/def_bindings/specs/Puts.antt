@@ -104,6 +104,11 @@ abbrev pub put_at : {V : Type 0} → Order V → ModuleId → Option Slot → Bi
 put_at o m None offer c = c
 put_at o m (Some slot) offer c = put o c m slot offer
 
+-- whether an offer changes its place
+abbrev pub is_put : {V : Type 0} → Order V → ModuleId → Option Slot → Binding V → Content V → Bool
+is_put o m None offer c = false
+is_put o m (Some slot) offer c = is_some (settled o (held c m slot) (fitted slot offer))
+
 -- an entry is put in a module
 abbrev pub put_entry : {V : Type 0} → Order V → ModuleId → Entry V → Content V → Content V
 put_entry o m e c = put_at o m (slot_of e) (offered e) c

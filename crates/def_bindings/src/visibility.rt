@@ -1,6 +1,7 @@
 //! Visibilities and their order.
 ghost use Rattle.std.specs.Prelude.{◌≡◌, ◌↔◌, Bool, ℕ, IsTrue};
-ghost use Rattle.def_bindings.specs.Order.{Order, IsLawful, greater_of, lesser_of};
+ghost use Rattle.def_bindings.specs.Order.{Order, IsLawful, greater_of, lesser_of, rises_to};
+ghost use Rattle.def_bindings.specs.Puts.{lessened};
 
 use def_ids::ModuleId;
 
@@ -39,4 +40,22 @@ pub trait VisOrder {
         ensures { IsTrue result ↔ (a ≡ b) };
 
     ghost lawful: { (s : Self) → IsLawful (order s) (height s) };
+}
+
+/// Whether the second visibility is greater than the first.
+pub fn is_raised<O: VisOrder>(order: &O, from: O::Vis, to: O::Vis) -> bool
+    ensures { result ≡ rises_to (O.order order.now) from to }
+{
+    match order.max(from, to) {
+        Some(top) => !order.same(top, from),
+        None => false,
+    }
+}
+
+/// The visibility that an import gives: the lesser of the item's and its own, and its own where
+/// they are unrelated.
+pub fn lesser_or_import<O: VisOrder>(order: &O, own: O::Vis, import: O::Vis) -> O::Vis
+    ensures { result ≡ lessened (O.order order.now) own import }
+{
+    order.min(own, import).unwrap_or(import)
 }
