@@ -1,6 +1,158 @@
-//! Names that travel along globs.
+//! A table whose names travel along its glob edges.
+ghost use Rattle.std.specs.Prelude.{◌≡◌, Bool, false, Option, Some, OnOk};
+ghost use Rattle.def_ids.specs.declared.ids.ModuleId.{ModuleId};
+ghost use Rattle.def_ids.specs.declared.ids.GlobId.{GlobId};
+ghost use Rattle.def_bindings.specs.Content.{with_edge, without_binding};
+ghost use Rattle.def_bindings.specs.Puts.{puts, edge_to, joined};
+ghost use Rattle.def_bindings.specs.Closure.{IsClosed, IsCoherent};
+ghost use Rattle.def_parts.specs.Waves.{Copies, def_at, BeginsAt, LedOrHome, EntriesFollow, slots_of, IsClosedTo};
 
-/// A stand-in.
-pub struct Globs {
-    pub n: u8,
+mod wave;
+
+use def_bindings::{BindingTable, EdgeTo, Entry, Namespace, VisOrder, is_raised};
+use def_ids::{GlobId, ModuleId};
+use item_tree::Name;
+use std::alloc::{AllocError, Global};
+use wave::{put_list, spread};
+
+/// The edge between two modules, if there is one.
+fn edge_between<T: BindingTable>(
+    table: &T,
+    source: ModuleId,
+    importer: ModuleId,
+) -> Option<EdgeTo<T::Vis>>
+    ensures { result ≡ edge_to ((T.content table.now).edges source) importer }
+{
+    let mut index = 0;
+    'edges: while let Some(edge) = table.edge_at(source, index) {
+        if edge.importer == importer {
+            return Some(edge);
+        }
+        index += 1;
+    }
+    None
+}
+
+/// An edge beside the one that is there.
+fn join<O: VisOrder>(
+    order: &O,
+    there: Option<EdgeTo<O::Vis>>,
+    edge: EdgeTo<O::Vis>,
+) -> EdgeTo<O::Vis>
+    ensures { result ≡ joined (O.order order.now) there edge }
+{
+    match there {
+        Some(there) => EdgeTo {
+            importer: there.importer,
+            vis: if is_raised(order, there.vis, edge.vis) {
+                edge.vis
+            } else {
+                there.vis
+            },
+            glob: there.glob,
+        },
+        None => edge,
+    }
+}
+
+/// A table whose names travel along its glob edges.
+#[derive(Drop)]
+pub struct Globs<T> {
+    alloc: Global,
+    table: T,
+}
+
+impl<T: BindingTable> Globs<T> {
+    /// This table, with the edges that it has.
+    pub fn new(alloc: Global, table: T) -> Globs<T>
+        ensures { result.table ≡ table }
+    {
+        Globs { alloc, table }
+    }
+
+    /// The table.
+    pub fn table(&self) -> &T
+        ensures { result.now ≡ self.now.table }
+    {
+        &self.table
+    }
+
+    /// The table alone.
+    pub fn into_table(self) -> T
+        ensures { result ≡ self.table }
+    {
+        let Globs { alloc: _, table } = self;
+        table
+    }
+
+    /// Takes a binding out.
+    pub fn remove(&mut self, module: ModuleId, name: Name, ns: Namespace)
+        ensures { T.content self.new.table ≡ without_binding (T.content self.old.table) «module» name ns }
+    {
+        self.table.remove(module, name, ns);
+    }
+
+    /// Puts a list in a module, and lets what changes travel along the edges to the end.
+    pub fn update<O: VisOrder<Vis = T::Vis>>(
+        &mut self,
+        order: &O,
+        module: ModuleId,
+        list: &[Entry<T::Vis>],
+    ) -> Result<(), AllocError>
+        ensures puts_then_copies { OnOk result (
+            let placed = puts (O.order order.now) «module» list.now (T.content self.old.table) in
+            Copies (O.order order.now) (slots_of list.now) (def_at placed «module») placed (T.content self.new.table)) }
+        ensures closed { OnOk result ((left_out : ModuleId → Bool)
+            → IsClosed (O.order order.now) left_out (T.content self.old.table)
+            → IsClosed (O.order order.now) left_out (T.content self.new.table)) }
+        ensures coherent { OnOk result ((left_out : ModuleId → Bool) (target_of : GlobId → Option ModuleId)
+            → BeginsAt target_of (T.content self.old.table)
+            → LedOrHome left_out target_of «module» (T.content self.old.table)
+            → EntriesFollow left_out target_of «module» list.now (T.content self.old.table)
+            → IsCoherent (O.order order.now) left_out target_of (T.content self.old.table)
+            → IsCoherent (O.order order.now) left_out target_of (T.content self.new.table)
+            × LedOrHome left_out target_of «module» (T.content self.new.table)) }
+    {
+        let changed = put_list(self.alloc, &mut self.table, order, module, list)?;
+        spread(self.alloc, &mut self.table, order, module, changed)?;
+        Ok(())
+    }
+
+    /// Records an edge. One edge stands between two modules: the first glob's, with the greater visibility.
+    pub fn add_edge<O: VisOrder<Vis = T::Vis>>(
+        &mut self,
+        order: &O,
+        source: ModuleId,
+        importer: ModuleId,
+        vis: T::Vis,
+        glob: GlobId,
+    ) -> Result<(), AllocError>
+        ensures edge { OnOk result (
+            let c = T.content self.old.table in
+            T.content self.new.table ≡ with_edge c source (joined (O.order order.now) (edge_to (c.edges source) importer) (record { importer = importer; vis = vis; glob = glob }))) }
+        ensures closed { OnOk result ((left_out : ModuleId → Bool)
+            → (left_out importer ≡ false → IsClosedTo (O.order order.now) (T.content self.old.table) source importer)
+            → IsClosed (O.order order.now) left_out (T.content self.old.table)
+            → IsClosed (O.order order.now) left_out (T.content self.new.table)) }
+        ensures begins { OnOk result ((target_of : GlobId → Option ModuleId)
+            → ((target : ModuleId) → target_of glob ≡ Some target → source ≡ target)
+            → BeginsAt target_of (T.content self.old.table)
+            → BeginsAt target_of (T.content self.new.table)) }
+        ensures coherent { OnOk result ((left_out : ModuleId → Bool) (target_of : GlobId → Option ModuleId)
+            → IsCoherent (O.order order.now) left_out target_of (T.content self.old.table)
+            → IsCoherent (O.order order.now) left_out target_of (T.content self.new.table)) }
+    {
+        let there = edge_between(&self.table, source, importer);
+        let edge = join(
+            order,
+            there,
+            EdgeTo {
+                importer,
+                vis,
+                glob,
+            },
+        );
+        self.table.set_edge(source, edge)?;
+        Ok(())
+    }
 }

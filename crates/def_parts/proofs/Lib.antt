@@ -1,0 +1,9 @@
+pub mod RiseLemmas
+pub mod ClosingLemmas
+pub mod CoheringLemmas
+pub mod StepsLemmas
+pub mod AlongLemmas
+pub mod RoomLemmas
+pub mod SumsLemmas
+pub mod MeasureLemmas
+pub mod WavingLemmas
