@@ -7,3 +7,8 @@ pub mod RoomLemmas
 pub mod SumsLemmas
 pub mod MeasureLemmas
 pub mod WavingLemmas
+pub mod PlacedLemmas
+pub mod UpdateLemmas
+pub mod AddingLemmas
+pub mod SeekingLemmas
+pub mod EdgesLemmas

@@ -1,6 +1,6 @@
 -- Sums over lists, and every place and visibility that a wave can meet.
 use Rattle.std.proofs.Common.{◌≡◌, ◌∙◌, ℕ, ◌+◌, ◌<◌, ◌≤◌, List, [], ◌∷◌, ◌++◌, sym, ap, subst, inl, inr, arith}
-use Rattle.std.specs.Prelude.{Contains, map, option_to_list, option_map, Option, Some}
+use Rattle.std.specs.Prelude.{Contains, map, option_to_list, option_map, Some}
 use Rattle.std.proofs.lemmas.List.Elements.{Contains-append_left, Contains-append_right}
 use Rattle.def_ids.specs.declared.ids.ModuleId.{ModuleId}
 use Rattle.def_bindings.specs.declared.bindings.EdgeTo.{EdgeTo}

@@ -1,5 +1,5 @@
 -- Tests of equality decide it.
-use Rattle.std.specs.Prelude.{◌≡◌, ℕ, Bool, true, false, ◌==◌, ◌&&◌, refl}
+use Rattle.std.specs.Prelude.{◌≡◌, ℕ, true, ◌==◌, refl}
 use Rattle.std.proofs.Common.{ap}
 use Rattle.std.proofs.lemmas.Bool.{eqb-true, eq-eqb, and_parts, and_from}
 use Rattle.item_tree.specs.declared.name.Name.{Name}

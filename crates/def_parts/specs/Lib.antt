@@ -1,7 +1,10 @@
 pub mod Waves
 pub mod Pending
+pub mod ListLaws
 pub mod EqualityLaws
 pub mod PlacesLaws
 pub mod SettlingLaws
 pub mod CopyingLaws
-pub mod ListLaws
+pub mod PuttingLaws
+pub mod BringingLaws
+pub mod RecordingLaws

@@ -1,6 +1,6 @@
 -- Slots and places that are equal or apart, and what a write leaves at each.
-use Rattle.std.proofs.Common.{◌≡◌, ℕ, Bool, true, false, ◌==◌, ◌&&◌, Option, Some, None, refl, ap, sym, ◌∙◌, cond, subst, inl, inr, ◌⊎◌}
-use Rattle.std.specs.Prelude.{option_map, if◌then◌else◌, List, [], ◌∷◌}
+use Rattle.std.proofs.Common.{◌≡◌, Bool, true, false, ◌==◌, ◌&&◌, Option, Some, None, refl, ap, sym, ◌∙◌, cond, subst, inl, inr, ◌⊎◌}
+use Rattle.std.specs.Prelude.{option_map, List, [], ◌∷◌}
 use Rattle.std.specs.Map.{lookup}
 use Rattle.std.proofs.lemmas.Bool.{eq-eqb, cases_Bool, and_parts, and_from, false≢true}
 use Rattle.def_ids.specs.declared.ids.ModuleId.{ModuleId}

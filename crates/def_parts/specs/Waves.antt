@@ -14,7 +14,7 @@ use Rattle.def_bindings.specs.declared.bindings.Slot.{Slot}
 use Rattle.def_bindings.specs.declared.bindings.Slot.TheVariants.{Named}
 use Rattle.def_bindings.specs.Order.{Order}
 use Rattle.def_bindings.specs.Content.{Content}
-use Rattle.def_bindings.specs.Puts.{held, slot_of, copied}
+use Rattle.def_bindings.specs.Puts.{held, slot_of, copied, edge_to}
 use Rattle.def_bindings.specs.Closure.{IsBound}
 
 -- the second content comes from the first by copies along its edges, each of one of these slots; for each slot one definition is copied
@@ -78,7 +78,25 @@ HoldsBy c m name ns glob = (b : Binding _) × (c.binding m name ns ≡ Some b) �
 abbrev pub IsLed : {V : Type 0} → Content V → ModuleId → GlobId → Type 0
 IsLed c importer glob = (source : ModuleId) × ((index : ℕ) × ((edge : EdgeTo _) × (slice_get (c.edges source) index ≡ Some edge) × (edge.importer ≡ importer) × (edge.glob ≡ glob)))
 
--- what a glob binds it bound before, or an edge of it leads there, or an entry of the list is by it and stands in the list's module
+-- an entry by this glob comes to a vacant place
+pub record Brings {V : Type 0} (list : List (Entry V)) (c : Content V) (m : ModuleId) (name : Name) (ns : Namespace) (glob : GlobId) : Type 0 where
+  pub entry : Entry V
+  pub listed : Contains list entry
+  pub slot : slot_of entry ≡ Some (Named name ns)
+  pub by : entry.origin ≡ Some (Glob glob)
+  pub vacant : c.binding m name ns ≡ None
+
+-- what a glob binds it bound before, or an edge of it leads there, or in this module an entry of the list brought it to a vacant place
 abbrev pub KeepsGlobs : {V : Type 0} → ModuleId → List (Entry V) → Content V → Content V → Type 0
 KeepsGlobs at list old new = (m : ModuleId) (name : Name) (ns : Namespace) (glob : GlobId) → HoldsBy new m name ns glob
-    → HoldsBy old m name ns glob ⊎ IsLed new m glob ⊎ ((m ≡ at) × ((e : Entry _) × Contains list e × (e.origin ≡ Some (Glob glob))))
+    → HoldsBy old m name ns glob ⊎ IsLed new m glob ⊎ ((m ≡ at) × Brings list old m name ns glob)
+
+-- from each module at most one edge leads to an importer
+abbrev pub AreSingle : {V : Type 0} → Content V → Type 0
+AreSingle c = (source : ModuleId) (i j : ℕ) (e f : EdgeTo _) → slice_get (c.edges source) i ≡ Some e → slice_get (c.edges source) j ≡ Some f → e.importer ≡ f.importer → i ≡ j
+
+-- what an added edge leaves of where globs lead: where none was there, it leads by its own glob
+pub record AddsEdge {V : Type 0} (source importer : ModuleId) (glob : GlobId) (old new : Content V) : Type 0 where
+  pub single : AreSingle old → AreSingle new
+  pub led : AreSingle old → (left_out : ModuleId → Bool) (target_of : GlobId → Option ModuleId) (home : ModuleId) → LedOrHome left_out target_of home old → LedOrHome left_out target_of home new
+  pub leads : edge_to (old.edges source) importer ≡ None → Leads new source importer glob (λ _. Unit {0})

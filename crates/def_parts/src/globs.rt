@@ -2,10 +2,11 @@
 ghost use Rattle.std.specs.Prelude.{◌≡◌, Bool, false, Option, Some, OnOk};
 ghost use Rattle.def_ids.specs.declared.ids.ModuleId.{ModuleId};
 ghost use Rattle.def_ids.specs.declared.ids.GlobId.{GlobId};
+ghost use Rattle.def_ids.specs.Ids.{is_same_module};
 ghost use Rattle.def_bindings.specs.Content.{with_edge, without_binding};
 ghost use Rattle.def_bindings.specs.Puts.{puts, edge_to, joined};
 ghost use Rattle.def_bindings.specs.Closure.{IsClosed, IsCoherent};
-ghost use Rattle.def_parts.specs.Waves.{Copies, def_at, BeginsAt, LedOrHome, EntriesFollow, slots_of, IsClosedTo};
+ghost use Rattle.def_parts.specs.Waves.{Copies, def_at, BeginsAt, LedOrHome, EntriesFollow, slots_of, IsClosedTo, ListsAll, KeepsGlobs, AddsEdge};
 
 mod wave;
 
@@ -14,6 +15,13 @@ use def_ids::{GlobId, ModuleId};
 use item_tree::Name;
 use std::alloc::{AllocError, Global};
 use wave::{put_list, spread};
+
+/// Whether two modules are one.
+fn are_same(a: ModuleId, b: ModuleId) -> bool
+    ensures { result ≡ is_same_module a b }
+{
+    a == b
+}
 
 /// The edge between two modules, if there is one.
 fn edge_between<T: BindingTable>(
@@ -25,7 +33,7 @@ fn edge_between<T: BindingTable>(
 {
     let mut index = 0;
     'edges: while let Some(edge) = table.edge_at(source, index) {
-        if edge.importer == importer {
+        if are_same(edge.importer, importer) {
             return Some(edge);
         }
         index += 1;
@@ -112,6 +120,11 @@ impl<T: BindingTable> Globs<T> {
             → IsCoherent (O.order order.now) left_out target_of (T.content self.old.table)
             → IsCoherent (O.order order.now) left_out target_of (T.content self.new.table)
             × LedOrHome left_out target_of «module» (T.content self.new.table)) }
+        ensures recorded { OnOk result ((target : ModuleId)
+            → ListsAll (O.order order.now) list.now (T.content self.old.table) target «module»
+            → IsClosedTo (O.order order.now) (T.content self.new.table) target «module») }
+        ensures globs { OnOk result (KeepsGlobs «module» list.now (T.content self.old.table) (T.content self.new.table)) }
+        ensures edges { OnOk result ((T.content self.new.table).edges ≡ (T.content self.old.table).edges) }
     {
         let changed = put_list(self.alloc, &mut self.table, order, module, list)?;
         spread(self.alloc, &mut self.table, order, module, changed)?;
@@ -141,6 +154,7 @@ impl<T: BindingTable> Globs<T> {
         ensures coherent { OnOk result ((left_out : ModuleId → Bool) (target_of : GlobId → Option ModuleId)
             → IsCoherent (O.order order.now) left_out target_of (T.content self.old.table)
             → IsCoherent (O.order order.now) left_out target_of (T.content self.new.table)) }
+        ensures led { OnOk result (AddsEdge source importer glob (T.content self.old.table) (T.content self.new.table)) }
     {
         let there = edge_between(&self.table, source, importer);
         let edge = join(
