@@ -14,6 +14,7 @@ use def_bindings::{BindingTable, EdgeTo, Entry, Namespace, VisOrder, is_raised};
 use def_ids::{GlobId, ModuleId};
 use item_tree::Name;
 use std::alloc::{AllocError, Global};
+use std::marker::Model;
 use wave::{put_list, spread};
 
 /// Whether two modules are one.
@@ -63,31 +64,39 @@ fn join<O: VisOrder>(
     }
 }
 
-/// A table whose names travel along its glob edges.
+/// A table whose names travel along its glob edges. A contract sees the table alone.
 #[derive(Drop)]
 pub struct Globs<T> {
     alloc: Global,
     table: T,
 }
 
+impl<T> Model for Globs<T> {
+    ghost Value = { T };
+
+    ghost coded = { T.code };
+
+    ghost view = { λ g. g.table };
+}
+
 impl<T: BindingTable> Globs<T> {
     /// This table, with the edges that it has.
     pub fn new(alloc: Global, table: T) -> Globs<T>
-        ensures { result.table ≡ table }
+        ensures { result ≡ table }
     {
         Globs { alloc, table }
     }
 
     /// The table.
     pub fn table(&self) -> &T
-        ensures { result.now ≡ self.now.table }
+        ensures { result.now ≡ self.now }
     {
         &self.table
     }
 
     /// The table alone.
     pub fn into_table(self) -> T
-        ensures { result ≡ self.table }
+        ensures { result ≡ self }
     {
         let Globs { alloc: _, table } = self;
         table
@@ -95,7 +104,7 @@ impl<T: BindingTable> Globs<T> {
 
     /// Takes a binding out.
     pub fn remove(&mut self, module: ModuleId, name: Name, ns: Namespace)
-        ensures { T.content self.new.table ≡ without_binding (T.content self.old.table) «module» name ns }
+        ensures { T.content self.new ≡ without_binding (T.content self.old) «module» name ns }
     {
         self.table.remove(module, name, ns);
     }
@@ -108,23 +117,23 @@ impl<T: BindingTable> Globs<T> {
         list: &[Entry<T::Vis>],
     ) -> Result<(), AllocError>
         ensures puts_then_copies { OnOk result (
-            let placed = puts (O.order order.now) «module» list.now (T.content self.old.table) in
-            Copies (O.order order.now) (slots_of list.now) (def_at placed «module») placed (T.content self.new.table)) }
+            let placed = puts (O.order order.now) «module» list.now (T.content self.old) in
+            Copies (O.order order.now) (slots_of list.now) (def_at placed «module») placed (T.content self.new)) }
         ensures closed { OnOk result ((left_out : ModuleId → Bool)
-            → IsClosed (O.order order.now) left_out (T.content self.old.table)
-            → IsClosed (O.order order.now) left_out (T.content self.new.table)) }
+            → IsClosed (O.order order.now) left_out (T.content self.old)
+            → IsClosed (O.order order.now) left_out (T.content self.new)) }
         ensures coherent { OnOk result ((left_out : ModuleId → Bool) (target_of : GlobId → Option ModuleId)
-            → BeginsAt target_of (T.content self.old.table)
-            → LedOrHome left_out target_of «module» (T.content self.old.table)
-            → EntriesFollow left_out target_of «module» list.now (T.content self.old.table)
-            → IsCoherent (O.order order.now) left_out target_of (T.content self.old.table)
-            → IsCoherent (O.order order.now) left_out target_of (T.content self.new.table)
-            × LedOrHome left_out target_of «module» (T.content self.new.table)) }
+            → BeginsAt target_of (T.content self.old)
+            → LedOrHome left_out target_of «module» (T.content self.old)
+            → EntriesFollow left_out target_of «module» list.now (T.content self.old)
+            → IsCoherent (O.order order.now) left_out target_of (T.content self.old)
+            → IsCoherent (O.order order.now) left_out target_of (T.content self.new)
+            × LedOrHome left_out target_of «module» (T.content self.new)) }
         ensures recorded { OnOk result ((target : ModuleId)
-            → ListsAll (O.order order.now) list.now (T.content self.old.table) target «module»
-            → IsClosedTo (O.order order.now) (T.content self.new.table) target «module») }
-        ensures globs { OnOk result (KeepsGlobs «module» list.now (T.content self.old.table) (T.content self.new.table)) }
-        ensures edges { OnOk result ((T.content self.new.table).edges ≡ (T.content self.old.table).edges) }
+            → ListsAll (O.order order.now) list.now (T.content self.old) target «module»
+            → IsClosedTo (O.order order.now) (T.content self.new) target «module») }
+        ensures globs { OnOk result (KeepsGlobs «module» list.now (T.content self.old) (T.content self.new)) }
+        ensures edges { OnOk result ((T.content self.new).edges ≡ (T.content self.old).edges) }
     {
         let changed = put_list(self.alloc, &mut self.table, order, module, list)?;
         spread(self.alloc, &mut self.table, order, module, changed)?;
@@ -141,20 +150,20 @@ impl<T: BindingTable> Globs<T> {
         glob: GlobId,
     ) -> Result<(), AllocError>
         ensures edge { OnOk result (
-            let c = T.content self.old.table in
-            T.content self.new.table ≡ with_edge c source (joined (O.order order.now) (edge_to (c.edges source) importer) (record { importer = importer; vis = vis; glob = glob }))) }
+            let c = T.content self.old in
+            T.content self.new ≡ with_edge c source (joined (O.order order.now) (edge_to (c.edges source) importer) (record { importer = importer; vis = vis; glob = glob }))) }
         ensures closed { OnOk result ((left_out : ModuleId → Bool)
-            → (left_out importer ≡ false → IsClosedTo (O.order order.now) (T.content self.old.table) source importer)
-            → IsClosed (O.order order.now) left_out (T.content self.old.table)
-            → IsClosed (O.order order.now) left_out (T.content self.new.table)) }
+            → (left_out importer ≡ false → IsClosedTo (O.order order.now) (T.content self.old) source importer)
+            → IsClosed (O.order order.now) left_out (T.content self.old)
+            → IsClosed (O.order order.now) left_out (T.content self.new)) }
         ensures begins { OnOk result ((target_of : GlobId → Option ModuleId)
             → ((target : ModuleId) → target_of glob ≡ Some target → source ≡ target)
-            → BeginsAt target_of (T.content self.old.table)
-            → BeginsAt target_of (T.content self.new.table)) }
+            → BeginsAt target_of (T.content self.old)
+            → BeginsAt target_of (T.content self.new)) }
         ensures coherent { OnOk result ((left_out : ModuleId → Bool) (target_of : GlobId → Option ModuleId)
-            → IsCoherent (O.order order.now) left_out target_of (T.content self.old.table)
-            → IsCoherent (O.order order.now) left_out target_of (T.content self.new.table)) }
-        ensures led { OnOk result (AddsEdge source importer glob (T.content self.old.table) (T.content self.new.table)) }
+            → IsCoherent (O.order order.now) left_out target_of (T.content self.old)
+            → IsCoherent (O.order order.now) left_out target_of (T.content self.new)) }
+        ensures led { OnOk result (AddsEdge source importer glob (T.content self.old) (T.content self.new)) }
     {
         let there = edge_between(&self.table, source, importer);
         let edge = join(

@@ -3,30 +3,30 @@ use Rattle.def_parts.proofs.globs.Globs.update.Goals as goal
 
 pub returns-clause-puts_then_copies : goal.returns-clause-puts_then_copies
 returns-clause-puts_then_copies g c =
-    update_copies (g.O.VisOrder.order c.args.order.now) c.args.module c.args.list.now (g.T.BindingTable.content c.args.self.now.table)
-    (g.T.BindingTable.content c.put_list.new.table) (g.T.BindingTable.content c.spread.new.table) c.in_ok-changed.changed.items c.in_ok-changed.ensures c.in_ok-spread.ensures.copies
+    rw (← c.self.view_is) (update_copies (g.O.VisOrder.order c.args.order.now) c.args.module c.args.list.now (g.T.BindingTable.content c.self.inside.table)
+    (g.T.BindingTable.content c.put_list.new.table) (g.T.BindingTable.content c.spread.new.table) c.in_ok-changed.changed.items c.in_ok-changed.ensures c.in_ok-spread.ensures.copies)
 
 pub returns-clause-closed : goal.returns-clause-closed
 returns-clause-closed g c =
-    update_closed (g.O.VisOrder.order c.args.order.now) c.args.module c.args.list.now (g.T.BindingTable.content c.args.self.now.table)
-    (g.T.BindingTable.content c.put_list.new.table) (g.T.BindingTable.content c.spread.new.table) c.in_ok-changed.changed.items c.in_ok-changed.ensures c.in_ok-spread.ensures.closed
+    rw (← c.self.view_is) (update_closed (g.O.VisOrder.order c.args.order.now) c.args.module c.args.list.now (g.T.BindingTable.content c.self.inside.table)
+    (g.T.BindingTable.content c.put_list.new.table) (g.T.BindingTable.content c.spread.new.table) c.in_ok-changed.changed.items c.in_ok-changed.ensures c.in_ok-spread.ensures.closed)
 
 pub returns-clause-coherent : goal.returns-clause-coherent
 returns-clause-coherent g c =
-    update_coherent (g.O.VisOrder.order c.args.order.now) c.args.module c.args.list.now (g.T.BindingTable.content c.args.self.now.table)
-    (g.T.BindingTable.content c.put_list.new.table) (g.T.BindingTable.content c.spread.new.table) c.in_ok-changed.changed.items c.in_ok-changed.ensures c.in_ok-spread.ensures.coherent
+    rw (← c.self.view_is) (update_coherent (g.O.VisOrder.order c.args.order.now) c.args.module c.args.list.now (g.T.BindingTable.content c.self.inside.table)
+    (g.T.BindingTable.content c.put_list.new.table) (g.T.BindingTable.content c.spread.new.table) c.in_ok-changed.changed.items c.in_ok-changed.ensures c.in_ok-spread.ensures.coherent)
 
 pub returns-clause-recorded : goal.returns-clause-recorded
 returns-clause-recorded g c =
-    update_recorded (g.O.VisOrder.order c.args.order.now) c.args.module c.args.list.now (g.T.BindingTable.content c.args.self.now.table)
-    (g.T.BindingTable.content c.put_list.new.table) (g.T.BindingTable.content c.spread.new.table) c.in_ok-changed.changed.items c.in_ok-changed.ensures c.in_ok-spread.ensures.copies
+    rw (← c.self.view_is) (update_recorded (g.O.VisOrder.order c.args.order.now) c.args.module c.args.list.now (g.T.BindingTable.content c.self.inside.table)
+    (g.T.BindingTable.content c.put_list.new.table) (g.T.BindingTable.content c.spread.new.table) c.in_ok-changed.changed.items c.in_ok-changed.ensures c.in_ok-spread.ensures.copies)
 
 pub returns-clause-globs : goal.returns-clause-globs
 returns-clause-globs g c =
-    update_globs (g.O.VisOrder.order c.args.order.now) c.args.module c.args.list.now (g.T.BindingTable.content c.args.self.now.table)
-    (g.T.BindingTable.content c.put_list.new.table) (g.T.BindingTable.content c.spread.new.table) c.in_ok-changed.changed.items c.in_ok-changed.ensures c.in_ok-spread.ensures.copies
+    rw (← c.self.view_is) (update_globs (g.O.VisOrder.order c.args.order.now) c.args.module c.args.list.now (g.T.BindingTable.content c.self.inside.table)
+    (g.T.BindingTable.content c.put_list.new.table) (g.T.BindingTable.content c.spread.new.table) c.in_ok-changed.changed.items c.in_ok-changed.ensures c.in_ok-spread.ensures.copies)
 
 pub returns-clause-edges : goal.returns-clause-edges
 returns-clause-edges g c =
-    update_edges (g.O.VisOrder.order c.args.order.now) c.args.module c.args.list.now (g.T.BindingTable.content c.args.self.now.table)
-    (g.T.BindingTable.content c.put_list.new.table) (g.T.BindingTable.content c.spread.new.table) c.in_ok-changed.changed.items c.in_ok-changed.ensures c.in_ok-spread.ensures.copies
+    rw (← c.self.view_is) (update_edges (g.O.VisOrder.order c.args.order.now) c.args.module c.args.list.now (g.T.BindingTable.content c.self.inside.table)
+    (g.T.BindingTable.content c.put_list.new.table) (g.T.BindingTable.content c.spread.new.table) c.in_ok-changed.changed.items c.in_ok-changed.ensures c.in_ok-spread.ensures.copies)
