@@ -12,3 +12,4 @@ pub mod UpdateLemmas
 pub mod AddingLemmas
 pub mod SeekingLemmas
 pub mod EdgesLemmas
+pub mod DirectoriesLemmas

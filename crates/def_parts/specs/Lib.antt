@@ -8,3 +8,5 @@ pub mod CopyingLaws
 pub mod PuttingLaws
 pub mod BringingLaws
 pub mod RecordingLaws
+pub mod Directories
+pub mod DirectoriesLaws
