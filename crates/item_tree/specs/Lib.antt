@@ -1,6 +1,11 @@
 pub mod formers
-pub mod Attrs
+pub mod Lists
 pub mod Names
+pub mod KnownNames
 pub mod Numbering
-pub mod Path
-pub mod Tree
+pub mod Paths
+pub mod TokenTrees
+pub mod Attrs
+pub mod Trees
+pub mod TreesLaws
+pub mod TextOrder

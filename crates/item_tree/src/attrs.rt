@@ -1,14 +1,15 @@
 //! Attributes.
-ghost use Rattle.std.specs.Prelude.{◌≡◌, ◌+◌, ◌<◌, ◌↔◌, length, filter, option_map, IsTrue};
+ghost use Rattle.std.specs.Prelude.{◌≡◌, ◌==◌, length, slice_get, option_map};
 ghost use Rattle.std.specs.List.{filter_map};
-ghost use Rattle.std.specs.Option.{option_copied, option_map_or};
+ghost use Rattle.std.specs.Option.{option_copied};
 ghost use Rattle.std.specs.Iterator.{YieldsFirstBy, at_most};
-ghost use Rattle.item_tree.specs.Attrs.{has_key, text_of, tokens_of, first_text, numbered_after};
+ghost use Rattle.item_tree.specs.Lists.{is_there};
+ghost use Rattle.item_tree.specs.Attrs.{has_key, by_key, text_of, tokens_of, first_text, iter_after, attrs_in, cfg_in};
 
 use crate::ids::{AttrId, CfgExpr, SyntaxContext};
 use crate::list::Seq;
-use crate::name::Name;
 use crate::mod_path::ModPath;
+use crate::name::Name;
 use crate::text::Text;
 use crate::tt::TopSubtree;
 use std::marker::Model;
@@ -77,9 +78,37 @@ impl Attr {
 }
 
 impl Attrs {
+    /// The attributes, in order.
+    pub fn as_slice(&self) -> &[Attr]
+        ensures { result.now ≡ self.now.list }
+    {
+        self.list.as_slice()
+    }
+
+    /// The number of attributes.
+    pub fn len(&self) -> usize
+        ensures { result ≡ length self.now.list }
+    {
+        self.list.len()
+    }
+
+    /// Whether there is no attribute.
+    pub fn is_empty(&self) -> bool
+        ensures { result ≡ (length self.now.list == 0) }
+    {
+        self.list.is_empty()
+    }
+
+    /// The attribute of this number, if there is one.
+    pub fn get(&self, id: AttrId) -> Option<&Attr>
+        ensures { option_copied result ≡ slice_get self.now.list id.0 }
+    {
+        self.list.get(id.0)
+    }
+
     /// The attributes whose path is this name alone.
     pub fn by_key(&self, key: Name) -> AttrQuery<'_>
-        ensures { result ≡ filter (has_key key) self.now.list }
+        ensures { result ≡ by_key key self.now.list }
     {
         AttrQuery {
             attrs: self.list.as_slice(),
@@ -87,9 +116,9 @@ impl Attrs {
         }
     }
 
-    /// The attributes behind this one, or all.
+    /// The attributes behind this one, or all, with their numbers.
     pub fn iter_after(&self, after: Option<AttrId>) -> AttrsAfter<'_>
-        ensures { result ≡ numbered_after (option_map_or (λ id. id.0 + 1) after 0) self.now.list }
+        ensures { result ≡ iter_after after self.now.list }
     {
         let next = match after {
             Some(id) => id.0.saturating_add(1),
@@ -98,6 +127,28 @@ impl Attrs {
         AttrsAfter {
             attrs: self.list.as_slice(),
             next,
+        }
+    }
+}
+
+impl AttrsOrCfg {
+    /// The attributes, whether the item is compiled or not.
+    pub fn attrs(&self) -> &Attrs
+        ensures { result.now ≡ attrs_in self.now }
+    {
+        match self {
+            AttrsOrCfg::Enabled(attrs) => attrs,
+            AttrsOrCfg::CfgDisabled(_, attrs) => attrs,
+        }
+    }
+
+    /// The condition that is not met, where the item is not compiled.
+    pub fn disabled_by(&self) -> Option<CfgExpr>
+        ensures { result ≡ cfg_in self.now }
+    {
+        match self {
+            AttrsOrCfg::Enabled(_) => None,
+            AttrsOrCfg::CfgDisabled(cfg, _) => Some(*cfg),
         }
     }
 }
@@ -112,21 +163,21 @@ pub struct AttrQuery<'a> {
 impl<'a> Model for AttrQuery<'a> {
     ghost use Rattle.std.specs.Coded.{coded_list};
     ghost use Rattle.item_tree.specs.contracts.attrs.Attr as attr;
-    ghost use Rattle.std.specs.Prelude.{List, filter};
+    ghost use Rattle.std.specs.Prelude.{List};
     ghost use Rattle.item_tree.specs.declared.attrs.Attr.{Attr};
-    ghost use Rattle.item_tree.specs.Attrs.{has_key};
+    ghost use Rattle.item_tree.specs.Attrs.{by_key};
 
     ghost Value = { List Attr };
 
     ghost coded = { coded_list attr.the_row.coded };
 
-    ghost view = { λ q. filter (has_key q.key) q.attrs.now };
+    ghost view = { λ q. by_key q.key q.attrs.now };
 }
 
 impl<'a> AttrQuery<'a> {
     /// Whether there is one.
     pub fn exists(&self) -> bool
-        ensures { IsTrue result ↔ (0 < length self.now) }
+        ensures { result ≡ is_there self.now }
     {
         for attr in self.attrs {
             if attr.has_key(self.key) {
@@ -136,7 +187,7 @@ impl<'a> AttrQuery<'a> {
         false
     }
 
-    /// The first text.
+    /// The text of the first that has one.
     pub fn string_value(&self) -> Option<&'a str>
         ensures { option_map (λ t. t.now) result ≡ first_text self.now }
     {
@@ -150,7 +201,7 @@ impl<'a> AttrQuery<'a> {
         None
     }
 
-    /// The token trees, in order.
+    /// The token trees of those that have one, in order.
     pub fn tt_values(&self) -> TtValues<'a>
         ensures { result ≡ filter_map tokens_of self.now }
     {
@@ -171,17 +222,16 @@ pub struct TtValues<'a> {
 impl<'a> Model for TtValues<'a> {
     ghost use Rattle.std.specs.Coded.{coded_list};
     ghost use Rattle.item_tree.specs.contracts.tt.TtElement as tree;
-    ghost use Rattle.std.specs.Prelude.{List, filter};
-    ghost use Rattle.std.specs.List.{filter_map};
+    ghost use Rattle.std.specs.Prelude.{List};
     ghost use Rattle.std.specs.Slice.Iter.{iter_rest};
     ghost use Rattle.item_tree.specs.declared.tt.TtElement.{TtElement};
-    ghost use Rattle.item_tree.specs.Attrs.{has_key, tokens_of};
+    ghost use Rattle.item_tree.specs.Attrs.{tt_values};
 
     ghost Value = { List (List TtElement) };
 
     ghost coded = { coded_list (coded_list tree.the_row.coded) };
 
-    ghost view = { λ v. filter_map tokens_of (filter (has_key v.key) (iter_rest v.rest)) };
+    ghost view = { λ v. tt_values v.key (iter_rest v.rest) };
 }
 
 impl<'a> Iterator for TtValues<'a> {
@@ -217,13 +267,13 @@ impl<'a> Model for AttrsAfter<'a> {
     ghost use Rattle.std.specs.Prelude.{List};
     ghost use Rattle.item_tree.specs.declared.attrs.Attr.{Attr};
     ghost use Rattle.item_tree.specs.declared.ids.AttrId.{AttrId};
-    ghost use Rattle.item_tree.specs.Attrs.{numbered_after};
+    ghost use Rattle.item_tree.specs.Attrs.{numbered_at};
 
     ghost Value = { List (AttrId × Attr) };
 
     ghost coded = { coded_list (coded× attr_id.the_row.coded attr.the_row.coded) };
 
-    ghost view = { λ v. numbered_after v.next v.attrs.now };
+    ghost view = { λ v. numbered_at v.next v.attrs.now };
 }
 
 impl<'a> Iterator for AttrsAfter<'a> {

@@ -1,9 +1,12 @@
 //! Items.
+ghost use Rattle.std.specs.Prelude.{◌≡◌};
+ghost use Rattle.item_tree.specs.Trees.{children_of};
+
 use crate::attrs::AttrsOrCfg;
-use crate::ids::{FileAstId, ModItemId, SyntaxContext};
+use crate::ids::{FileAstId, ModItemId};
 use crate::list::Seq;
-use crate::name::Name;
 use crate::mod_path::ModPath;
+use crate::name::Name;
 
 /// A visibility as it is written. None written is `PubSelf`.
 #[derive(Clone, PartialEq, Eq, Debug, Drop)]
@@ -18,26 +21,21 @@ pub enum RawVisibility {
 #[derive(Debug, Drop)]
 pub enum ModContents {
     Inline(Seq<ModItemId>),
-    Outline,
 }
 
 /// What an import takes.
 #[derive(Clone, Copy, PartialEq, Eq, Debug)]
 pub enum ImportKind {
     Plain,
-    Glob,
-    /// `use a::{self}`: types alone.
-    TypeOnly,
 }
 
-/// The name that an import or an extern crate is given.
+/// The name that an import is given.
 #[derive(Clone, Copy, PartialEq, Eq, Debug)]
 pub enum ImportAlias {
     Alias(Name),
-    Underscore,
 }
 
-/// One import of a `use`.
+/// One import of a `use`. `idx` is its place among the imports of the `use`, from 0.
 #[derive(Debug, Drop)]
 pub struct UseImport {
     pub idx: u32,
@@ -46,19 +44,11 @@ pub struct UseImport {
     pub alias: Option<ImportAlias>,
 }
 
-/// What the expansion of a macro call is read as.
-#[derive(Clone, Copy, PartialEq, Eq, Debug)]
-pub enum ExpandTo {
-    Items,
-    Statements,
-}
-
 /// The constructor of a struct in values.
 #[derive(Debug, Drop)]
 pub enum CtorVisibility {
     NoValueNsCtor,
     ValueNsCtorWithVis(RawVisibility),
-    ValueNsCtorWithMinVis(Seq<RawVisibility>),
 }
 
 /// What an item is.
@@ -73,68 +63,32 @@ pub enum ModItemKind {
         visibility: RawVisibility,
         imports: Seq<UseImport>,
     },
-    ExternCrate {
-        name: Name,
-        visibility: RawVisibility,
-        alias: Option<ImportAlias>,
-    },
-    ExternBlock {
-        children: Seq<ModItemId>,
-    },
-    MacroCall {
-        path: ModPath,
-        expand_to: ExpandTo,
-        ctxt: SyntaxContext,
-    },
-    MacroRules {
-        name: Name,
-    },
-    Macro2 {
-        name: Name,
-        visibility: RawVisibility,
-    },
-    Impl {
-        is_trait_impl: bool,
-    },
     Struct {
         name: Name,
         visibility: RawVisibility,
         ctor: CtorVisibility,
     },
-    Const {
-        name: Option<Name>,
-        visibility: RawVisibility,
-    },
-    Function {
-        name: Name,
-        visibility: RawVisibility,
-    },
-    Union {
-        name: Name,
-        visibility: RawVisibility,
-    },
-    Enum {
-        name: Name,
-        visibility: RawVisibility,
-    },
-    Static {
-        name: Name,
-        visibility: RawVisibility,
-    },
-    Trait {
-        name: Name,
-        visibility: RawVisibility,
-    },
-    TypeAlias {
-        name: Name,
-        visibility: RawVisibility,
-    },
 }
 
-/// An item of a tree.
+/// An item of a tree. `ast_id` is its number in its file.
 #[derive(Debug, Drop)]
 pub struct ItemNode {
     pub ast_id: FileAstId,
     pub attrs: Option<AttrsOrCfg>,
     pub kind: ModItemKind,
+}
+
+impl ItemNode {
+    /// The items in this one.
+    pub fn children(&self) -> &[ModItemId]
+        ensures { result.now ≡ children_of self.now }
+    {
+        match &self.kind {
+            ModItemKind::Mod {
+                contents: ModContents::Inline(children),
+                ..
+            } => children.as_slice(),
+            _ => &[],
+        }
+    }
 }

@@ -1,0 +1,70 @@
+-- Trees and faults, at worked rows.
+use Rattle.std.proofs.Common.{◌≡◌, ℕ, ◌<◌, ◌≤◌, ◌⊎◌, List, [], ◌∷◌, refl, arith, lit<, lit≤}
+use Rattle.std.specs.Prelude.{None}
+use Rattle.item_tree.specs.declared.ids.ModItemId.{ModItemId}
+use Rattle.item_tree.specs.declared.items.ItemNode.{ItemNode}
+use Rattle.item_tree.specs.declared.items.ModContents.TheVariants.{Inline}
+use Rattle.item_tree.specs.declared.items.ModItemKind.TheVariants.{Mod, Struct}
+use Rattle.item_tree.specs.declared.items.RawVisibility.TheVariants.{PubSelf}
+use Rattle.item_tree.specs.declared.items.CtorVisibility.TheVariants.{NoValueNsCtor}
+use Rattle.item_tree.specs.declared.tree.TreeFault.TheVariants.{ChildOutOfRange, ChildNotAfterParent, TwoParents}
+use Rattle.item_tree.specs.KnownNames.{self_name}
+use Rattle.item_tree.specs.Trees.{children_of, occurrences, list_at, IsFault, IsFirstFault, item_of, rank_of}
+use Rattle.item_tree.specs.TextOrder.{IsRising}
+
+abbrev id : ℕ → ModItemId
+id n = record { 0 = n }
+
+-- an inline module with these items
+abbrev module_of : List ModItemId → ItemNode
+module_of children = record { ast_id = record { 0 = 0 }; attrs = None; kind = Mod self_name PubSelf (Inline children) }
+
+-- a struct, which holds no items
+abbrev leaf : ItemNode
+leaf = record { ast_id = record { 0 = 0 }; attrs = None; kind = Struct self_name PubSelf NoValueNsCtor }
+
+items_of_a_module : children_of (module_of (id 1 ∷ id 2 ∷ [])) ≡ id 1 ∷ id 2 ∷ []
+items_of_a_module = refl
+
+items_of_a_struct : children_of leaf ≡ []
+items_of_a_struct = refl
+
+-- modules 0 and 1 both hold item 2
+abbrev shared : List ItemNode
+shared = module_of (id 2 ∷ []) ∷ module_of (id 2 ∷ []) ∷ leaf ∷ []
+
+held_twice : occurrences shared (id 0 ∷ id 1 ∷ []) 2 ≡ 2
+held_twice = refl
+
+held_by_the_top : occurrences shared (id 0 ∷ id 1 ∷ []) 0 ≡ 1
+held_by_the_top = refl
+
+held_by_top_and_module : occurrences shared (id 0 ∷ id 1 ∷ id 2 ∷ []) 2 ≡ 3
+held_by_top_and_module = refl
+
+top_list_behind_the_items : list_at shared (id 0 ∷ []) 3 ≡ id 0 ∷ []
+top_list_behind_the_items = refl
+
+no_list_behind_the_top : list_at shared (id 0 ∷ []) 4 ≡ []
+no_list_behind_the_top = refl
+
+two_parents : IsFault shared (id 0 ∷ id 1 ∷ []) (TwoParents 2)
+two_parents = (lit< tt, lit< tt)
+
+-- one module that holds item 5, which is not there
+child_5 : IsFirstFault (module_of (id 5 ∷ []) ∷ []) (id 0 ∷ []) (ChildOutOfRange 0)
+child_5 = record { stands = (0, id 5, lit< tt, refl, lit≤ tt); least = λ other stands. first (item_of other) (rank_of other) }
+  where
+    first : (i rank : ℕ) → (0 < i) ⊎ ((0 ≡ i) × (0 ≤ rank))
+    first i rank = grind arith
+
+-- one module that holds itself
+child_0 : IsFault (module_of (id 0 ∷ []) ∷ []) (id 0 ∷ []) (ChildNotAfterParent 0)
+child_0 = (0, id 0, lit< tt, refl, lit≤ tt)
+
+-- a top list that leads out
+top_leads_out : IsFault (leaf ∷ []) (id 1 ∷ []) (ChildOutOfRange 1)
+top_leads_out = (0, id 1, lit< tt, refl, lit≤ tt)
+
+siblings_rise : IsRising 4 1 (id 1 ∷ id 3 ∷ [])
+siblings_rise = (lit≤ tt, lit< tt, (lit≤ tt, lit< tt, tt))
