@@ -1,5 +1,5 @@
 -- Orders of visibilities, given by a test.
-use Rattle.std.specs.Prelude.{◌≡◌, ◌≤◌, ◌&&◌, Bool, true, false, not, ℕ, List, [], ◌∷◌, length, Option, Some, None, unwrap_or, if◌then◌else◌}
+use Rattle.std.specs.Prelude.{◌≡◌, ◌≤◌, ◌&&◌, Bool, true, false, not, ℕ, List, [], ◌∷◌, length, Option, Some, None, if◌then◌else◌}
 use Rattle.def_ids.specs.declared.ids.ModuleId.{ModuleId}
 
 -- an order of visibilities: which is at most which, and which modules see it

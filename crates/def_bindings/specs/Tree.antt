@@ -1,5 +1,5 @@
 -- The chain of a module: itself, its parent and so on, and past a block's root the modules that contain the block.
-use Rattle.std.specs.Prelude.{◌≡◌, ◌==◌, ◌&&◌, ◌<◌, ◌++◌, Bool, true, false, not, ℕ, zero, suc, List, [], ◌∷◌, map, length, Option, Some, None, nat_lt, slice_get, if◌then◌else◌}
+use Rattle.std.specs.Prelude.{◌≡◌, ◌&&◌, ◌<◌, ◌++◌, Bool, true, not, ℕ, zero, suc, List, [], ◌∷◌, map, length, Option, Some, None, nat_lt, slice_get, if◌then◌else◌}
 use Rattle.std.specs.List.{list_any}
 use Rattle.std.specs.Option.{option_map_or, option_and_then}
 use Rattle.def_ids.specs.declared.ids.MapId.{MapId}
@@ -29,6 +29,11 @@ abbrev pub after_module : List ModuleId → ModuleId → Option ModuleId
 after_module [] m = None
 after_module (x ∷ xs) m = if is_same_module m x then slice_get xs 0 else after_module xs m
 
+-- the place after this module in the list, or the end where it is not in the list
+abbrev pub after_index : List ModuleId → ModuleId → ℕ
+after_index [] m = 0
+after_index (x ∷ xs) m = if is_same_module m x then 1 else suc (after_index xs m)
+
 -- the map has this module
 abbrev pub is_own : MapId → List (Option ℕ) → ModuleId → Bool
 is_own own parents m = is_same_map m.map own && nat_lt m.index (length parents)
@@ -55,3 +60,7 @@ AreParentsLower parents = (i p : ℕ) → parent_of parents i ≡ Some p → p <
 abbrev pub are_apart : MapId → List ModuleId → Bool
 are_apart own [] = true
 are_apart own (x ∷ xs) = (not (is_same_map x.map own) && not (list_any (is_same_module x) xs)) && are_apart own xs
+
+-- where the list goes on after this module, past the map's own
+abbrev pub next_of : MapId → List (Option ℕ) → List ModuleId → ModuleId → ℕ
+next_of own parents containing m = if is_own own parents m then 0 else after_index containing m

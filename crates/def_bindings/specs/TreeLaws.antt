@@ -1,125 +1,17 @@
 -- The chains of a map's modules are chains, and none is longer than the modules and what contains them.
-use Rattle.std.specs.Prelude.{◌≡◌, ◌==◌, ◌&&◌, ◌<◌, ◌≤◌, ◌+◌, ◌++◌, Bool, true, false, not, ℕ, zero, suc, List, [], ◌∷◌, map, length, Option, Some, None, nat_lt, slice_get, refl, if◌then◌else◌}
+pub use Rattle.def_bindings.specs.IdLaws.{same_map_itself, same_map_equal, same_module_itself, same_module_equal}
+use Rattle.std.specs.Prelude.{◌≡◌, ◌<◌, ◌≤◌, ◌+◌, ◌++◌, true, false, ℕ, zero, suc, List, [], ◌∷◌, map, length, Option, Some, None, nat_lt, slice_get, refl}
 use Rattle.std.specs.List.{list_any}
-use Rattle.std.specs.Option.{option_map_or, option_and_then}
-use Rattle.std.specs.Prelude.{OnOk, OnErr, Result, Ok, Err}
-use Rattle.std.proofs.Common.{subst, sym, ◌∙◌, ap, arith, rules, inl, inr, ◌⊎◌, length-append}
+use Rattle.std.specs.Option.{option_map_or}
+use Rattle.std.proofs.Common.{sym, ◌∙◌, ap, arith, inl, inr, ◌⊎◌, length-append}
 use Rattle.std.proofs.lemmas.List.{length-map}
-use Rattle.std.proofs.lemmas.Bool.{cases_Bool, or_cases, or_right, or_left, and_parts, and_from, and_cases, not-true, eqb-true, eq-eqb, ltb-true, lt-ltb, and_left, both_ways, cases_order}
-use Rattle.item_tree.specs.declared.ids.Crate.{Crate}
-use Rattle.item_tree.specs.declared.ids.BlockId.{BlockId}
+use Rattle.std.proofs.lemmas.Bool.{cases_Bool, and_parts, ltb-true, lt-ltb, and_left}
 use Rattle.def_ids.specs.declared.ids.MapId.{MapId}
 use Rattle.def_ids.specs.declared.ids.ModuleId.{ModuleId}
-use Rattle.def_ids.specs.Ids.{is_same_block, is_same_map, is_same_module}
+use Rattle.def_ids.specs.Ids.{is_same_map, is_same_module}
 use Rattle.def_bindings.specs.Chains.{IsChained, AreChains}
-use Rattle.def_bindings.specs.Tree.{parent_of, ancestors, module_of, from_module, after_module, above_of, is_own, chain_of, AreParentsLower, are_apart}
-
-same_block_itself : (b : Option BlockId) → is_same_block b b ≡ true
-same_block_itself None = refl
-same_block_itself (Some b) = eq-eqb b.0 b.0 refl
-
-same_block_equal : (a b : Option BlockId) → is_same_block a b ≡ true → a ≡ b
-same_block_equal None None e = refl
-same_block_equal None (Some b) e = cc
-same_block_equal (Some a) None e = cc
-same_block_equal (Some a) (Some b) e = ap (λ (n : ℕ). let x : BlockId = record { 0 = n } in Some x) (eqb-true a.0 b.0 e)
-
-pub same_map_itself : (m : MapId) → is_same_map m m ≡ true
-same_map_itself m = and_from _ _ (eq-eqb m.krate.0 m.krate.0 refl) (same_block_itself m.block)
-
-abbrev map_of : ℕ → Option BlockId → MapId
-map_of krate block = record { krate = record { 0 = krate }; block = block }
-
-pub same_map_equal : (a b : MapId) → is_same_map a b ≡ true → a ≡ b
-same_map_equal a b e =
-    let p = and_parts (a.krate.0 == b.krate.0) (is_same_block a.block b.block) e in
-    ap (λ n. map_of n a.block) (eqb-true a.krate.0 b.krate.0 p.0) ∙ ap (map_of b.krate.0) (same_block_equal a.block b.block p.1)
-
-pub same_module_itself : (m : ModuleId) → is_same_module m m ≡ true
-same_module_itself m = and_from _ _ (same_map_itself m.map) (eq-eqb m.index m.index refl)
-
-pub same_module_equal : (a b : ModuleId) → is_same_module a b ≡ true → a ≡ b
-same_module_equal a b e =
-    let p = and_parts (is_same_map a.map b.map) (a.index == b.index) e in
-    ap (λ n. module_of n a.index) (same_map_equal a.map b.map p.0) ∙ ap (module_of b.map) (eqb-true a.index b.index p.1)
-
--- chains that agree on a list keep it chained
-IsChained-agree : (f g : ModuleId → List ModuleId) (xs : List ModuleId) → ((x : ModuleId) → list_any (is_same_module x) xs ≡ true → f x ≡ g x) → IsChained f xs → IsChained g xs
-IsChained-agree f g [] agree h = tt
-IsChained-agree f g (x ∷ xs) agree h = (
-  sym (agree x (or_left (is_same_module x x) _ (same_module_itself x))) ∙ h.0,
-  IsChained-agree f g xs (λ y found. agree y (or_right (is_same_module y x) _ found)) h.1,
-)
-
--- the search in a longer list, for what is not its head
-from_module-later : (y x : ModuleId) (xs : List ModuleId) → is_same_module x y ≡ false → from_module (y ∷ xs) x ≡ from_module xs x
-from_module-later y x xs e = rw e
-
-from_module-here : (y x : ModuleId) (xs : List ModuleId) → is_same_module x y ≡ true → from_module (y ∷ xs) x ≡ y ∷ xs
-from_module-here y x xs e = rw e
-
-apart_parts : (own : MapId) (y : ModuleId) (xs : List ModuleId) → are_apart own (y ∷ xs) ≡ true → (is_same_map y.map own ≡ false) × (list_any (is_same_module y) xs ≡ false) × (are_apart own xs ≡ true)
-apart_parts own y xs h =
-    let p = and_parts (not (is_same_map y.map own) && not (list_any (is_same_module y) xs)) (are_apart own xs) h in
-    let q = and_parts (not (is_same_map y.map own)) (not (list_any (is_same_module y) xs)) p.0 in
-    (not-true _ q.0, not-true _ q.1, p.1)
-
--- what is in a list is not what is not in it
-differs : (x y : ModuleId) (xs : List ModuleId) → list_any (is_same_module y) xs ≡ false → list_any (is_same_module x) xs ≡ true → is_same_module x y ≡ false
-differs x y xs absent found =
-    elim (cases_Bool (is_same_module x y)) [
-      | inl e ↦
-          let same : x ≡ y = same_module_equal x y e in
-          let there : list_any (is_same_module y) xs ≡ true = rw (← same) found in
-          cc (there, absent)
-      | inr e ↦ e
-    ]
-
--- modules that are apart are chained by their list
-from_module-chained : (own : MapId) (xs : List ModuleId) → are_apart own xs ≡ true → IsChained (from_module xs) xs
-from_module-chained own [] h = tt
-from_module-chained own (y ∷ xs) h =
-    let p = apart_parts own y xs h in (
-      from_module-here y y xs (same_module_itself y),
-      IsChained-agree (from_module xs) (from_module (y ∷ xs)) xs
-          (λ x found. sym (from_module-later y x xs (differs x y xs p.1 found)))
-          (from_module-chained own xs p.2),
-    )
-
--- a module of a list that is apart from a map is not of that map
-apart_outside : (own : MapId) (xs : List ModuleId) → are_apart own xs ≡ true → (x : ModuleId) → list_any (is_same_module x) xs ≡ true → is_same_map x.map own ≡ false
-apart_outside own [] h x found = cc
-apart_outside own (y ∷ xs) h x found =
-    let p = apart_parts own y xs h in
-    elim (or_cases (is_same_module x y) (list_any (is_same_module x) xs) found) [
-      | inl e ↦ let same : x ≡ y = same_module_equal x y e in rw same p.0
-      | inr e ↦ apart_outside own xs p.2 x e
-    ]
-
--- an end of a chained list, or the module alone
-from_module-end : (chain : ModuleId → List ModuleId) (xs : List ModuleId) (m : ModuleId) → IsChained chain xs → IsChained chain (from_module xs m) ⊎ (from_module xs m ≡ m ∷ [])
-from_module-end chain [] m h = inr refl
-from_module-end chain (x ∷ xs) m h =
-    elim (cases_Bool (is_same_module m x)) [
-      | inl e ↦ inl (rw (from_module-here x m xs e) h)
-      | inr e ↦ rw (from_module-later x m xs e) (from_module-end chain xs m h.1)
-    ]
-
-from_module-begins : (xs : List ModuleId) (m : ModuleId) → (rest : List ModuleId) × (from_module xs m ≡ m ∷ rest)
-from_module-begins [] m = ([], refl)
-from_module-begins (x ∷ xs) m =
-    elim (cases_Bool (is_same_module m x)) [
-      | inl e ↦ (xs, from_module-here x m xs e ∙ ap (λ y. y ∷ xs) (sym (same_module_equal m x e)))
-      | inr e ↦ let t = from_module-begins xs m in (t.0, from_module-later x m xs e ∙ t.1)
-    ]
-
-length-from_module : (xs : List ModuleId) (m : ModuleId) → length (from_module xs m) ≤ suc (length xs)
-length-from_module [] m = omega arith
-length-from_module (x ∷ xs) m =
-    elim (cases_Bool (is_same_module m x)) [
-      | inl e ↦ rw (from_module-here x m xs e) (omega arith)
-      | inr e ↦ let h = length-from_module xs m in rw (from_module-later x m xs e) (omega arith)
-    ]
+use Rattle.def_bindings.specs.Tree.{parent_of, ancestors, module_of, from_module, after_module, above_of, is_own, chain_of, AreParentsLower, are_apart, next_of}
+use Rattle.def_bindings.specs.ContainingLaws.{IsChained-agree, from_module-chained, apart_outside, from_module-end, from_module-begins, length-from_module, found_at, after_index-module, after_index-at}
 
 module _ (own : MapId) (parents : List (Option ℕ)) (containing : List ModuleId) (lower : AreParentsLower parents) (apart : are_apart own containing ≡ true) where
   chain : ModuleId → List ModuleId
@@ -259,28 +151,20 @@ module _ (own : MapId) (parents : List (Option ℕ)) (containing : List ModuleId
   unfolding chain
   chain_of-next m = above-next m
 
--- a root alone has no parent
-pub root-lower : AreParentsLower (None ∷ [])
-root-lower zero p e = cc
-root-lower (suc i) p e = cc
+-- a module that contains the block is followed by the next of those
+pub next_of-containing : (own : MapId) (parents : List (Option ℕ)) (containing : List ModuleId) → are_apart own containing ≡ true → (i : ℕ) (m : ModuleId)
+    → slice_get containing i ≡ Some m → suc i ≡ next_of own parents containing m
+next_of-containing own parents containing apart i m e =
+    rw (apart_outside own containing apart m (found_at containing i m e)) (sym (after_index-at own containing apart i m e))
 
--- what stands at a place after a push
-push-place : (parents : List (Option ℕ)) (last : Option ℕ) (i p : ℕ) → parent_of (parents ++ last ∷ []) i ≡ Some p → (parent_of parents i ≡ Some p) ⊎ ((i ≡ length parents) × (last ≡ Some p))
-push-place [] last zero p e = inr (refl, e)
-push-place [] last (suc i) p e = cc
-push-place (x ∷ parents) last zero p e = inl e
-push-place (x ∷ parents) last (suc i) p e =
-    elim (push-place parents last i p e) [ inl h ↦ inl h | inr h ↦ inr (ap suc h.0, h.1) ]
-
--- a module whose parent is there goes on top
-pub push-lower : (parents : List (Option ℕ)) (parent : ℕ) → AreParentsLower parents → parent < length parents → AreParentsLower (parents ++ Some parent ∷ [])
-push-lower parents parent lower l i p e =
-    elim (push-place parents (Some parent) i p e) [
-      | inl h ↦ lower i p h
-      | inr h ↦ let same : parent ≡ p = cc (h.1) in omega (arith, h.0, same)
+-- what follows a module of a chain, by its parent or by its place
+pub above_of-next : (own : MapId) (parents : List (Option ℕ)) (containing : List ModuleId) (m : ModuleId) → parent_of parents m.index ≡ None ⊎ (is_own own parents m ≡ false)
+    → slice_get containing (next_of own parents containing m) ≡ above_of own parents containing m
+above_of-next own parents containing m h =
+    elim (cases_Bool (is_own own parents m)) [
+      | inl e ↦ elim h [
+        | inl none ↦ rw (e, none) refl
+        | inr outside ↦ cc (e, outside)
+      ]
+      | inr e ↦ rw e (after_index-module containing m)
     ]
-
--- the same after a push that may be refused
-pub push-lower-either : {A E : Type 0} (r : Result A E) (old new : List (Option ℕ)) (parent : ℕ) → OnOk r (new ≡ old ++ Some parent ∷ []) → OnErr r (new ≡ old) → AreParentsLower old → parent < length old → AreParentsLower new
-push-lower-either (Ok x) old new parent ok err lower l = let P : List (Option ℕ) → Type 0 = AreParentsLower in subst P (sym ok) (push-lower old parent lower l)
-push-lower-either (Err x) old new parent ok err lower l = let P : List (Option ℕ) → Type 0 = AreParentsLower in subst P (sym err) lower

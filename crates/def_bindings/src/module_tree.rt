@@ -1,9 +1,9 @@
 //! The tree of a map's modules, and the modules that contain a block.
-ghost use Rattle.std.specs.Prelude.{◌≡◌, ◌∷◌, ◌+◌, ◌↔◌, IsTrue, List, [], length, slice_get, not, ◌++◌, ◌<◌, false, IfOk, OnOk, MatchOption};
+ghost use Rattle.std.specs.Prelude.{◌≡◌, ◌∷◌, ◌+◌, ◌↔◌, IsTrue, List, [], length, slice_get, not, ◌++◌, ◌<◌, false, IfOk, OnOk, IfSome, MatchOption, option_map};
 ghost use Rattle.std.specs.List.{list_any, filter};
 ghost use Rattle.std.specs.Option.{option_map_or};
 ghost use Rattle.def_ids.specs.Ids.{is_same_module as is_same};
-ghost use Rattle.def_bindings.specs.Tree.{are_apart as apart_from, AreParentsLower, are_apart, parent_of, after_module, above_of};
+ghost use Rattle.def_bindings.specs.Tree.{are_apart as apart_from, AreParentsLower, are_apart, parent_of, above_of, after_index, is_own as is_own_in};
 
 use crate::visibility::{VisOrder, Visibility};
 use def_ids::{MapId, ModuleId};
@@ -45,8 +45,15 @@ fn is_among(place: ModuleId, others: &[ModuleId]) -> bool
     false
 }
 
+/// A module of a chain, and where the modules that contain the block go on after it.
+#[derive(Clone, Copy)]
+struct Position {
+    at: ModuleId,
+    next: usize,
+}
+
 impl ModuleTree {
-    ghost use Rattle.def_bindings.specs.ModuleTree.{chain_in};
+    ghost use Rattle.def_bindings.specs.ModuleTree.{chain_in, next_in};
     ghost use Rattle.def_ids.specs.Ids.{is_same_module, is_block_root};
     ghost use Rattle.def_bindings.specs.Visibility.{home_of, is_at_most};
 
@@ -94,40 +101,90 @@ impl ModuleTree {
         }
     }
 
-    /// The module after `start` among those that contain this block.
-    fn containing_after(&self, start: ModuleId) -> Option<ModuleId>
-        ensures { result ≡ after_module self.now.containing start }
+    /// Whether a module is of this map.
+    fn is_own(&self, start: ModuleId) -> bool
+        ensures { result ≡ is_own_in self.now.map self.now.parents start }
+    {
+        start.map == self.map && start.index < self.parents.len()
+    }
+
+    /// Where what follows `start` stands among the modules that contain this block: at their end,
+    /// if it is none of them.
+    fn containing_index(&self, start: ModuleId) -> usize
+        ensures { result ≡ after_index self.now.containing start }
     {
         let containing = self.containing.as_slice();
         for i in 0..containing.len() {
             if start == containing[i] {
-                return containing.get(i + 1).copied();
+                return i + 1;
             }
         }
-        None
+        containing.len()
+    }
+
+    /// The chain from a place among the modules that contain this block.
+    fn containing_from(&self, index: usize) -> Option<Position>
+        ensures at { option_map (λ p. p.at) result ≡ slice_get self.now.containing index }
+        ensures next { IfSome result (λ p. p.next ≡ next_in self.now p.at) }
+    {
+        let containing = self.containing.as_slice();
+        if index < containing.len() {
+            Some(Position {
+                at: containing[index],
+                next: index + 1,
+            })
+        } else {
+            None
+        }
+    }
+
+    /// Where the chain of a module begins.
+    fn position(&self, start: ModuleId) -> Position
+        ensures at { result.at ≡ start }
+        ensures next { result.next ≡ next_in self.now start }
+    {
+        let next = if self.is_own(start) {
+            0
+        } else {
+            self.containing_index(start)
+        };
+        Position { at: start, next }
+    }
+
+    /// What follows in a chain, without a search.
+    fn step(&self, here: Position) -> Option<Position>
+        requires { here.next ≡ next_in self.now here.at }
+        ensures chain { chain_in self.now here.at ≡ here.at ∷ option_map_or (λ p. chain_in self.now p.at) result [] }
+        ensures next { IfSome result (λ p. p.next ≡ next_in self.now p.at) }
+    {
+        self.follow(here)
+    }
+
+    /// What follows in a chain: the parent, or the next of the modules that contain the block.
+    fn follow(&self, here: Position) -> Option<Position>
+        requires { here.next ≡ next_in self.now here.at }
+        ensures at { option_map (λ p. p.at) result ≡ above_of self.now.map self.now.parents self.now.containing here.at }
+        ensures next { IfSome result (λ p. p.next ≡ next_in self.now p.at) }
+    {
+        if self.is_own(here.at) {
+            if let Some(index) = self.parent(here.at.index) {
+                let at = ModuleId {
+                    map: self.map,
+                    index,
+                };
+                return Some(self.position(at));
+            }
+        }
+        self.containing_from(here.next)
     }
 
     /// The module after `start` in its chain.
     pub fn above(&self, start: ModuleId) -> Option<ModuleId>
         ensures { chain_in self.now start ≡ start ∷ option_map_or (chain_in self.now) result [] }
     {
-        self.next_above(start)
-    }
-
-    /// The module after `start` in its chain, by parents and by what contains the block.
-    fn next_above(&self, start: ModuleId) -> Option<ModuleId>
-        ensures { result ≡ above_of self.now.map self.now.parents self.now.containing start }
-    {
-        if start.map == self.map && start.index < self.parents.len() {
-            match self.parent(start.index) {
-                Some(index) => Some(ModuleId {
-                    map: self.map,
-                    index,
-                }),
-                None => self.containing.get(0).copied(),
-            }
-        } else {
-            self.containing_after(start)
+        match self.step(self.position(start)) {
+            Some(position) => Some(position.at),
+            None => None,
         }
     }
 
@@ -135,10 +192,10 @@ impl ModuleTree {
     pub fn is_in_chain(&self, start: ModuleId, target: ModuleId) -> bool
         ensures { result ≡ list_any (is_same_module target) (chain_in self.now start) }
     {
-        let mut at = Some(start);
-        while let Some(place) = at {
-            at = self.above(place);
-            if target == place {
+        let mut here = Some(self.position(start));
+        while let Some(position) = here {
+            here = self.step(position);
+            if target == position.at {
                 return true;
             }
         }
@@ -149,11 +206,11 @@ impl ModuleTree {
     pub fn home(&self, start: ModuleId) -> ModuleId
         ensures { result ≡ home_of (chain_in self.now) start }
     {
-        let mut at = Some(start);
-        while let Some(place) = at {
-            at = self.above(place);
-            if !place.is_block_root() {
-                return place;
+        let mut here = Some(self.position(start));
+        while let Some(position) = here {
+            here = self.step(position);
+            if !position.at.is_block_root() {
+                return position.at;
             }
         }
         start
@@ -179,12 +236,12 @@ impl ModuleTree {
         ensures { result ≡ slice_get (filter (λ m. not (is_block_root m)) (chain_in self.now start)) n }
     {
         let mut left = n;
-        let mut at = Some(start);
-        while let Some(place) = at {
-            at = self.above(place);
-            if !place.is_block_root() {
+        let mut here = Some(self.position(start));
+        while let Some(position) = here {
+            here = self.step(position);
+            if !position.at.is_block_root() {
                 if left == 0 {
-                    return Some(place);
+                    return Some(position.at);
                 }
                 left -= 1;
             }

@@ -1,4 +1,4 @@
-use Rattle.def_bindings.specs.TreeLaws.{push-lower-either}
+use Rattle.def_bindings.specs.ParentLaws.{push-lower-either}
 use Rattle.def_bindings.proofs.module_tree.ModuleTree.add.Goals as goal
 
 pub invariant_of-self-clause-lower : goal.invariant_of-self-clause-lower

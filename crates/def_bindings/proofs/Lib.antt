@@ -1,0 +1,11 @@
+pub mod ContentLemmas
+pub mod ByModuleLemmas
+pub mod ResultLemmas
+pub mod RowEntriesLemmas
+pub mod ScopeTableLemmas
+pub mod NumbersLemmas
+pub mod NumberedTableLemmas
+pub mod TreeLemmas
+pub mod PutsFacts
+pub mod VisibilityFacts
+pub mod ContentFacts

@@ -1,0 +1,26 @@
+-- What follows from what a clause says of a result.
+use Rattle.std.proofs.Common.{◌≡◌, Result, Ok, Err, Option, Some, None, false, refl, subst, sym, rules}
+use Rattle.std.specs.Prelude.{OnOk, OnErr, IsOk, IsSome, is_some}
+
+pub OnOk_then : {T E : Type 0} (r : Result T E) {P Q : Type 0} → OnOk r P → (P → Q) → OnOk r Q
+OnOk_then (Ok x) h f = f h
+OnOk_then (Err e) h f = h
+
+pub OnErr_then : {T E : Type 0} (r : Result T E) {P Q : Type 0} → OnErr r P → (P → Q) → OnErr r Q
+OnErr_then (Ok x) h f = h
+OnErr_then (Err e) h f = f h
+
+pub some_there : {X : Type 0} {o : Option X} {x : X} → o ≡ Some x → IsSome o
+some_there {o = o} {x = x} h = subst IsSome (sym h) (search rules)
+
+pub none_there : {X : Type 0} {o : Option X} → is_some o ≡ false → o ≡ None
+none_there {o = None} h = refl
+none_there {o = Some x} h = cc
+
+pub OnErr_from : {T E : Type 0} (r : Result T E) {P : Type 0} → P → OnErr r P
+OnErr_from (Ok x) h = search rules
+OnErr_from (Err e) h = h
+
+pub at_ok : {T E : Type 0} (r : Result T E) {P : Type 0} → IsOk r → OnOk r P → P
+at_ok (Ok x) h p = p
+at_ok (Err e) h p = absurd (search rules)

@@ -1,0 +1,67 @@
+//! The bindings of one name.
+ghost use Rattle.std.specs.Prelude.{◌≡◌};
+ghost use Rattle.def_bindings.specs.NameBindings.{bound_in, with_bound, unbound, is_unbound};
+
+use crate::bindings::{Binding, Namespace};
+
+/// What one name stands for in each namespace.
+#[derive(Clone, Copy)]
+pub struct NameBindings<V> {
+    pub types: Option<Binding<V>>,
+    pub values: Option<Binding<V>>,
+    pub macros: Option<Binding<V>>,
+}
+
+impl<V: Copy> NameBindings<V> {
+    /// No bindings.
+    pub fn unbound() -> Self
+        ensures { result ≡ unbound }
+    {
+        NameBindings {
+            types: None,
+            values: None,
+            macros: None,
+        }
+    }
+
+    /// The binding in a namespace.
+    pub fn get(&self, ns: Namespace) -> Option<Binding<V>>
+        ensures { result ≡ bound_in self.now ns }
+    {
+        match ns {
+            Namespace::Types => self.types,
+            Namespace::Values => self.values,
+            Namespace::Macros => self.macros,
+        }
+    }
+
+    /// These, with another binding or none in one namespace.
+    pub fn with(self, ns: Namespace, binding: Option<Binding<V>>) -> Self
+        ensures { result ≡ with_bound self ns binding }
+    {
+        match ns {
+            Namespace::Types => NameBindings {
+                types: binding,
+                values: self.values,
+                macros: self.macros,
+            },
+            Namespace::Values => NameBindings {
+                types: self.types,
+                values: binding,
+                macros: self.macros,
+            },
+            Namespace::Macros => NameBindings {
+                types: self.types,
+                values: self.values,
+                macros: binding,
+            },
+        }
+    }
+
+    /// Whether there is no binding in any namespace.
+    pub fn is_unbound(&self) -> bool
+        ensures { result ≡ is_unbound self.now }
+    {
+        self.types.is_none() && self.values.is_none() && self.macros.is_none()
+    }
+}

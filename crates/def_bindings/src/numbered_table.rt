@@ -1,0 +1,191 @@
+//! A table that keeps all bindings in one numbered list.
+ghost use Rattle.std.specs.Prelude.{◌≡◌, is_some, OnOk, OnErr, IfOk};
+ghost use Rattle.def_bindings.specs.Content.{AreTied, is_bound};
+ghost use Rattle.def_bindings.specs.Lists.{lists_of};
+ghost use Rattle.def_bindings.specs.Places.{bindings_of};
+
+use crate::binding_table::BindingTable;
+use crate::bindings::{Binding, EdgeTo, Namespace};
+use crate::keyed::{Keyed, replace};
+use crate::link::Link;
+use crate::lists::Lists;
+use crate::place::Place;
+use def_ids::{ModuleId, TraitId};
+use indexmap::IndexMap;
+use item_tree::Name;
+use std::alloc::{AllocError, Global};
+
+/// All bindings in one numbered list with one index over places, and so the unnamed traits and the
+/// edges; and the names of each module in first-bound order.
+#[derive(Drop)]
+pub struct NumberedTable<V> {
+    places: IndexMap<Place, Binding<V>>,
+    names: Lists<Name>,
+    unnamed: Keyed<TraitId, V>,
+    edges: Keyed<ModuleId, Link<V>>,
+    ghost tied: { AreTied (bindings_of places) (lists_of names) },
+}
+
+/// Whether a name has a binding in some namespace.
+fn is_bound<V: Copy>(places: &IndexMap<Place, Binding<V>>, module: ModuleId, name: Name) -> bool
+    ensures { result ≡ is_bound (bindings_of places.now) «module» name }
+{
+    has(places, module, name, Namespace::Types)
+        || has(places, module, name, Namespace::Values)
+        || has(places, module, name, Namespace::Macros)
+}
+
+/// Whether there is a binding at a place.
+fn has<V: Copy>(
+    places: &IndexMap<Place, Binding<V>>,
+    module: ModuleId,
+    name: Name,
+    ns: Namespace,
+) -> bool
+    ensures { result ≡ is_some (bindings_of places.now «module» name ns) }
+{
+    places.contains_key(&Place {
+        at: module,
+        name,
+        ns,
+    })
+}
+
+impl<V: Copy> NumberedTable<V> {
+    ghost use Rattle.def_bindings.specs.Content.{empty, with_binding};
+    ghost use Rattle.def_bindings.specs.NumberedTable.{content_of};
+
+    /// A table with nothing in it.
+    pub fn new(alloc: Global) -> Result<Self, AllocError>
+        ensures { IfOk result (λ table. content_of table ≡ empty) }
+    {
+        Ok(NumberedTable {
+            places: IndexMap::new(alloc),
+            names: Lists::new(alloc),
+            unnamed: Keyed::new(alloc),
+            edges: Keyed::new(alloc),
+        })
+    }
+
+    /// Binds a name in a namespace, for the first time there.
+    fn add(
+        &mut self,
+        module: ModuleId,
+        name: Name,
+        ns: Namespace,
+        binding: Binding<V>,
+    ) -> Result<(), AllocError>
+        ensures done { OnOk result (content_of self.new ≡ with_binding (content_of self.old) «module» name ns binding) }
+        ensures refused { OnErr result (content_of self.new ≡ content_of self.old) }
+    {
+        let new = !is_bound(&self.places, module, name);
+        self.places.reserve(1)?;
+        self.names.push_if(new, module, name)?;
+        let place = Place {
+            at: module,
+            name,
+            ns,
+        };
+        self.places.insert(place, binding)?;
+        Ok(())
+    }
+}
+
+impl<V: Copy> BindingTable for NumberedTable<V> {
+    ghost use Rattle.def_bindings.specs.Content.{with_binding, with_unnamed, with_edge};
+    ghost use Rattle.def_bindings.specs.NumberedTable.{content_of};
+    ghost use Rattle.def_bindings.specs.NumberedTableLaws.{modules_of, are_sources};
+
+    type Vis = V;
+
+    ghost content = { content_of };
+
+    ghost sources = { λ t. modules_of t.edges.entries.entries };
+
+    fn binding(&self, module: ModuleId, name: Name, ns: Namespace) -> Option<Binding<V>> {
+        let place = Place {
+            at: module,
+            name,
+            ns,
+        };
+        self.places.get(&place).copied()
+    }
+
+    fn name_at(&self, module: ModuleId, index: usize) -> Option<Name> {
+        self.names.at(module, index)
+    }
+
+    fn unnamed_at(&self, module: ModuleId, index: usize) -> Option<(TraitId, V)> {
+        self.unnamed.at(module, index)
+    }
+
+    fn unnamed_vis(&self, module: ModuleId, item: TraitId) -> Option<V> {
+        self.unnamed.get(module, item)
+    }
+
+    fn edge_at(&self, module: ModuleId, index: usize) -> Option<EdgeTo<V>> {
+        match self.edges.at(module, index) {
+            Some((importer, link)) => Some(EdgeTo {
+                importer,
+                vis: link.vis,
+                glob: link.glob,
+            }),
+            None => None,
+        }
+    }
+
+    fn set(
+        &mut self,
+        module: ModuleId,
+        name: Name,
+        ns: Namespace,
+        binding: Binding<V>,
+    ) -> Result<(), AllocError>
+        ensures done { OnOk result (content_of self.new ≡ with_binding (content_of self.old) «module» name ns binding) }
+        ensures refused { OnErr result (content_of self.new ≡ content_of self.old) }
+    {
+        let place = Place {
+            at: module,
+            name,
+            ns,
+        };
+        if replace(&mut self.places, place, binding) {
+            return Ok(());
+        }
+        self.add(module, name, ns, binding)
+    }
+
+    fn remove(&mut self, module: ModuleId, name: Name, ns: Namespace) {
+        let place = Place {
+            at: module,
+            name,
+            ns,
+        };
+        let _ = self.places.swap_remove(&place);
+        if !is_bound(&self.places, module, name) {
+            self.names.remove(module, name);
+        }
+    }
+
+    fn set_unnamed(&mut self, module: ModuleId, item: TraitId, vis: V) -> Result<(), AllocError>
+        ensures done { OnOk result (content_of self.new ≡ with_unnamed (content_of self.old) «module» item vis) }
+        ensures refused { OnErr result (content_of self.new ≡ content_of self.old) }
+    {
+        self.unnamed.set(module, item, vis)
+    }
+
+    fn set_edge(&mut self, module: ModuleId, edge: EdgeTo<V>) -> Result<(), AllocError>
+        ensures done { OnOk result (content_of self.new ≡ with_edge (content_of self.old) «module» edge) }
+        ensures refused { OnErr result (content_of self.new ≡ content_of self.old) }
+    {
+        let link = Link {
+            vis: edge.vis,
+            glob: edge.glob,
+        };
+        self.edges.set(module, edge.importer, link)
+    }
+
+    ghost finite = { are_sources };
+
+    ghost tied = { λ t. t.tied };
+}
