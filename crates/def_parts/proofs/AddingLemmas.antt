@@ -13,7 +13,7 @@ use Rattle.def_ids.specs.Ids.{is_same_module}
 use Rattle.def_bindings.specs.Puts.{held, edge_to, joined}
 use Rattle.def_bindings.specs.Closure.{IsClosed, IsCoherent}
 use Rattle.def_parts.specs.Waves.{BeginsAt, IsClosedTo, Leads, LedOrHome, AreSingle, AddsEdge}
-use Rattle.def_bindings.specs.TreeLaws.{same_module_equal, same_module_itself}
+use Rattle.def_bindings.specs.IdLaws.{same_module_equal, same_module_itself}
 use Rattle.def_parts.proofs.EdgesLemmas.{in_replaced, found_importer, replaced_at, last_at, no_edge, missing_edge, single_replaced}
 
 -- an edge after the change is an old one, or the new one at its source

@@ -17,7 +17,7 @@ use Rattle.def_bindings.specs.Content.{Content}
 use Rattle.def_bindings.specs.Puts.{held, settled, carried, copied}
 use Rattle.def_parts.specs.Pending.{is_changed, copied_all, reached}
 use Rattle.def_parts.specs.Waves.{Copies, more}
-use Rattle.def_parts.specs.PlacesLaws.{cases_place}
+use Rattle.def_bindings.specs.HeldLaws.{cases_place}
 use Rattle.def_parts.specs.SettlingLaws.{raised, replaced, settled_cases}
 use Rattle.def_parts.specs.CopyingLaws.{Moved, copy_cases, edges_copied}
 use Rattle.def_parts.proofs.ClosingLemmas.{Pending, Passes, ClosedBut, closed_copied}

@@ -10,7 +10,7 @@ use Rattle.def_bindings.specs.Content.{Content}
 pub use Rattle.def_parts.specs.Pending.{Pending, ClosedBut}
 use Rattle.def_bindings.specs.Puts.{held, settled, copied}
 use Rattle.def_parts.specs.Pending.{is_changed}
-use Rattle.def_parts.specs.PlacesLaws.{cases_place}
+use Rattle.def_bindings.specs.HeldLaws.{cases_place}
 use Rattle.def_parts.specs.CopyingLaws.{Moved, Still, copy_cases}
 
 -- the copy's own work is done, and what it changes is pending

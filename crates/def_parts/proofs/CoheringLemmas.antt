@@ -19,8 +19,9 @@ pub use Rattle.def_parts.specs.Pending.{CoherentBut}
 use Rattle.def_bindings.specs.Puts.{held, settled, carried, copied}
 use Rattle.def_parts.specs.Pending.{is_changed}
 use Rattle.def_bindings.specs.Closure.{IsBound, Follows}
-use Rattle.def_bindings.specs.TreeLaws.{same_module_itself}
-use Rattle.def_parts.specs.PlacesLaws.{is_place, cases_place, slot-itself}
+use Rattle.def_bindings.specs.IdLaws.{same_module_itself}
+use Rattle.def_bindings.specs.Slots.{is_same_place}
+use Rattle.def_bindings.specs.HeldLaws.{cases_place, slot-refl}
 use Rattle.def_parts.specs.SettlingLaws.{raised, replaced, settled_cases, settled_unchanged}
 use Rattle.def_parts.specs.CopyingLaws.{Moved, Still, copy_cases}
 use Rattle.def_parts.proofs.ClosingLemmas.{Pending, Passes}
@@ -37,8 +38,8 @@ edge_is : {V : Type 0} (c : Content V) (m s : ModuleId) (j k : ℕ) (e' e : Edge
 edge_is c m s j k e' e i h p q =
     let f : Some e' ≡ Some e = sym i ∙ (ap (λ n. slice_get (c.edges n) j) p ∙ (ap (λ n. slice_get (c.edges s) n) q ∙ h)) in cc
 
-pub absurd_apart : (m : ModuleId) (x : Slot) → is_place m x m x ≡ false → ⊥
-absurd_apart m x h = false≢true (sym h ∙ and_from _ _ (same_module_itself m) (slot-itself x))
+pub absurd_apart : (m : ModuleId) (x : Slot) → is_same_place m x m x ≡ false → ⊥
+absurd_apart m x h = false≢true (sym h ∙ and_from _ _ (same_module_itself m) (slot-refl x))
 
 -- the binding of an edge's glob at its importer, where the copy changes nothing
 still_follows : {V : Type 0} (o : Order V) (s : ModuleId) (e : EdgeTo V) (name : Name) (ns : Namespace) (c : Content V) (b own : Binding V)
@@ -139,7 +140,7 @@ module _ {V : Type 0} (o : Order V) (left_out : ModuleId → Bool) (target_of : 
       → LedOrHome left_out target_of home c → HasDefs c home S def_of → S x
       → Passes P P' s k x e.importer true → (moved : Moved o s e x c c') → moved.own.def ≡ def_of x
       → (i : ModuleId) (name : Name) (ns : Namespace) (b : Binding V) (g : GlobId) (m : ModuleId)
-      → is_place e.importer x i (Named name ns) ≡ false
+      → is_same_place e.importer x i (Named name ns) ≡ false
       → c.binding i name ns ≡ Some b → b.import ≡ Some (Glob g) → target_of g ≡ Some m → left_out i ≡ false → left_out m ≡ false
       → Follows o c' m i (Named name ns) b.def ⊎ (IsBound c' m (Named name ns) × Leads c' m i g (λ index. P' m index (Named name ns)))
   coherent_there home S def_of x led defs in_S passes moved own_def i name ns b g m there here by known li lm =
@@ -166,7 +167,7 @@ module _ {V : Type 0} (o : Order V) (left_out : ModuleId → Bool) (target_of : 
                 | inr q ↦
                     let same : p.1.1.0 ≡ e = edge_is c m s p.1.0 k p.1.1.0 e p.1.1.1 at q.0 q.1 in
                     let to : i ≡ e.importer = sym p.1.1.2 ∙ ap (λ (n : EdgeTo _). n.importer) same in
-                    let no : is_place e.importer x e.importer x ≡ false = subst (λ y. is_place e.importer x e.importer y ≡ false) q.2 (subst (λ n. is_place e.importer x n (Named name ns) ≡ false) to there) in
+                    let no : is_same_place e.importer x e.importer x ≡ false = subst (λ y. is_same_place e.importer x e.importer y ≡ false) q.2 (subst (λ n. is_same_place e.importer x n (Named name ns) ≡ false) to there) in
                     absurd (absurd_apart e.importer x no)
               ]
             ]

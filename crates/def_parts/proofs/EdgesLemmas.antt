@@ -7,7 +7,7 @@ use Rattle.def_bindings.specs.declared.bindings.EdgeTo.{EdgeTo}
 use Rattle.def_bindings.specs.Content.{replaced, leads_to}
 use Rattle.def_ids.specs.Ids.{is_same_module}
 use Rattle.def_bindings.specs.Puts.{edge_to}
-use Rattle.def_bindings.specs.TreeLaws.{same_module_equal, same_module_itself}
+use Rattle.def_bindings.specs.IdLaws.{same_module_equal, same_module_itself}
 
 -- an edge that was appended or put in the place of others is an old one or the new one
 in_pushed : {X : Type 0} (xs : List X) (new x : X) (k : ℕ) → slice_get (xs ++ new ∷ []) k ≡ Some x → (slice_get xs k ≡ Some x) ⊎ (x ≡ new)

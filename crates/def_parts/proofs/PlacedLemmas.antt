@@ -21,7 +21,8 @@ use Rattle.def_bindings.specs.Closure.{IsBound, Follows}
 use Rattle.def_parts.specs.Waves.{Leads, LedOrHome}
 use Rattle.def_parts.specs.Pending.{changed_at, changed_by, Pending, ClosedBut, CoherentBut}
 use Rattle.def_parts.specs.ListLaws.{first_in, later_in}
-use Rattle.def_parts.specs.PlacesLaws.{is_place, cases_place}
+use Rattle.def_bindings.specs.Slots.{is_same_place}
+use Rattle.def_bindings.specs.HeldLaws.{cases_place}
 use Rattle.def_parts.specs.PuttingLaws.{settled_any, Placed, put_cases, bound_placed}
 use Rattle.def_parts.proofs.CoheringLemmas.{leads_moved, absurd_apart}
 
@@ -71,12 +72,12 @@ module _ {V : Type 0} (o : Order V) (left_out : ModuleId → Bool) (P : Pending)
     -- the binding that the put made
     taken : OfferFollows → CoherentBut o left_out target_of P c → (name : Name) (ns : Namespace) (b : Binding V) (g : GlobId) (t : ModuleId)
         → x ≡ Named name ns → settled o (c.binding m name ns) offer ≡ Some b → b.import ≡ Some (Glob g) → target_of g ≡ Some t → left_out m ≡ false → left_out t ≡ false
-        → is_place m (Named name ns) t (Named name ns) ≡ false → held c' t (Named name ns) ≡ held c t (Named name ns) → Goal m name ns b g t
+        → is_same_place m (Named name ns) t (Named name ns) ≡ false → held c' t (Named name ns) ≡ held c t (Named name ns) → Goal m name ns b g t
     taken offers coherent name ns b g t is_x settles by known lm lt apart same =
         elim (settled_any o (c.binding m name ns) offer b settles) [
           | inl f ↦
               elim (offers name ns g t is_x (sym (ap (λ n. n.import) f) ∙ by) known lm lt) [
-                | inl itself ↦ absurd (absurd_apart m (Named name ns) (subst (λ n. is_place m (Named name ns) n (Named name ns) ≡ false) itself apart))
+                | inl itself ↦ absurd (absurd_apart m (Named name ns) (subst (λ n. is_same_place m (Named name ns) n (Named name ns) ≡ false) itself apart))
                 | inr bound ↦ inl (bound.0, same ∙ bound.1, inl (bound.2 ∙ sym (ap (λ n. n.def) f)))
               ]
           | inr r ↦
@@ -102,7 +103,7 @@ module _ {V : Type 0} (o : Order V) (left_out : ModuleId → Bool) (P : Pending)
                 | inr apart ↦
                     elim (led i name ns b g t (sym (placed.elsewhere i (Named name ns) apart) ∙ here) by known li lt) [
                       | inl at_home ↦
-                          let no : is_place m x m x ≡ false = subst (λ y. is_place m x m y ≡ false) (sym at_target.1) (subst (λ n. is_place m x n (Named name ns) ≡ false) at_home apart) in
+                          let no : is_same_place m x m x ≡ false = subst (λ y. is_same_place m x m y ≡ false) (sym at_target.1) (subst (λ n. is_same_place m x n (Named name ns) ≡ false) at_home apart) in
                           absurd (absurd_apart m x no)
                       | inr lead ↦
                           inr (
@@ -120,7 +121,7 @@ module _ {V : Type 0} (o : Order V) (left_out : ModuleId → Bool) (P : Pending)
                     let placed' : Placed o m (Named name ns) offer c c' = subst (λ y. Placed o m y offer c c') same.1 placed in
                     let f : Some placed'.now ≡ Some b = sym placed'.now_is ∙ (ap (λ n. held c' n (Named name ns)) same.0 ∙ here) in
                     let is_b : placed'.now ≡ b = cc in
-                    let apart' : is_place m (Named name ns) t (Named name ns) ≡ false = subst (λ y. is_place m y t (Named name ns) ≡ false) same.1 target_apart in
+                    let apart' : is_same_place m (Named name ns) t (Named name ns) ≡ false = subst (λ y. is_same_place m y t (Named name ns) ≡ false) same.1 target_apart in
                     let result = taken offers coherent name ns b g t same.1 (subst (λ (z : Binding _). settled o (c.binding m name ns) offer ≡ Some z) is_b placed'.settles) by known (ap left_out same.0 ∙ li) lt apart' target_same in
                     subst (λ n. Goal n name ns b g t) same.0 result
               ]

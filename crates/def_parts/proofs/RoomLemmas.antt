@@ -16,9 +16,9 @@ use Rattle.def_bindings.specs.Order.{Order, IsLawful}
 use Rattle.def_bindings.specs.Content.{Content}
 use Rattle.def_bindings.specs.Puts.{held, fitted, settled, lessened, carried, copied}
 use Rattle.def_parts.specs.Pending.{is_changed, copied_all, reached}
-use Rattle.def_parts.specs.EqualityLaws.{def-itself}
+use Rattle.def_bindings.specs.DefLaws.{def-refl}
 use Rattle.def_parts.specs.ListLaws.{first_in, later_in, none_in}
-use Rattle.def_parts.specs.PlacesLaws.{cases_place, held-fitted}
+use Rattle.def_bindings.specs.HeldLaws.{cases_place, held-fitted}
 use Rattle.def_parts.specs.SettlingLaws.{raised, replaced, settled_cases, settled_def, settled_vis}
 use Rattle.def_parts.specs.CopyingLaws.{Moved, copy_cases, offer_glob, offer_def}
 use Rattle.def_parts.proofs.RiseLemmas.{climb, climb-height, climb-less}
@@ -51,7 +51,7 @@ room o height vs def (Some b) = cond (def_eq b.def def) (climb o vs height b.vis
 
 module _ {V : Type 0} (o : Order V) (height : ℕ) (lawful : IsLawful o height) (vs : List V) where
   room_at : (a : Binding V) (def : Def) → a.def ≡ def → room o height vs def (Some a) ≡ climb o vs height a.vis
-  room_at a def h = let e : def_eq a.def def ≡ true = subst (λ d. def_eq a.def d ≡ true) h (def-itself a.def) in rw e
+  room_at a def h = let e : def_eq a.def def ≡ true = subst (λ d. def_eq a.def d ≡ true) h (def-refl a.def) in rw e
 
   room-settled : (there : Option (Binding V)) (offer a : Binding V) (h : GlobId) → offer.import ≡ Some (Glob h) → Contains vs offer.vis
       → settled o there offer ≡ Some a → room o height vs offer.def (Some a) < room o height vs offer.def there

@@ -13,7 +13,7 @@ use Rattle.def_bindings.specs.Content.{Content}
 use Rattle.def_bindings.specs.Puts.{held, copied}
 use Rattle.def_parts.specs.Pending.{is_changed, copied_all, reached}
 use Rattle.def_parts.specs.ListLaws.{first_in, later_in, none_in, only_in}
-use Rattle.def_parts.specs.PlacesLaws.{cases_place}
+use Rattle.def_bindings.specs.HeldLaws.{cases_place}
 use Rattle.def_parts.specs.CopyingLaws.{copy_cases, edges_copied}
 use Rattle.def_parts.proofs.CoheringLemmas.{HasDefs}
 

@@ -15,7 +15,7 @@ use Rattle.def_bindings.specs.Content.{Content}
 use Rattle.def_bindings.specs.Puts.{glob_of, held, settled, put, put_at, put_entry, puts, slot_of, offered}
 use Rattle.def_parts.specs.Waves.{HoldsBy, Brings}
 use Rattle.def_parts.specs.ListLaws.{first_in, later_in}
-use Rattle.def_parts.specs.PlacesLaws.{cases_place}
+use Rattle.def_bindings.specs.HeldLaws.{cases_place}
 use Rattle.def_parts.specs.SettlingLaws.{raised, replaced, settled_cases, glob_of-some}
 use Rattle.def_parts.specs.PuttingLaws.{settled_any, Placed, put_cases, bound_put}
 

@@ -14,7 +14,8 @@ use Rattle.def_bindings.specs.Content.{Content}
 use Rattle.def_bindings.specs.Puts.{held, fitted, settled, written, unnamed_binding, any_glob, carried, answer, copied}
 use Rattle.def_parts.specs.Pending.{is_changed}
 use Rattle.def_bindings.specs.Closure.{IsBound}
-use Rattle.def_parts.specs.PlacesLaws.{is_place, cases_place, held-written_here, held-written_there, edges-written, held-fitted}
+use Rattle.def_bindings.specs.Slots.{is_same_place}
+use Rattle.def_bindings.specs.HeldLaws.{cases_place, held-written_here, held-written_elsewhere, edges-written, held-fitted}
 use Rattle.def_parts.specs.SettlingLaws.{raised, replaced, settled_cases, settled_def}
 
 -- what an edge offers is by a glob
@@ -36,7 +37,7 @@ pub record Moved {V : Type 0} (o : Order V) (source : ModuleId) (e : EdgeTo V) (
   pub settles : settled o (held c e.importer x) (fitted x (carried o e own)) ≡ Some now
   pub now_is : held c' e.importer x ≡ Some now
   pub now_def : now.def ≡ own.def
-  pub elsewhere : (n : ModuleId) (y : Slot) → is_place e.importer x n y ≡ false → held c' n y ≡ held c n y
+  pub elsewhere : (n : ModuleId) (y : Slot) → is_same_place e.importer x n y ≡ false → held c' n y ≡ held c n y
   pub same_edges : c'.edges ≡ c.edges
 
 -- a copy that changes nothing: the source binds nothing there, or nothing that is seen, or the offer is refused
@@ -78,7 +79,7 @@ by_settled o source e x c own (Some a) i j k = inr (
     settles = k;
     now_is = held-written_here c e.importer x a ∙ ap Some (settled_fitted o c e.importer x (carried o e own) a k);
     now_def = settled_def o _ _ a _ (offer_glob o e x own).1 k ∙ offer_def o e x own (held-fitted c source x own i);
-    elsewhere = λ n y h. held-written_there c e.importer x a n y h;
+    elsewhere = λ n y h. held-written_elsewhere c e.importer x (Some a) n y h;
     same_edges = edges-written c e.importer x (Some a);
   },
 )

@@ -4,7 +4,7 @@ use Rattle.std.specs.Global.{Global}
 use Rattle.std.specs.List.{flat_map, join_with_byte, starts_with, slice_split}
 use Rattle.item_tree.specs.declared.ids.FileId.{FileId}
 use Rattle.item_tree.specs.declared.ids.HirFileId.{HirFileId}
-use Rattle.item_tree.specs.Attrs.{or_else}
+use Rattle.item_tree.specs.Lists.{or_else}
 
 -- a module's directory; root_non_dir_owner: it is named after a file in the directory above
 pub record Directory : Type 0 where

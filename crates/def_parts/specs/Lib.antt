@@ -1,8 +1,6 @@
 pub mod Waves
 pub mod Pending
 pub mod ListLaws
-pub mod EqualityLaws
-pub mod PlacesLaws
 pub mod SettlingLaws
 pub mod CopyingLaws
 pub mod PuttingLaws

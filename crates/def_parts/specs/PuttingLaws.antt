@@ -13,7 +13,8 @@ use Rattle.def_bindings.specs.Puts.{glob_of, held, fitted, settled, settled_over
 use Rattle.def_bindings.specs.Closure.{IsBound}
 use Rattle.def_parts.specs.Waves.{slots_of}
 use Rattle.def_parts.specs.ListLaws.{first_in, none_in, only_in}
-use Rattle.def_parts.specs.PlacesLaws.{is_place, cases_place, held-written_here, held-written_there, edges-written}
+use Rattle.def_bindings.specs.Slots.{is_same_place}
+use Rattle.def_bindings.specs.HeldLaws.{cases_place, held-written_here, held-written_elsewhere, edges-written}
 use Rattle.def_parts.specs.CopyingLaws.{settled_fitted}
 
 -- a place that changes takes the offer, or is raised
@@ -41,7 +42,7 @@ pub record Placed {V : Type 0} (o : Order V) (m : ModuleId) (x : Slot) (offer : 
   pub now : Binding V
   pub settles : settled o (held c m x) (fitted x offer) ≡ Some now
   pub now_is : held c' m x ≡ Some now
-  pub elsewhere : (n : ModuleId) (y : Slot) → is_place m x n y ≡ false → held c' n y ≡ held c n y
+  pub elsewhere : (n : ModuleId) (y : Slot) → is_same_place m x n y ≡ false → held c' n y ≡ held c n y
   pub same_edges : c'.edges ≡ c.edges
 
 by_result : {V : Type 0} (o : Order V) (m : ModuleId) (x : Slot) (offer : Binding V) (c : Content V) (r : Option (Binding V))
@@ -54,7 +55,7 @@ by_result o m x offer c (Some a) h = inr (
     now = a;
     settles = h;
     now_is = held-written_here c m x a ∙ ap Some (settled_fitted o c m x offer a h);
-    elsewhere = λ n y k. held-written_there c m x a n y k;
+    elsewhere = λ n y k. held-written_elsewhere c m x (Some a) n y k;
     same_edges = edges-written c m x (Some a);
   },
 )

@@ -19,7 +19,8 @@ use Rattle.def_bindings.specs.Puts.{held, settled, puts, copied, carried as alon
 use Rattle.def_bindings.specs.Closure.{IsBound}
 use Rattle.def_parts.specs.Waves.{Copies, none, more, slots_of, IsClosedTo, ListsAll, HoldsBy, IsLed, KeepsGlobs}
 use Rattle.def_parts.specs.ListLaws.{first_in, later_in, none_in, in_cases}
-use Rattle.def_parts.specs.PlacesLaws.{is_slot, cases_place, slot-equal, slot-itself}
+use Rattle.def_bindings.specs.Slots.{is_same_slot}
+use Rattle.def_bindings.specs.HeldLaws.{cases_place, slot-eq, slot-refl}
 use Rattle.def_parts.specs.SettlingLaws.{raised, replaced, settled_cases}
 use Rattle.def_parts.specs.CopyingLaws.{Moved, copy_cases, edges_copied, bound_copied}
 use Rattle.def_parts.specs.PuttingLaws.{edges_puts, outside_puts, puts_bind}
@@ -31,12 +32,12 @@ glob_is g h e = cc
 is_in : (xs : List Slot) (y : Slot) → Contains xs y ⊎ (Contains xs y → ⊥)
 is_in [] y = inr (none_in y)
 is_in (x ∷ xs) y =
-    elim (cases_Bool (is_slot x y)) [
-      | inl same ↦ inl (subst (Contains (x ∷ xs)) (slot-equal x y same) (first_in x xs))
+    elim (cases_Bool (is_same_slot x y)) [
+      | inl same ↦ inl (subst (Contains (x ∷ xs)) (slot-eq x y same) (first_in x xs))
       | inr other ↦ elim (is_in xs y) [
         | inl later ↦ inl (later_in x xs y later)
         | inr nowhere ↦ inr (λ h. elim (in_cases x xs y h) [
-          | inl e ↦ absurd (false≢true (sym other ∙ subst (λ z. is_slot x z ≡ true) (sym e) (slot-itself x)))
+          | inl e ↦ absurd (false≢true (sym other ∙ subst (λ z. is_same_slot x z ≡ true) (sym e) (slot-refl x)))
           | inr later ↦ absurd (nowhere later)
         ])
       ]

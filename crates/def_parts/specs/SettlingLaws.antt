@@ -1,14 +1,18 @@
 -- What a glob's offer makes of a place.
 use Rattle.std.specs.Prelude.{◌≡◌, Bool, true, false, cond, Option, Some, None, refl}
 use Rattle.std.proofs.Common.{sym, ap, ◌∙◌, subst, inl, inr}
-use Rattle.std.proofs.lemmas.Bool.{cases_Bool}
+use Rattle.std.proofs.lemmas.Bool.{cases_Bool, and_from, eq-eqb}
 use Rattle.def_ids.specs.declared.ids.GlobId.{GlobId}
 use Rattle.def_ids.specs.Equality.{def_eq, glob_eq}
 use Rattle.def_bindings.specs.declared.bindings.ImportOrExternCrate.TheVariants.{Import, Glob, ExternCrate}
 use Rattle.def_bindings.specs.declared.bindings.Binding.{Binding}
 use Rattle.def_bindings.specs.Order.{Order, rises_to}
 use Rattle.def_bindings.specs.Puts.{Origin, glob_of, settled, settled_over, settled_by_glob}
-use Rattle.def_parts.specs.EqualityLaws.{def-equal, glob-equal, glob-itself}
+use Rattle.def_bindings.specs.DefLaws.{def-eq}
+use Rattle.def_bindings.specs.IdLaws.{glob-eq}
+
+glob-itself : (a : GlobId) → glob_eq a a ≡ true
+glob-itself a = and_from _ _ (eq-eqb a.use_id.0 a.use_id.0 refl) (eq-eqb a.idx a.idx refl)
 
 -- a raise keeps all but the visibility, and a replacement is the offer of the same glob
 pub data Settled {V : Type 0} (o : Order V) (there offer a : Binding V) (g h : GlobId) : Type 0 where
@@ -21,7 +25,7 @@ three : {V : Type 0} (o : Order V) (there offer a : Binding V) (g h : GlobId) (p
     → Settled o there offer a g h
 three o there offer a g h true true r i j k e = let f : a ≡ record there { vis = offer.vis } = cc in raised i j f
 three o there offer a g h true false r i j k e = cc
-three o there offer a g h false q true i j k e = let f : a ≡ offer = cc in replaced i (glob-equal g h k) f
+three o there offer a g h false q true i j k e = let f : a ≡ offer = cc in replaced i (glob-eq g h k) f
 three o there offer a g h false q false i j k e = cc
 
 -- a binding is by the glob that it names
@@ -52,7 +56,7 @@ unchanged : {V : Type 0} (o : Order V) (there offer : Binding V) (p q : Option G
 unchanged o there offer (Some g) (Some k) h i j e =
     let f : g ≡ k = cc in
     elim (cases_Bool (def_eq there.def offer.def)) [
-      | inl d ↦ def-equal _ _ d
+      | inl d ↦ def-eq _ _ d
       | inr d ↦ absurd (let s : glob_eq g k ≡ true = subst (λ z. glob_eq g z ≡ true) f (glob-itself g) in let z : None ≡ Some offer = sym (rw (d, s) at e) in cc)
     ]
 unchanged o there offer (Some g) None h i j e = cc
@@ -68,7 +72,7 @@ pub settled_def : {V : Type 0} (o : Order V) (there : Option (Binding V)) (offer
 settled_def o None offer a h i e = let f : offer ≡ a = cc in sym (ap (λ y. y.def) f)
 settled_def o (Some there) offer a h i e =
     elim (settled_cases o there offer a h i e).2 [
-      | raised d r f ↦ ap (λ y. y.def) f ∙ def-equal _ _ d
+      | raised d r f ↦ ap (λ y. y.def) f ∙ def-eq _ _ d
       | replaced d r f ↦ ap (λ y. y.def) f
     ]
 
