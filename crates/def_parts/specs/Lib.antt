@@ -8,3 +8,4 @@ pub mod BringingLaws
 pub mod RecordingLaws
 pub mod Directories
 pub mod DirectoriesLaws
+pub mod ProcMacros
