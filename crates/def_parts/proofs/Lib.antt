@@ -13,3 +13,6 @@ pub mod AddingLemmas
 pub mod SeekingLemmas
 pub mod EdgesLemmas
 pub mod DirectoriesLemmas
+pub mod DirectoriesFacts
+pub mod ProcMacrosFacts
+pub mod WavesFacts
