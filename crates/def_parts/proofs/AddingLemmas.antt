@@ -12,9 +12,10 @@ use Rattle.def_bindings.specs.Content.{Content, with_edge, replaced}
 use Rattle.def_ids.specs.Ids.{is_same_module}
 use Rattle.def_bindings.specs.Puts.{held, edge_to, joined}
 use Rattle.def_bindings.specs.Closure.{IsClosed, IsCoherent}
-use Rattle.def_parts.specs.Waves.{BeginsAt, IsClosedTo, Leads, LedOrHome, AreSingle, AddsEdge}
+use Rattle.def_parts.specs.Waves.{BeginsAt, IsClosedTo, Leads, AreSingle, AddsEdge}
 use Rattle.def_bindings.specs.IdLaws.{same_module_equal, same_module_itself}
-use Rattle.def_parts.proofs.EdgesLemmas.{in_replaced, found_importer, replaced_at, last_at, no_edge, missing_edge, single_replaced}
+use Rattle.def_parts.specs.LedLaws.{found_importer}
+use Rattle.def_parts.proofs.EdgesLemmas.{in_replaced, replaced_at, last_at, no_edge, missing_edge, single_replaced}
 
 -- an edge after the change is an old one, or the new one at its source
 pub in_with_edge : {V : Type 0} (c : Content V) (s : ModuleId) (edge : EdgeTo V) (m : ModuleId) (k : ℕ) (e : EdgeTo V) → slice_get ((with_edge c s edge).edges m) k ≡ Some e
@@ -116,13 +117,6 @@ module _ {V : Type 0} (o : Order V) (c c' : Content V) (s : ModuleId) (edge : Ed
             ]
       ]
 
-  adding_led : AreSingle c → (left_out : ModuleId → Bool) (target_of : GlobId → Option ModuleId) (home : ModuleId) → LedOrHome left_out target_of home c → LedOrHome left_out target_of home c'
-  adding_led single left_out target_of home led i name ns b g m here by known li lm =
-      elim (led i name ns b g m (ap (λ (d : Content _). d.binding i name ns) (sym is) ∙ here) by known li lm) [
-        | inl at_home ↦ inl at_home
-        | inr lead ↦ inr (leads_kept single m i g lead)
-      ]
-
   adding_leads : edge_to (c.edges s) edge.importer ≡ None → Leads c' s edge.importer edge.glob (λ _. Unit {0})
   adding_leads h =
       let new : new_edge ≡ edge = ap (λ t. joined o t edge) h in
@@ -145,7 +139,7 @@ module _ {V : Type 0} (o : Order V) (c c' : Content V) (s : ModuleId) (edge : Ed
       ]
 
   pub adding_edge : AddsEdge s edge.importer edge.glob c c'
-  adding_edge = record { single = adding_single; led = adding_led; leads = adding_leads }
+  adding_edge = record { single = adding_single; kept = leads_kept; leads = adding_leads }
 
 -- the content after the code's three steps
 pub added : {V : Type 0} (o : Order V) (c c' : Content V) (s : ModuleId) (edge : EdgeTo V) (there : Option (EdgeTo V)) (j : EdgeTo V)

@@ -1,5 +1,5 @@
 -- Directories and candidates of single modules.
-use Rattle.std.proofs.Common.{◌≡◌, true, false, Some, None, List, [], ◌∷◌, refl}
+use Rattle.std.proofs.Common.{◌≡◌, true, false, Some, None, [], ◌∷◌, refl}
 use Rattle.std.specs.Prelude.{codes, map, Err}
 use Rattle.item_tree.specs.declared.ids.FileId.{FileId}
 use Rattle.item_tree.specs.declared.ids.HirFileId.TheVariants.{File}

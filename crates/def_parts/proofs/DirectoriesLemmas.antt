@@ -1,16 +1,15 @@
 -- What the calls on directories find in texts.
-use Rattle.std.proofs.Common.{◌≡◌, ℕ, zero, suc, ◌+◌, ◌-◌, ◌<◌, ◌≤◌, ◌≢◌, Bool, true, false, cond, ◌==◌, Option, Some, None, List, [], ◌∷◌, ◌++◌, length, take, drop, get_or, refl, sym, ap, ◌∙◌, subst, inl, inr, ◌⊎◌, append_assoc, arith, zero-add, length-drop}
+use Rattle.std.proofs.Common.{◌≡◌, ℕ, zero, suc, ◌+◌, ◌-◌, ◌<◌, ◌≢◌, Bool, true, false, cond, ◌==◌, Option, Some, None, List, [], ◌∷◌, ◌++◌, length, take, drop, get_or, refl, sym, ap, ◌∙◌, subst, inl, inr, append_assoc, arith, zero-add, length-drop}
 use Rattle.std.proofs.lemmas.List.{map-append}
-use Rattle.std.specs.Prelude.{codes, map, MatchOption, nat_eq, is_some, option_map, option_and_then, ◌||◌, String, string_bytes, Result, Ok, Err}
-use Rattle.std.specs.List.{slice_split, join_with_byte, starts_with}
+use Rattle.std.specs.Prelude.{codes, map, is_some, option_map, option_and_then, ◌||◌, String, string_bytes, Err}
 use Rattle.std.specs.Bool.{MatchBool}
 use Rattle.std.proofs.lemmas.Bool.{cases_Bool, eqb-true, false≢true}
-use Rattle.def_parts.specs.Directories.{slash, dir_text, joined_text, pieces_of, without_last, without_last_empty, dir_pieces, is_text, is_mod_rs, without_dot, as_slash, Directory, Files, child as child_of, found_directory, found_file, in_candidate, candidates, split_text, FoundFile, first_found, or_candidates, resolve_declaration}
+use Rattle.def_parts.specs.Directories.{slash, joined_text, pieces_of, without_last, without_last_empty, dir_pieces, is_text, is_mod_rs, without_dot, as_slash, Directory, Files, child as child_of, found_directory, found_file, in_candidate, candidates, split_text, FoundFile, first_found, or_candidates, resolve_declaration}
 use Rattle.item_tree.specs.declared.ids.HirFileId.{HirFileId}
 use Rattle.std.specs.Global.{Global}
 use Rattle.item_tree.specs.declared.ids.FileId.{FileId}
 use Rattle.std.specs.Str.Pattern.{HasSuffixMatch, FindsTextSuffix}
-use Rattle.def_parts.specs.DirectoriesLaws.{IsDirText, pieces-behind, wle-append, joined_pieces, some_piece, pieces-append, dir_pieces-slash, IsDirText-slash, dir_text-dir_pieces}
+use Rattle.def_parts.specs.DirectoriesLaws.{IsDirText, pieces-behind, wle-append, joined_pieces, some_piece, pieces-append, dir_pieces-slash}
 
 -- where no byte is '/', the text is one piece
 pub one_piece : (text : List ℕ) → ((i : ℕ) → i < length text → get_or text i 0 ≢ slash) → pieces_of text ≡ text ∷ []

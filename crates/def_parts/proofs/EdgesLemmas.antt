@@ -32,14 +32,6 @@ in_replaced es edge e k h =
       | inr new ↦ in_pushed es edge e k (rw new at h)
     ]
 
-pub found_importer : {V : Type 0} (es : List (EdgeTo V)) (importer : ModuleId) (e : EdgeTo V) → edge_to es importer ≡ Some e → (e.importer ≡ importer) × ((k : ℕ) × (slice_get es k ≡ Some e))
-found_importer [] importer e h = cc
-found_importer (f ∷ es) importer e h =
-    elim (cases_Bool (is_same_module f.importer importer)) [
-      | inl same ↦ let g : Some f ≡ Some e = rw same at h in let i : f ≡ e = cc in (ap (λ (n : EdgeTo _). n.importer) (sym i) ∙ same_module_equal f.importer importer same, (0, g))
-      | inr other ↦ let g : edge_to es importer ≡ Some e = rw other at h in let r = found_importer es importer e g in (r.0, (suc r.1.0, r.1.1))
-    ]
-
 -- an edge keeps its place in the changed list, as it was, or as the new one where both lead to one importer
 pushed_at : {X : Type 0} (xs : List X) (new x : X) (k : ℕ) → slice_get xs k ≡ Some x → slice_get (xs ++ new ∷ []) k ≡ Some x
 pushed_at [] new x k h = cc

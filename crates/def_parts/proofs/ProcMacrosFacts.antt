@@ -1,12 +1,12 @@
 -- The shapes of derive declarations.
-use Rattle.std.proofs.Common.{◌≡◌, ℕ, Some, None, List, [], ◌∷◌, refl, ap}
+use Rattle.std.proofs.Common.{◌≡◌, ℕ, Some, None, [], ◌∷◌, refl, ap}
 use Rattle.std.specs.Prelude.{option_map}
 use Rattle.item_tree.specs.declared.name.Name.{Name}
 use Rattle.item_tree.specs.declared.tt.Leaf.TheVariants.{Ident, Punct}
 use Rattle.item_tree.specs.declared.tt.TtElement.{TtElement, Leaf as Token}
 use Rattle.item_tree.specs.TokenTrees.{element_group, idents}
 use Rattle.item_tree.specs.KnownNames.{attributes_name}
-use Rattle.def_parts.specs.ProcMacros.{NameAndHelpers, name_and_helpers, grouped, derive_macro, MacroDecl, derive}
+use Rattle.def_parts.specs.ProcMacros.{name_and_helpers, grouped, derive_macro, derive}
 
 abbrev name : ℕ → Name
 name n = record { 0 = n }

@@ -1,5 +1,5 @@
 -- Slots of entries, rows of the put table on which waves rest, and climbs in a small order.
-use Rattle.std.proofs.Common.{◌≡◌, ℕ, Bool, true, false, Option, Some, None, List, [], ◌∷◌, refl}
+use Rattle.std.proofs.Common.{◌≡◌, ℕ, Option, Some, None, [], ◌∷◌, refl}
 use Rattle.std.specs.Prelude.{nat_le}
 use Rattle.item_tree.specs.declared.name.Name.{Name}
 use Rattle.def_ids.specs.declared.ids.ModuleId.{ModuleId}
@@ -7,13 +7,13 @@ use Rattle.def_ids.specs.declared.ids.GlobId.{GlobId}
 use Rattle.def_ids.specs.declared.ids.Def.{Def}
 use Rattle.def_ids.specs.declared.ids.Def.TheVariants.{Struct, Trait}
 use Rattle.def_bindings.specs.declared.bindings.Namespace.TheVariants.{Types, Values}
-use Rattle.def_bindings.specs.declared.bindings.ImportOrExternCrate.TheVariants.{Glob, Import}
+use Rattle.def_bindings.specs.declared.bindings.ImportOrExternCrate.TheVariants.{Glob}
 use Rattle.def_bindings.specs.declared.bindings.Binding.{Binding}
 use Rattle.def_bindings.specs.declared.bindings.EdgeTo.{EdgeTo}
 use Rattle.def_bindings.specs.declared.bindings.Entry.{Entry}
 use Rattle.def_bindings.specs.declared.bindings.Slot.TheVariants.{Named, Unnamed}
 use Rattle.def_bindings.specs.Order.{Order}
-use Rattle.def_bindings.specs.Puts.{Origin, settled, joined, lessened, answer}
+use Rattle.def_bindings.specs.Puts.{Origin, settled, joined, answer}
 use Rattle.def_parts.specs.Waves.{slots_of}
 use Rattle.def_parts.proofs.RiseLemmas.{climb}
 

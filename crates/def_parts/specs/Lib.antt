@@ -6,6 +6,7 @@ pub mod CopyingLaws
 pub mod PuttingLaws
 pub mod BringingLaws
 pub mod RecordingLaws
+pub mod LedLaws
 pub mod Directories
 pub mod DirectoriesLaws
 pub mod ProcMacros

@@ -63,6 +63,13 @@ LedOrHome left_out target_of home c = (importer : ModuleId) (name : Name) (ns : 
     → left_out importer ≡ false → left_out target ≡ false
     → (importer ≡ home) ⊎ Leads c target importer glob (λ _. Unit {0})
 
+-- the same, with no home
+abbrev pub Led : {V : Type 0} → (ModuleId → Bool) → (GlobId → Option ModuleId) → Content V → Type 0
+Led left_out target_of c = (importer : ModuleId) (name : Name) (ns : Namespace) (b : Binding _) (glob : GlobId) (target : ModuleId)
+    → c.binding importer name ns ≡ Some b → b.import ≡ Some (Glob glob) → target_of glob ≡ Some target
+    → left_out importer ≡ false → left_out target ≡ false
+    → Leads c target importer glob (λ _. Unit {0})
+
 -- an entry by a glob with a known target has the definition that the target binds
 abbrev pub EntriesFollow : {V : Type 0} → (ModuleId → Bool) → (GlobId → Option ModuleId) → ModuleId → List (Entry V) → Content V → Type 0
 EntriesFollow left_out target_of m list c = (e : Entry _) (name : Name) (glob : GlobId) (target : ModuleId)
@@ -98,5 +105,5 @@ AreSingle c = (source : ModuleId) (i j : ℕ) (e f : EdgeTo _) → slice_get (c.
 -- what an added edge leaves of where globs lead: where none was there, it leads by its own glob
 pub record AddsEdge {V : Type 0} (source importer : ModuleId) (glob : GlobId) (old new : Content V) : Type 0 where
   pub single : AreSingle old → AreSingle new
-  pub led : AreSingle old → (left_out : ModuleId → Bool) (target_of : GlobId → Option ModuleId) (home : ModuleId) → LedOrHome left_out target_of home old → LedOrHome left_out target_of home new
+  pub kept : AreSingle old → (target m : ModuleId) (g : GlobId) → Leads old target m g (λ _. Unit {0}) → Leads new target m g (λ _. Unit {0})
   pub leads : edge_to (old.edges source) importer ≡ None → Leads new source importer glob (λ _. Unit {0})

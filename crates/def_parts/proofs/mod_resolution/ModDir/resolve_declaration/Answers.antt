@@ -1,4 +1,4 @@
-use Rattle.std.proofs.Common.{Err, sym, ap, ◌∙◌, ◌≡◌}
+use Rattle.std.proofs.Common.{Err, sym, ap, ◌∙◌}
 use Rattle.std.specs.Prelude.{map, option_map, string_bytes}
 use Rattle.def_parts.specs.Directories.{split_text, first_found}
 use Rattle.def_parts.proofs.DirectoriesLemmas.{all_candidates}

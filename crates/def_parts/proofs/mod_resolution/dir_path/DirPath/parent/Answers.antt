@@ -1,4 +1,4 @@
-use Rattle.std.proofs.Common.{Some, None, lit<, sym, ap, ◌∙◌, ◌≡◌, take, ◌++◌, ◌∷◌, [], ◌+◌}
+use Rattle.std.proofs.Common.{Some, None, lit<, sym, ◌∙◌, ◌≡◌, take, ◌++◌, ◌∷◌, [], ◌+◌}
 use Rattle.std.proofs.lemmas.Str.Pattern.{strip_suffix_char, rfind_char}
 use Rattle.std.proofs.lemmas.Slice.{between_from_start}
 use Rattle.def_parts.proofs.DirectoriesLemmas.{parent_at, parent_of_one}
