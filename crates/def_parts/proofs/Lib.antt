@@ -7,6 +7,7 @@ pub mod RoomLemmas
 pub mod SumsLemmas
 pub mod MeasureLemmas
 pub mod WavingLemmas
+pub mod IterationLemmas
 pub mod PlacedLemmas
 pub mod UpdateLemmas
 pub mod AddingLemmas

@@ -1,10 +1,15 @@
 -- Directories of modules, as lists of texts without '/'.
 use Rattle.std.specs.Prelude.{◌≡◌, ℕ, ◌+◌, ◌==◌, Bool, true, false, cond, ◌||◌, nat_eq, nat_lt, List, [], ◌∷◌, ◌++◌, drop, map, is_some, Option, None, Some, option_map, option_and_then, Result, Ok, Err, codes, string_bytes, String, Vec}
 use Rattle.std.specs.Global.{Global}
+use denote.Ref.{Bor}
 use Rattle.std.specs.List.{flat_map, join_with_byte, starts_with, slice_split}
 use Rattle.item_tree.specs.declared.ids.FileId.{FileId}
 use Rattle.item_tree.specs.declared.ids.HirFileId.{HirFileId}
 use Rattle.item_tree.specs.Lists.{or_else}
+
+-- the text of an attribute, if there is one
+abbrev pub text_in : Option (Bor (List ℕ)) → Option (List ℕ)
+text_in attr = option_map (λ text. text.now) attr
 
 -- a module's directory; root_non_dir_owner: it is named after a file in the directory above
 pub record Directory : Type 0 where
@@ -103,9 +108,13 @@ is_mod_rs (alone ∷ []) = false
 is_mod_rs (first ∷ last ∷ []) = is_text last (codes "mod.rs")
 is_mod_rs (first ∷ next ∷ third ∷ rest) = is_mod_rs (next ∷ third ∷ rest)
 
+-- the directory of a module that was found in a file: below the file's, unless that is a mod.rs or was named by an attribute
+abbrev pub child_of_file : Directory → List ℕ → Bool → Option Directory
+child_of_file dir name owns_directory = cond owns_directory (child dir [] false) (child dir (pieces_of name) true)
+
 -- the directory of a module that was found in a candidate
 abbrev pub found_directory : Directory → List ℕ → Option (List ℕ) → List (List ℕ) → Option Directory
-found_directory dir name attr candidate = cond (is_mod_rs candidate || is_some attr) (child dir [] false) (child dir (pieces_of name) true)
+found_directory dir name attr candidate = child_of_file dir name (is_mod_rs candidate || is_some attr)
 
 -- the file of an outline module, whether it is a mod.rs, and the module's directory
 abbrev pub FoundFile : Type 0

@@ -1,4 +1,5 @@
 pub mod Waves
+pub mod Globs
 pub mod Pending
 pub mod ListLaws
 pub mod SettlingLaws

@@ -13,8 +13,8 @@ use Rattle.def_bindings.specs.declared.bindings.Slot.TheVariants.{Named}
 use Rattle.def_bindings.specs.Order.{Order}
 use Rattle.def_bindings.specs.Content.{Content}
 use Rattle.def_bindings.specs.Puts.{held, fitted, settled, answer, copied, slot_of, offered, put_entry}
-use Rattle.def_bindings.specs.Closure.{IsBound, Follows}
-use Rattle.def_parts.specs.Waves.{Leads}
+use Rattle.def_bindings.specs.Closure.{IsBound, Follows, IsClosed, IsCoherent}
+use Rattle.def_parts.specs.Waves.{BeginsAt, Leads, LedOrHome}
 
 -- slots copied along an edge, one after the other
 abbrev pub copied_all : {V : Type 0} → Order V → ModuleId → EdgeTo V → List Slot → Content V → Content V
@@ -65,3 +65,13 @@ CoherentBut o left_out target_of P c = (importer : ModuleId) (name : Name) (ns :
     → left_out importer ≡ false → left_out target ≡ false
     → Follows o c target importer (Named name ns) b.def
     ⊎ (IsBound c target (Named name ns) × Leads c target importer glob (λ index. P target index (Named name ns)))
+
+-- where only these slots of a module are pending, names are closed afterwards
+abbrev pub ClosesPending : {V : Type 0} → Order V → ModuleId → List Slot → Content V → Content V → Type 0
+ClosesPending o at slots old new = (left_out : ModuleId → Bool) → ClosedBut o left_out (AllAt at slots) old → IsClosed o left_out new
+
+-- and coherent
+abbrev pub MendsPending : {V : Type 0} → Order V → ModuleId → List Slot → Content V → Content V → Type 0
+MendsPending o at slots old new = (left_out : ModuleId → Bool) (target_of : GlobId → Option ModuleId)
+    → BeginsAt target_of old → LedOrHome left_out target_of at old → CoherentBut o left_out target_of (AllAt at slots) old
+    → IsCoherent o left_out target_of new × LedOrHome left_out target_of at new

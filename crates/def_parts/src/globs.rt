@@ -1,12 +1,10 @@
 //! A table whose names travel along its glob edges.
-ghost use Rattle.std.specs.Prelude.{◌≡◌, Bool, false, Option, Some, OnOk};
-ghost use Rattle.def_ids.specs.declared.ids.ModuleId.{ModuleId};
-ghost use Rattle.def_ids.specs.declared.ids.GlobId.{GlobId};
+ghost use Rattle.std.specs.Prelude.{◌≡◌, OnOk};
 ghost use Rattle.def_ids.specs.Ids.{is_same_module};
-ghost use Rattle.def_bindings.specs.Content.{with_edge, without_binding};
-ghost use Rattle.def_bindings.specs.Puts.{puts, edge_to, joined};
-ghost use Rattle.def_bindings.specs.Closure.{IsClosed, IsCoherent};
-ghost use Rattle.def_parts.specs.Waves.{Copies, def_at, BeginsAt, LedOrHome, EntriesFollow, slots_of, IsClosedTo, ListsAll, KeepsGlobs, AddsEdge};
+ghost use Rattle.def_bindings.specs.Content.{without_binding};
+ghost use Rattle.def_bindings.specs.Puts.{edge_to, joined};
+ghost use Rattle.def_parts.specs.Waves.{KeepsGlobs, AddsEdge};
+ghost use Rattle.def_parts.specs.Globs.{Updates, ClosesTo, KeepsClosed, KeepsCoherent, with_recorded, KeepsClosedWith, KeepsBegins, StaysCoherent};
 
 mod wave;
 
@@ -116,23 +114,20 @@ impl<T: BindingTable> Globs<T> {
         module: ModuleId,
         list: &[Entry<T::Vis>],
     ) -> Result<(), AllocError>
-        ensures puts_then_copies { OnOk result (
-            let placed = puts (O.order order.now) «module» list.now (T.content self.old) in
-            Copies (O.order order.now) (slots_of list.now) (def_at placed «module») placed (T.content self.new)) }
-        ensures closed { OnOk result ((left_out : ModuleId → Bool)
-            → IsClosed (O.order order.now) left_out (T.content self.old)
-            → IsClosed (O.order order.now) left_out (T.content self.new)) }
-        ensures coherent { OnOk result ((left_out : ModuleId → Bool) (target_of : GlobId → Option ModuleId)
-            → BeginsAt target_of (T.content self.old)
-            → LedOrHome left_out target_of «module» (T.content self.old)
-            → EntriesFollow left_out target_of «module» list.now (T.content self.old)
-            → IsCoherent (O.order order.now) left_out target_of (T.content self.old)
-            → IsCoherent (O.order order.now) left_out target_of (T.content self.new)
-            × LedOrHome left_out target_of «module» (T.content self.new)) }
-        ensures recorded { OnOk result ((target : ModuleId)
-            → ListsAll (O.order order.now) list.now (T.content self.old) target «module»
-            → IsClosedTo (O.order order.now) (T.content self.new) target «module») }
-        ensures globs { OnOk result (KeepsGlobs «module» list.now (T.content self.old) (T.content self.new)) }
+        // What is done.
+        ensures updates { OnOk result
+            (Updates (O.order order.now) «module» list.now (T.content self.old) (T.content self.new)) }
+        ensures closes { OnOk result
+            (ClosesTo (O.order order.now) «module» list.now (T.content self.old) (T.content self.new)) }
+
+        // What stays.
+        ensures closed { OnOk result
+            (KeepsClosed (O.order order.now) (T.content self.old) (T.content self.new)) }
+        ensures coherent { OnOk result
+            (KeepsCoherent (O.order order.now) «module» list.now (T.content self.old)
+            (T.content self.new)) }
+        ensures globs { OnOk result
+            (KeepsGlobs «module» list.now (T.content self.old) (T.content self.new)) }
         ensures edges { OnOk result ((T.content self.new).edges ≡ (T.content self.old).edges) }
     {
         let changed = put_list(self.alloc, &mut self.table, order, module, list)?;
@@ -140,7 +135,8 @@ impl<T: BindingTable> Globs<T> {
         Ok(())
     }
 
-    /// Records an edge. One edge stands between two modules: the first glob's, with the greater visibility.
+    /// Records an edge. One edge stands between two modules: the first glob's, with the greater
+    /// visibility.
     pub fn add_edge<O: VisOrder<Vis = T::Vis>>(
         &mut self,
         order: &O,
@@ -149,21 +145,21 @@ impl<T: BindingTable> Globs<T> {
         vis: T::Vis,
         glob: GlobId,
     ) -> Result<(), AllocError>
-        ensures edge { OnOk result (
-            let c = T.content self.old in
-            T.content self.new ≡ with_edge c source (joined (O.order order.now) (edge_to (c.edges source) importer) (record { importer = importer; vis = vis; glob = glob }))) }
-        ensures closed { OnOk result ((left_out : ModuleId → Bool)
-            → (left_out importer ≡ false → IsClosedTo (O.order order.now) (T.content self.old) source importer)
-            → IsClosed (O.order order.now) left_out (T.content self.old)
-            → IsClosed (O.order order.now) left_out (T.content self.new)) }
-        ensures begins { OnOk result ((target_of : GlobId → Option ModuleId)
-            → ((target : ModuleId) → target_of glob ≡ Some target → source ≡ target)
-            → BeginsAt target_of (T.content self.old)
-            → BeginsAt target_of (T.content self.new)) }
-        ensures coherent { OnOk result ((left_out : ModuleId → Bool) (target_of : GlobId → Option ModuleId)
-            → IsCoherent (O.order order.now) left_out target_of (T.content self.old)
-            → IsCoherent (O.order order.now) left_out target_of (T.content self.new)) }
-        ensures led { OnOk result (AddsEdge source importer glob (T.content self.old) (T.content self.new)) }
+        // What is done.
+        ensures edge { OnOk result
+            (T.content self.new ≡ with_recorded (O.order order.now) (T.content self.old) source
+            (record { importer = importer; vis = vis; glob = glob })) }
+
+        // What stays.
+        ensures closed { OnOk result
+            (KeepsClosedWith (O.order order.now) source importer (T.content self.old)
+            (T.content self.new)) }
+        ensures begins { OnOk result
+            (KeepsBegins source glob (T.content self.old) (T.content self.new)) }
+        ensures coherent { OnOk result
+            (StaysCoherent (O.order order.now) (T.content self.old) (T.content self.new)) }
+        ensures led { OnOk result
+            (AddsEdge source importer glob (T.content self.old) (T.content self.new)) }
     {
         let there = edge_between(&self.table, source, importer);
         let edge = join(

@@ -1,5 +1,5 @@
 //! Where the file of a `mod foo;` lies.
-ghost use Rattle.std.specs.Prelude.{◌≡◌, ◌||◌, if◌then◌else◌, false, true, [], IfOk, map, option_map};
+ghost use Rattle.std.specs.Prelude.{◌≡◌, ◌||◌, IfOk, map};
 ghost use Rattle.def_parts.specs.Directories.{HasParent, pieces_of, is_mod_rs};
 
 mod dir_path;
@@ -31,7 +31,8 @@ pub trait SourceFiles {
 /// Where the files of a module's children lie. A contract sees its parts.
 #[derive(Debug, Drop)]
 pub struct ModDir {
-    /// Empty for `mod.rs` and `lib.rs`, `foo/` for `foo.rs`, `foo/bar/` for `mod bar { mod x; }` in `foo.rs`.
+    /// Empty for `mod.rs` and `lib.rs`, `foo/` for `foo.rs`, and `foo/bar/` for
+    /// `mod bar { mod x; }` in `foo.rs`.
     dir_path: DirPath,
     /// In `foo.rs` a `#[path]` is relative to where `foo.rs` lies, and not to `foo/`.
     root_non_dir_owner: bool,
@@ -43,13 +44,17 @@ impl Model for ModDir {
 
     ghost Value = { Directory };
 
-    ghost view = { λ d. record { pieces = d.dir_path; root_non_dir_owner = d.root_non_dir_owner; depth = d.depth } };
+    ghost view = { λ d. record {
+      pieces = d.dir_path;
+      root_non_dir_owner = d.root_non_dir_owner;
+      depth = d.depth;
+    } };
 
     ghost invariant = { λ d. HasParent d.dir_path d.root_non_dir_owner };
 }
 
 impl ModDir {
-    ghost use Rattle.def_parts.specs.Directories.{root_directory, child, below, descend, candidates, split_text, in_candidate, first_found, resolve_declaration, AnswersFile};
+    ghost use Rattle.def_parts.specs.Directories.{root_directory, child, below, descend, candidates, split_text, text_in, child_of_file, in_candidate, first_found, resolve_declaration, AnswersFile};
 
     /// The directory of a crate's root.
     pub fn root(alloc: Global) -> ModDir
@@ -62,7 +67,8 @@ impl ModDir {
         }
     }
 
-    /// The path of the directory. It is not empty where a `#[path]` is relative to the directory above.
+    /// The path of the directory. It is not empty where a `#[path]` is relative to the directory
+    /// above.
     pub fn dir_path(&self) -> &DirPath
         ensures path { result.now ≡ self.now.pieces }
         ensures parent { HasParent self.now.pieces self.now.root_non_dir_owner }
@@ -113,7 +119,7 @@ impl ModDir {
 
     /// The path of an inline module's directory.
     fn path_below(&self, name: &str, attr_path: Option<&str>) -> Result<DirPath, AllocError>
-        ensures { IfOk result (λ path. path ≡ below self.now name.now (option_map (λ text. text.now) attr_path.entry)) }
+        ensures { IfOk result (λ path. path ≡ below self.now name.now (text_in attr_path.entry)) }
     {
         let Some(attr) = attr_path else {
             return self.dir_path.join_name(name);
@@ -123,13 +129,14 @@ impl ModDir {
         Ok(dir)
     }
 
-    /// The directory of an inline module, by its name and the text of its `#[path]`; none where that is too deep.
+    /// The directory of an inline module, by its name and the text of its `#[path]`; none where
+    /// that is too deep.
     pub fn descend_into_definition(
         &self,
         name: &str,
         attr_path: Option<&str>,
     ) -> Result<Option<ModDir>, AllocError>
-        ensures { IfOk result (λ dir. dir ≡ descend self.now name.now (option_map (λ text. text.now) attr_path.entry)) }
+        ensures { IfOk result (λ dir. dir ≡ descend self.now name.now (text_in attr_path.entry)) }
     {
         let path = self.path_below(name, attr_path)?;
         Ok(self.child(path, false))
@@ -141,7 +148,8 @@ impl ModDir {
         name: &str,
         attr_path: Option<&str>,
     ) -> Result<ArrayVec<String, 2, Global>, AllocError>
-        ensures { IfOk result (λ files. map split_text files.items ≡ candidates self.now name.now (option_map (λ text. text.now) attr_path.entry)) }
+        ensures { IfOk result (λ files. map split_text files.items
+            ≡ candidates self.now name.now (text_in attr_path.entry)) }
     {
         let mut files = ArrayVec::new_in(self.dir_path.allocator());
         if let Some(attr) = attr_path {
@@ -160,7 +168,7 @@ impl ModDir {
         is_mod_rs: bool,
         has_attr: bool,
     ) -> Result<Option<ModDir>, AllocError>
-        ensures { IfOk result (λ dir. dir ≡ (if is_mod_rs || has_attr then child self.now [] false else child self.now (pieces_of name.now) true)) }
+        ensures { IfOk result (λ dir. dir ≡ child_of_file self.now name.now (is_mod_rs || has_attr)) }
     {
         let alloc = self.dir_path.allocator();
         if is_mod_rs || has_attr {
@@ -179,7 +187,8 @@ impl ModDir {
         name: &str,
         attr_path: Option<&str>,
     ) -> Result<Option<(FileId, bool, ModDir)>, AllocError>
-        ensures { IfOk result (λ found. found ≡ in_candidate (D.files db.now) anchor self.now name.now (option_map (λ text. text.now) attr_path.entry) (pieces_of candidate.now)) }
+        ensures { IfOk result (λ found. found ≡ in_candidate (D.files db.now) anchor
+            self.now name.now (text_in attr_path.entry) (pieces_of candidate.now)) }
     {
         let Some(file) = db.resolve_path(anchor, candidate) else {
             return Ok(None);
@@ -200,7 +209,8 @@ impl ModDir {
         name: &str,
         attr_path: Option<&str>,
     ) -> Result<Option<(FileId, bool, ModDir)>, AllocError>
-        ensures { IfOk result (λ found. found ≡ first_found (D.files db.now) anchor self.now name.now (option_map (λ text. text.now) attr_path.entry) (map split_text candidates.now)) }
+        ensures { IfOk result (λ found. found ≡ first_found (D.files db.now) anchor
+            self.now name.now (text_in attr_path.entry) (map split_text candidates.now)) }
     {
         'candidates: for candidate in candidates {
             let found = self.find_in(db, anchor, candidate.as_str(), name, attr_path)?;
@@ -211,8 +221,9 @@ impl ModDir {
         Ok(None)
     }
 
-    /// The file in which an outline module lies, whether that is a `mod.rs`, and the module's directory, by the
-    /// module's name and the text of its `#[path]`; or all files that were looked for.
+    /// The file in which an outline module lies, whether that is a `mod.rs`, and the module's
+    /// directory, by the module's name and the text of its `#[path]`; or all files that were looked
+    /// for.
     pub fn resolve_declaration<D: SourceFiles>(
         &self,
         db: &D,
@@ -220,7 +231,8 @@ impl ModDir {
         name: &str,
         attr_path: Option<&str>,
     ) -> Result<Result<(FileId, bool, ModDir), Vec<String>>, AllocError>
-        ensures { IfOk result (λ answer. AnswersFile answer (resolve_declaration (D.files db.now) file self.now name.now (option_map (λ text. text.now) attr_path.entry))) }
+        ensures { IfOk result (λ answer. AnswersFile answer
+            (resolve_declaration (D.files db.now) file self.now name.now (text_in attr_path.entry))) }
     {
         let candidates = self.candidate_files(name, attr_path)?;
         let anchor = db.original_file(file);

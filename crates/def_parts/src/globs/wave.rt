@@ -1,11 +1,8 @@
 //! Waves: what changed in a module travels along the edges of globs, to the end.
-ghost use Rattle.std.specs.Prelude.{◌≡◌, Bool, Option, IfOk, OnOk};
-ghost use Rattle.def_ids.specs.declared.ids.ModuleId.{ModuleId};
-ghost use Rattle.def_ids.specs.declared.ids.GlobId.{GlobId};
+ghost use Rattle.std.specs.Prelude.{◌≡◌, IfOk, OnOk};
 ghost use Rattle.def_bindings.specs.Puts.{puts};
-ghost use Rattle.def_bindings.specs.Closure.{IsClosed, IsCoherent};
-ghost use Rattle.def_parts.specs.Waves.{Copies, def_at, BeginsAt, LedOrHome};
-ghost use Rattle.def_parts.specs.Pending.{copied_all, reached, changed_by, AllAt, ClosedBut, CoherentBut};
+ghost use Rattle.def_parts.specs.Waves.{Copies, def_at};
+ghost use Rattle.def_parts.specs.Pending.{copied_all, reached, changed_by, ClosesPending, MendsPending};
 
 use def_bindings::{
     Binding, BindingTable, EdgeTo, Entry, Slot, VisOrder, copy_along, put_at, slot_of_entry,
@@ -71,7 +68,8 @@ fn copy_all<T: BindingTable, O: VisOrder<Vis = T::Vis>>(
     Ok(changed)
 }
 
-/// Copies changed slots along the edges of a module, and what changes there on from there, until nothing is left.
+/// Copies changed slots along the edges of a module, and what changes there on from there, until
+/// nothing is left.
 pub fn spread<T: BindingTable, O: VisOrder<Vis = T::Vis>>(
     alloc: Global,
     table: &mut T,
@@ -81,15 +79,12 @@ pub fn spread<T: BindingTable, O: VisOrder<Vis = T::Vis>>(
 ) -> Result<(), AllocError>
     ensures copies { OnOk result (let c = T.content table.old in
         Copies (O.order order.now) slots.items (def_at c «module») c (T.content table.new)) }
-    ensures closed { OnOk result ((left_out : ModuleId → Bool)
-        → ClosedBut (O.order order.now) left_out (AllAt «module» slots.items) (T.content table.old)
-        → IsClosed (O.order order.now) left_out (T.content table.new)) }
-    ensures coherent { OnOk result ((left_out : ModuleId → Bool) (target_of : GlobId → Option ModuleId)
-        → BeginsAt target_of (T.content table.old)
-        → LedOrHome left_out target_of «module» (T.content table.old)
-        → CoherentBut (O.order order.now) left_out target_of (AllAt «module» slots.items) (T.content table.old)
-        → IsCoherent (O.order order.now) left_out target_of (T.content table.new)
-        × LedOrHome left_out target_of «module» (T.content table.new)) }
+    ensures closed { OnOk result
+        (ClosesPending (O.order order.now) «module» slots.items (T.content table.old)
+        (T.content table.new)) }
+    ensures coherent { OnOk result
+        (MendsPending (O.order order.now) «module» slots.items (T.content table.old)
+        (T.content table.new)) }
 {
     let mut frames = Vec::new(alloc);
     frames.push(Frame {

@@ -64,7 +64,8 @@ impl DirPath {
 
     /// The path of a file in this directory.
     pub fn join_file(&self, name: &str, end: &str) -> Result<String, AllocError>
-        ensures { IfOk result (λ path. pieces_of (string_bytes path) ≡ self.now ++ pieces_of (name.now ++ end.now)) }
+        ensures { IfOk result (λ path. pieces_of (string_bytes path)
+            ≡ self.now ++ pieces_of (name.now ++ end.now)) }
     {
         let mut path = self.path.clone()?;
         path.push_str(name)?;
@@ -97,7 +98,8 @@ impl DirPath {
 
     /// The path of the directory above, if there is one.
     fn parent(&self) -> Option<&str>
-        ensures { MatchOption result (self.now ≡ []) (λ path. (dir_pieces path.now ≡ without_last self.now) × IsDirText path.now) }
+        ensures { MatchOption result (self.now ≡ [])
+            (λ path. (dir_pieces path.now ≡ without_last self.now) × IsDirText path.now) }
     {
         let inner = self.path.as_str().strip_suffix('/')?;
         match inner.rfind('/') {
@@ -122,7 +124,8 @@ impl DirPath {
     /// The text of an attribute, behind this directory's or the parent's.
     pub fn join_attr(&self, attr: &str, relative_to_parent: bool) -> Result<String, AllocError>
         requires { IsTrue relative_to_parent → self.now ≡ [] → ⊥ }
-        ensures { IfOk result (λ path. pieces_of (string_bytes path) ≡ base_of self.now relative_to_parent ++ pieces_of (clean attr.now)) }
+        ensures { IfOk result (λ path. pieces_of (string_bytes path)
+            ≡ base_of self.now relative_to_parent ++ pieces_of (clean attr.now)) }
     {
         let mut path = String::from_str(self.allocator(), self.base(relative_to_parent))?;
         push_slashed(&mut path, skip_dot(attr))?;
@@ -149,7 +152,8 @@ fn skip_dot(text: &str) -> &str
 
 /// Appends a text with `/` for each backslash.
 fn push_slashed(path: &mut String, text: &str) -> Result<(), AllocError>
-    ensures { OnOk result (string_bytes path.new ≡ string_bytes path.old ++ map as_slash text.now) }
+    ensures { OnOk result
+        (string_bytes path.new ≡ string_bytes path.old ++ map as_slash text.now) }
 {
     let mut left = text;
     'parts: while let Some((part, rest)) = left.split_once('\\') {

@@ -38,7 +38,7 @@ fn idents(alloc: Global, tree: &TopSubtree) -> Result<Vec<Name>, AllocError>
         .collect(alloc)
 }
 
-/// The name and the helper attributes in `#[proc_macro_derive(Trait, attributes(helper1, helper2))]`, which
+/// The name and the helper attributes in `#[proc_macro_derive(Trait, attributes(a, b))]`, which
 /// `#[rustc_builtin_macro(..)]` has too, by its token tree; none where that is of another shape.
 pub fn parse_macro_name_and_helper_attrs(
     alloc: Global,
@@ -80,13 +80,14 @@ pub fn parse_proc_macro_derive(
     }
 }
 
-/// The procedural macro that a function of this name declares by its attributes, if it declares one.
+/// The procedural macro that a function of this name declares by its attributes, if there is one.
 pub fn parse_proc_macro_decl(
     alloc: Global,
     attrs: &Attrs,
     func_name: Name,
 ) -> Result<Option<ProcMacroDef>, AllocError>
-    ensures { IfOk result (λ def. option_map decl_of def ≡ proc_macro_of attrs.now.list func_name) }
+    ensures { IfOk result
+        (λ def. option_map decl_of def ≡ proc_macro_of attrs.now.list func_name) }
 {
     if attrs.by_key(PROC_MACRO).exists() {
         return Ok(Some(ProcMacroDef {

@@ -3,7 +3,8 @@ use Rattle.std.proofs.lemmas.Option.{slice_get_within}
 use Rattle.std.specs.Prelude.{vec_len}
 use Rattle.std.proofs.lemmas.Bool.{eqb-true, eq-eqb, false≢true}
 use Rattle.def_bindings.specs.declared.bindings.EdgeTo.{EdgeTo}
-use Rattle.def_parts.proofs.WavingLemmas.{wave_start, wave_closed, wave_coherent, wave_without, iterate_on, iterate_reached, measure_on, measure_reached, some_slot}
+use Rattle.def_parts.proofs.WavingLemmas.{wave_start, wave_closed, wave_coherent, wave_without}
+use Rattle.def_parts.proofs.IterationLemmas.{iterate_on, iterate_reached, measure_on, measure_reached, some_slot}
 use Rattle.def_parts.proofs.MeasureLemmas.{measure_ends}
 use Rattle.def_parts.proofs.globs.wave.spread.Goals as goal
 
