@@ -116,9 +116,11 @@ impl<T: BindingTable> Globs<T> {
     ) -> Result<(), AllocError>
         // What is done.
         ensures updates { OnOk result
-            (Updates (O.order order.now) «module» list.now (T.content self.old) (T.content self.new)) }
+            (Updates (O.order order.now) «module» list.now (T.content self.old)
+            (T.content self.new)) }
         ensures closes { OnOk result
-            (ClosesTo (O.order order.now) «module» list.now (T.content self.old) (T.content self.new)) }
+            (ClosesTo (O.order order.now) «module» list.now (T.content self.old)
+            (T.content self.new)) }
 
         // What stays.
         ensures closed { OnOk result

@@ -168,7 +168,8 @@ impl ModDir {
         is_mod_rs: bool,
         has_attr: bool,
     ) -> Result<Option<ModDir>, AllocError>
-        ensures { IfOk result (λ dir. dir ≡ child_of_file self.now name.now (is_mod_rs || has_attr)) }
+        ensures { IfOk result
+            (λ dir. dir ≡ child_of_file self.now name.now (is_mod_rs || has_attr)) }
     {
         let alloc = self.dir_path.allocator();
         if is_mod_rs || has_attr {
@@ -232,7 +233,8 @@ impl ModDir {
         attr_path: Option<&str>,
     ) -> Result<Result<(FileId, bool, ModDir), Vec<String>>, AllocError>
         ensures { IfOk result (λ answer. AnswersFile answer
-            (resolve_declaration (D.files db.now) file self.now name.now (text_in attr_path.entry))) }
+            (resolve_declaration (D.files db.now) file self.now name.now
+            (text_in attr_path.entry))) }
     {
         let candidates = self.candidate_files(name, attr_path)?;
         let anchor = db.original_file(file);
