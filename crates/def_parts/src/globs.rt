@@ -1,5 +1,5 @@
 //! A table whose names travel along its glob edges.
-ghost use Rattle.std.specs.Prelude.{◌≡◌, OnOk};
+ghost use Rattle.std.specs.Prelude.{◌≡◌, OnOk, OnErr};
 ghost use Rattle.def_ids.specs.Ids.{is_same_module};
 ghost use Rattle.def_bindings.specs.Content.{without_binding};
 ghost use Rattle.def_bindings.specs.Puts.{edge_to, joined};
@@ -107,7 +107,8 @@ impl<T: BindingTable> Globs<T> {
         self.table.remove(module, name, ns);
     }
 
-    /// Puts a list in a module, and lets what changes travel along the edges to the end.
+    /// Puts a list in a module, and lets what changes travel along the edges to the end. On `Err`
+    /// only a beginning of that was done.
     pub fn update<O: VisOrder<Vis = T::Vis>>(
         &mut self,
         order: &O,
@@ -138,7 +139,7 @@ impl<T: BindingTable> Globs<T> {
     }
 
     /// Records an edge. One edge stands between two modules: the first glob's, with the greater
-    /// visibility.
+    /// visibility. On `Err` the table stays.
     pub fn add_edge<O: VisOrder<Vis = T::Vis>>(
         &mut self,
         order: &O,
@@ -162,6 +163,7 @@ impl<T: BindingTable> Globs<T> {
             (StaysCoherent (O.order order.now) (T.content self.old) (T.content self.new)) }
         ensures led { OnOk result
             (AddsEdge source importer glob (T.content self.old) (T.content self.new)) }
+        ensures refused { OnErr result (T.content self.new ≡ T.content self.old) }
     {
         let there = edge_between(&self.table, source, importer);
         let edge = join(
