@@ -1,0 +1,93 @@
+-- What an update keeps, by what its two parts ensure.
+use Rattle.std.proofs.Common.{◌≡◌, Bool, true, false, cond, Option, Some, None, List, [], ◌∷◌, refl, sym, ap, ◌∙◌, subst, inl, inr}
+use Rattle.std.specs.Prelude.{slice_get, Contains, option_to_list}
+use Rattle.std.proofs.lemmas.List.Elements.{Contains-append_left, Contains-append_right, Contains-append_cases}
+use Rattle.def_ids.specs.declared.ids.ModuleId.{ModuleId}
+use Rattle.def_ids.specs.declared.ids.GlobId.{GlobId}
+use Rattle.def_ids.specs.declared.ids.Def.{Def}
+use Rattle.def_bindings.specs.declared.bindings.Binding.{Binding}
+use Rattle.def_bindings.specs.declared.bindings.EdgeTo.{EdgeTo}
+use Rattle.def_bindings.specs.declared.bindings.Entry.{Entry}
+use Rattle.def_bindings.specs.declared.bindings.Slot.{Slot}
+use Rattle.def_bindings.specs.Order.{Order}
+use Rattle.def_bindings.specs.Content.{Content}
+use Rattle.def_bindings.specs.Puts.{put_entry, puts, slot_of, offered}
+use Rattle.def_bindings.specs.Closure.{IsClosed, IsCoherent}
+use Rattle.def_parts.specs.Waves.{Copies, none, more, def_at, slots_of, BeginsAt, LedOrHome, EntriesFollow, ListsAll, IsClosedTo, KeepsGlobs}
+use Rattle.def_parts.specs.RecordingLaws.{edges_updated, recorded_closed, globs_updated}
+use Rattle.def_parts.specs.Pending.{changed_at, changed_by, AllAt, ClosedBut, CoherentBut}
+use Rattle.def_parts.specs.ListLaws.{none_in}
+use Rattle.def_parts.specs.PuttingLaws.{edges_puts}
+use Rattle.def_parts.proofs.PlacedLemmas.{closed_puts, coherent_puts}
+
+changed_in : (changed : Bool) (x y : Slot) → Contains (cond changed (x ∷ []) []) y → Contains (x ∷ []) y
+changed_in true x y h = h
+changed_in false x y h = absurd (none_in y h)
+
+changed_within : {V : Type 0} (o : Order V) (m : ModuleId) (x : Option Slot) (offer : Binding V) (c : Content V) (y : Slot) → Contains (changed_at o m x offer c) y → Contains (option_to_list x) y
+changed_within o m None offer c y h = h
+changed_within o m (Some x) offer c y h = changed_in _ x y h
+
+pub within_list : {V : Type 0} (o : Order V) (m : ModuleId) (list : List (Entry V)) (c : Content V) (y : Slot) → Contains (changed_by o m list c) y → Contains (slots_of list) y
+within_list o m [] c y h = h
+within_list o m (e ∷ es) c y h =
+    elim (Contains-append_cases (changed_at o m (slot_of e) (offered e) c) (changed_by o m es (put_entry o m e c)) y h) [
+      | inl now ↦ Contains-append_left (option_to_list (slot_of e)) (slots_of es) y (changed_within o m (slot_of e) (offered e) c y now)
+      | inr later ↦ Contains-append_right (option_to_list (slot_of e)) (slots_of es) y (within_list o m es (put_entry o m e c) y later)
+    ]
+
+pub copies_mono : {V : Type 0} (o : Order V) (xs ys : List Slot) (def_of : Slot → Def) {c d : Content V} → ((y : Slot) → Contains xs y → Contains ys y) → Copies o xs def_of c d → Copies o ys def_of c d
+copies_mono o xs ys def_of f none = none
+copies_mono o xs ys def_of f (more s e x k before at within def) = more s e x k (copies_mono o xs ys def_of f before) at (f x within) def
+
+-- what a list in a closed module leaves closed
+pub closed_after : {V : Type 0} (o : Order V) (left_out : ModuleId → Bool) (m : ModuleId) (list : List (Entry V)) (c : Content V)
+    → IsClosed o left_out c → ClosedBut o left_out (AllAt m (changed_by o m list c)) (puts o m list c)
+closed_after o left_out m list c closed =
+    closed_puts o left_out (AllAt m (changed_by o m list c)) m list c (λ y h j. (refl, h)) (λ s k e x b at left h seen. inl (closed s k e x b at left h seen))
+
+pub coherent_after : {V : Type 0} (o : Order V) (left_out : ModuleId → Bool) (target_of : GlobId → Option ModuleId) (m : ModuleId) (list : List (Entry V)) (c : Content V)
+    → EntriesFollow left_out target_of m list c → LedOrHome left_out target_of m c → IsCoherent o left_out target_of c
+    → CoherentBut o left_out target_of (AllAt m (changed_by o m list c)) (puts o m list c) × LedOrHome left_out target_of m (puts o m list c)
+coherent_after o left_out target_of m list c follow led coherent =
+    coherent_puts o left_out (AllAt m (changed_by o m list c)) m target_of list c (λ y h j. (refl, h))
+    (λ e name g t q n by known lm lt. inr (follow e name g t q n by known lm lt)) led
+    (λ i name ns b g t here by known li lt. inl (coherent i name ns b g t here by known li lt))
+
+pub begins_after_puts : {V : Type 0} (o : Order V) (target_of : GlobId → Option ModuleId) (m : ModuleId) (list : List (Entry V)) (c : Content V) → BeginsAt target_of c → BeginsAt target_of (puts o m list c)
+begins_after_puts o target_of m list c begins s k e t at known =
+    begins s k e t (ap (λ (f : ModuleId → List (EdgeTo _)). slice_get (f s) k) (sym (edges_puts o m list c)) ∙ at) known
+
+-- the contract of an update, by what its two parts ensure
+module _ {V : Type 0} (o : Order V) (m : ModuleId) (list : List (Entry V)) (c c1 c2 : Content V) (xs : List Slot)
+    (parts : (xs ≡ changed_by o m list c) × (c1 ≡ puts o m list c)) where
+  pub update_copies : Copies o xs (def_at c1 m) c1 c2 → Copies o (slots_of list) (def_at (puts o m list c) m) (puts o m list c) c2
+  update_copies copies =
+      let now = subst (λ d. Copies o xs (def_at d m) d c2) parts.1 copies in
+      copies_mono o xs (slots_of list) (def_at (puts o m list c) m) (λ y h. within_list o m list c y (subst (λ ys. Contains ys y) parts.0 h)) now
+
+  pub update_closed : ((left_out : ModuleId → Bool) → ClosedBut o left_out (AllAt m xs) c1 → IsClosed o left_out c2)
+      → (left_out : ModuleId → Bool) → IsClosed o left_out c → IsClosed o left_out c2
+  update_closed spread left_out closed =
+      spread left_out (subst (λ ys. ClosedBut o left_out (AllAt m ys) c1) (sym parts.0) (subst (λ d. ClosedBut o left_out (AllAt m (changed_by o m list c)) d) (sym parts.1)
+      (closed_after o left_out m list c closed)))
+
+  pub update_coherent : ((left_out : ModuleId → Bool) (target_of : GlobId → Option ModuleId) → BeginsAt target_of c1 → LedOrHome left_out target_of m c1
+      → CoherentBut o left_out target_of (AllAt m xs) c1 → IsCoherent o left_out target_of c2 × LedOrHome left_out target_of m c2)
+      → (left_out : ModuleId → Bool) (target_of : GlobId → Option ModuleId) → BeginsAt target_of c → LedOrHome left_out target_of m c
+      → EntriesFollow left_out target_of m list c → IsCoherent o left_out target_of c → IsCoherent o left_out target_of c2 × LedOrHome left_out target_of m c2
+  update_coherent spread left_out target_of begins led follow coherent =
+      let after = coherent_after o left_out target_of m list c follow led coherent in
+      spread left_out target_of
+      (subst (λ d. BeginsAt target_of d) (sym parts.1) (begins_after_puts o target_of m list c begins))
+      (subst (λ d. LedOrHome left_out target_of m d) (sym parts.1) after.1)
+      (subst (λ ys. CoherentBut o left_out target_of (AllAt m ys) c1) (sym parts.0) (subst (λ d. CoherentBut o left_out target_of (AllAt m (changed_by o m list c)) d) (sym parts.1) after.0))
+
+  pub update_edges : Copies o xs (def_at c1 m) c1 c2 → c2.edges ≡ c.edges
+  update_edges copies = edges_updated o m list (slots_of list) (def_at (puts o m list c) m) c c2 (update_copies copies)
+
+  pub update_recorded : Copies o xs (def_at c1 m) c1 c2 → (target : ModuleId) → ListsAll o list c target m → IsClosedTo o c2 target m
+  update_recorded copies target all = recorded_closed o target m list (def_at (puts o m list c) m) c c2 all (update_copies copies)
+
+  pub update_globs : Copies o xs (def_at c1 m) c1 c2 → KeepsGlobs m list c c2
+  update_globs copies = globs_updated o m list (slots_of list) (def_at (puts o m list c) m) c c2 (update_copies copies)

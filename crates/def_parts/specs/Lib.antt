@@ -1,0 +1,13 @@
+pub mod Waves
+pub mod Globs
+pub mod Pending
+pub mod ListLaws
+pub mod SettlingLaws
+pub mod CopyingLaws
+pub mod PuttingLaws
+pub mod BringingLaws
+pub mod RecordingLaws
+pub mod LedLaws
+pub mod Directories
+pub mod DirectoriesLaws
+pub mod ProcMacros

@@ -1,0 +1,181 @@
+//! A table whose names travel along its glob edges.
+ghost use Rattle.std.specs.Prelude.{◌≡◌, OnOk, OnErr};
+ghost use Rattle.def_ids.specs.Ids.{is_same_module};
+ghost use Rattle.def_bindings.specs.Content.{without_binding};
+ghost use Rattle.def_bindings.specs.Puts.{edge_to, joined};
+ghost use Rattle.def_parts.specs.Waves.{KeepsGlobs, AddsEdge};
+ghost use Rattle.def_parts.specs.Globs.{Updates, ClosesTo, KeepsClosed, KeepsCoherent, with_recorded, KeepsClosedWith, KeepsBegins, StaysCoherent};
+
+mod wave;
+
+use def_bindings::{BindingTable, EdgeTo, Entry, Namespace, VisOrder, is_raised};
+use def_ids::{GlobId, ModuleId};
+use item_tree::Name;
+use std::alloc::{AllocError, Global};
+use std::marker::Model;
+use wave::{put_list, spread};
+
+/// Whether two modules are one.
+fn are_same(a: ModuleId, b: ModuleId) -> bool
+    ensures { result ≡ is_same_module a b }
+{
+    a == b
+}
+
+/// The edge between two modules, if there is one.
+fn edge_between<T: BindingTable>(
+    table: &T,
+    source: ModuleId,
+    importer: ModuleId,
+) -> Option<EdgeTo<T::Vis>>
+    ensures { result ≡ edge_to ((T.content table.now).edges source) importer }
+{
+    let mut index = 0;
+    'edges: while let Some(edge) = table.edge_at(source, index) {
+        if are_same(edge.importer, importer) {
+            return Some(edge);
+        }
+        index += 1;
+    }
+    None
+}
+
+/// An edge beside the one that is there.
+fn join<O: VisOrder>(
+    order: &O,
+    there: Option<EdgeTo<O::Vis>>,
+    edge: EdgeTo<O::Vis>,
+) -> EdgeTo<O::Vis>
+    ensures { result ≡ joined (O.order order.now) there edge }
+{
+    match there {
+        Some(there) => EdgeTo {
+            importer: there.importer,
+            vis: if is_raised(order, there.vis, edge.vis) {
+                edge.vis
+            } else {
+                there.vis
+            },
+            glob: there.glob,
+        },
+        None => edge,
+    }
+}
+
+/// A table whose names travel along its glob edges. A contract sees the table alone.
+#[derive(Drop)]
+pub struct Globs<T> {
+    alloc: Global,
+    table: T,
+}
+
+impl<T> Model for Globs<T> {
+    ghost Value = { T };
+
+    ghost coded = { T.code };
+
+    ghost view = { λ g. g.table };
+}
+
+impl<T: BindingTable> Globs<T> {
+    /// This table, with the edges that it has.
+    pub fn new(alloc: Global, table: T) -> Globs<T>
+        ensures { result ≡ table }
+    {
+        Globs { alloc, table }
+    }
+
+    /// The table.
+    pub fn table(&self) -> &T
+        ensures { result.now ≡ self.now }
+    {
+        &self.table
+    }
+
+    /// The table alone.
+    pub fn into_table(self) -> T
+        ensures { result ≡ self }
+    {
+        let Globs { alloc: _, table } = self;
+        table
+    }
+
+    /// Takes a binding out.
+    pub fn remove(&mut self, module: ModuleId, name: Name, ns: Namespace)
+        ensures { T.content self.new ≡ without_binding (T.content self.old) «module» name ns }
+    {
+        self.table.remove(module, name, ns);
+    }
+
+    /// Puts a list in a module, and lets what changes travel along the edges to the end. On `Err`
+    /// only a beginning of that was done.
+    pub fn update<O: VisOrder<Vis = T::Vis>>(
+        &mut self,
+        order: &O,
+        module: ModuleId,
+        list: &[Entry<T::Vis>],
+    ) -> Result<(), AllocError>
+        // What is done.
+        ensures updates { OnOk result
+            (Updates (O.order order.now) «module» list.now (T.content self.old)
+            (T.content self.new)) }
+        ensures closes { OnOk result
+            (ClosesTo (O.order order.now) «module» list.now (T.content self.old)
+            (T.content self.new)) }
+
+        // What stays.
+        ensures closed { OnOk result
+            (KeepsClosed (O.order order.now) (T.content self.old) (T.content self.new)) }
+        ensures coherent { OnOk result
+            (KeepsCoherent (O.order order.now) «module» list.now (T.content self.old)
+            (T.content self.new)) }
+        ensures globs { OnOk result
+            (KeepsGlobs «module» list.now (T.content self.old) (T.content self.new)) }
+        ensures edges { OnOk result ((T.content self.new).edges ≡ (T.content self.old).edges) }
+    {
+        let changed = put_list(self.alloc, &mut self.table, order, module, list)?;
+        spread(self.alloc, &mut self.table, order, module, changed)?;
+        Ok(())
+    }
+
+    /// Records an edge. One edge stands between two modules: the first glob's, with the greater
+    /// visibility. On `Err` the table stays.
+    pub fn add_edge<O: VisOrder<Vis = T::Vis>>(
+        &mut self,
+        order: &O,
+        source: ModuleId,
+        importer: ModuleId,
+        vis: T::Vis,
+        glob: GlobId,
+    ) -> Result<(), AllocError>
+        // What is done.
+        ensures edge { OnOk result
+            (T.content self.new ≡ with_recorded (O.order order.now) (T.content self.old) source
+            (record { importer = importer; vis = vis; glob = glob })) }
+
+        // What stays.
+        ensures closed { OnOk result
+            (KeepsClosedWith (O.order order.now) source importer (T.content self.old)
+            (T.content self.new)) }
+        ensures begins { OnOk result
+            (KeepsBegins source glob (T.content self.old) (T.content self.new)) }
+        ensures coherent { OnOk result
+            (StaysCoherent (O.order order.now) (T.content self.old) (T.content self.new)) }
+        ensures led { OnOk result
+            (AddsEdge source importer glob (T.content self.old) (T.content self.new)) }
+        ensures refused { OnErr result (T.content self.new ≡ T.content self.old) }
+    {
+        let there = edge_between(&self.table, source, importer);
+        let edge = join(
+            order,
+            there,
+            EdgeTo {
+                importer,
+                vis,
+                glob,
+            },
+        );
+        self.table.set_edge(source, edge)?;
+        Ok(())
+    }
+}

@@ -1,0 +1,118 @@
+//! Waves: what changed in a module travels along the edges of globs, to the end.
+ghost use Rattle.std.specs.Prelude.{◌≡◌, IfOk, OnOk};
+ghost use Rattle.def_bindings.specs.Puts.{puts};
+ghost use Rattle.def_parts.specs.Waves.{Copies, def_at};
+ghost use Rattle.def_parts.specs.Pending.{copied_all, reached, changed_by, ClosesPending, MendsPending};
+
+use def_bindings::{
+    Binding, BindingTable, EdgeTo, Entry, Slot, VisOrder, copy_along, put_at, slot_of_entry,
+};
+use def_ids::ModuleId;
+use std::alloc::{AllocError, Global};
+
+/// A module whose changed slots are still to be copied along its edges from the next one on.
+#[derive(Drop)]
+struct Frame {
+    source: ModuleId,
+    next: usize,
+    slots: Vec<Slot>,
+}
+
+/// Puts a list in a module, and answers the slots that changed.
+pub fn put_list<T: BindingTable, O: VisOrder<Vis = T::Vis>>(
+    alloc: Global,
+    table: &mut T,
+    order: &O,
+    module: ModuleId,
+    list: &[Entry<T::Vis>],
+) -> Result<Vec<Slot>, AllocError>
+    ensures { IfOk result (λ changed. let c = T.content table.old in let o = O.order order.now in
+        (changed.items ≡ changed_by o «module» list.now c)
+        × (T.content table.new ≡ puts o «module» list.now c)) }
+{
+    let mut changed = Vec::new(alloc);
+    for entry in list {
+        if let Some(slot) = slot_of_entry(entry) {
+            let offer = Binding {
+                def: entry.def,
+                vis: entry.vis,
+                import: entry.origin,
+            };
+            if put_at(table, order, module, slot, offer)? {
+                changed.push(slot)?;
+            }
+        }
+    }
+    Ok(changed)
+}
+
+/// Copies slots along an edge, and answers those that changed the importer.
+fn copy_all<T: BindingTable, O: VisOrder<Vis = T::Vis>>(
+    alloc: Global,
+    table: &mut T,
+    order: &O,
+    source: ModuleId,
+    edge: EdgeTo<T::Vis>,
+    slots: &[Slot],
+) -> Result<Vec<Slot>, AllocError>
+    ensures { IfOk result (λ changed. let c = T.content table.old in let o = O.order order.now in
+        (changed.items ≡ reached o source edge slots.now c)
+        × (T.content table.new ≡ copied_all o source edge slots.now c)) }
+{
+    let mut changed = Vec::new(alloc);
+    for slot in slots {
+        if copy_along(table, order, source, edge, *slot)? {
+            changed.push(*slot)?;
+        }
+    }
+    Ok(changed)
+}
+
+/// Copies changed slots along the edges of a module, and what changes there on from there, until
+/// nothing is left.
+pub fn spread<T: BindingTable, O: VisOrder<Vis = T::Vis>>(
+    alloc: Global,
+    table: &mut T,
+    order: &O,
+    module: ModuleId,
+    slots: Vec<Slot>,
+) -> Result<(), AllocError>
+    ensures copies { OnOk result (let c = T.content table.old in
+        Copies (O.order order.now) slots.items (def_at c «module») c (T.content table.new)) }
+    ensures closed { OnOk result
+        (ClosesPending (O.order order.now) «module» slots.items (T.content table.old)
+        (T.content table.new)) }
+    ensures coherent { OnOk result
+        (MendsPending (O.order order.now) «module» slots.items (T.content table.old)
+        (T.content table.new)) }
+{
+    let mut frames = Vec::new(alloc);
+    frames.push(Frame {
+        source: module,
+        next: 0,
+        slots,
+    })?;
+    'frames: while let Some(frame) = frames.pop() {
+        let Frame {
+            source,
+            next,
+            slots,
+        } = frame;
+        if let Some(edge) = table.edge_at(source, next) {
+            let changed = copy_all(alloc, table, order, source, edge, slots.as_slice())?;
+            frames.push(Frame {
+                source,
+                next: next + 1,
+                slots,
+            })?;
+            if !changed.is_empty() {
+                frames.push(Frame {
+                    source: edge.importer,
+                    next: 0,
+                    slots: changed,
+                })?;
+            }
+        }
+    }
+    Ok(())
+}
