@@ -51,6 +51,13 @@ pub enum CtorVisibility {
     ValueNsCtorWithVis(RawVisibility),
 }
 
+/// What the expansion of a macro call is read as.
+#[derive(Clone, Copy, PartialEq, Eq, Debug)]
+pub enum ExpandTo {
+    Items,
+    Statements,
+}
+
 /// What an item is.
 #[derive(Debug, Drop)]
 pub enum ModItemKind {

@@ -20,8 +20,8 @@ pub use ids::{
     SyntaxContext, TreeId,
 };
 pub use items::{
-    CtorVisibility, ImportAlias, ImportKind, ItemNode, ModContents, ModItemKind, RawVisibility,
-    UseImport,
+    CtorVisibility, ExpandTo, ImportAlias, ImportKind, ItemNode, ModContents, ModItemKind,
+    RawVisibility, UseImport,
 };
 pub use list::Seq;
 pub use macro_flags::{MacroCallStyles, MacroRulesLocFlags};
