@@ -28,6 +28,7 @@ take_one_more xs i x at = ap (λ k. take k xs) (next_is i) ∙ by xs i at
   where
     next_is : (i : ℕ) → i + 1 ≡ suc i
     next_is i = omega arith
+
     by : (xs : List _) (i : ℕ) → slice_get xs i ≡ Some x → take (suc i) xs ≡ take i xs ++ x ∷ []
     by [] i h = cc
     by (y ∷ ys) zero h = let same : y ≡ x = cc in ap (λ z. z ∷ []) same

@@ -13,7 +13,7 @@ returns-in-Some c =
     let m = module_state c.in-Some.target.now in
     let pairs = ap (defined_all m.textual) c.as_slice.ensures.value ∙ c.in_ok-last.ensures m.textual in
     let done : OnOk c.define_legacy_macros.result (module_state c.define_legacy_macros.new.self ≡ brought from m) =
-      on_ok_weaker c.define_legacy_macros.result (λ h. h ∙ ap (λ t. with_textual_of t m) pairs) c.define_legacy_macros.ensures in
+    on_ok_weaker c.define_legacy_macros.result (λ h. h ∙ ap (λ t. with_textual_of t m) pairs) c.define_legacy_macros.ensures in
     module_changed c.define_legacy_macros.result c.args.self.now c.args.into c.in-Some.target.now c.define_legacy_macros.new.self (brought from) (search rules) c.in-Some.ensures.value done
 
 pub returns : goal.returns

@@ -15,7 +15,7 @@ loop-i-preserved c =
           ∙ ap (λ ps. ps ++ named_first w.in-Some.name.now (reverse w.in-Some.of_name.now)) c.loop-i.invariant
           ∙ last_more es c.loop-i.i (w.in-Some.name.now, w.in-Some.of_name.now) (sym w.in-Some.ensures.entry)
       | in_default w ↦ let wrong = w.in_default.ensures.found.1 (omega (arith, c.len-i-end.ensures.len)) in cc
-      ]
+    ]
 
 pub returns : goal.returns
 returns c =
