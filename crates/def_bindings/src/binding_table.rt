@@ -44,7 +44,8 @@ pub trait BindingTable {
         ns: Namespace,
         binding: Binding<Self::Vis>,
     ) -> Result<(), AllocError>
-        ensures done { OnOk result (content self.new ≡ with_binding (content self.old) «module» name ns binding) }
+        ensures done { OnOk result (content self.new
+            ≡ with_binding (content self.old) «module» name ns binding) }
         ensures refused { OnErr result (content self.new ≡ content self.old) };
 
     fn remove(&mut self, module: ModuleId, name: Name, ns: Namespace)
@@ -56,7 +57,8 @@ pub trait BindingTable {
         item: TraitId,
         vis: Self::Vis,
     ) -> Result<(), AllocError>
-        ensures done { OnOk result (content self.new ≡ with_unnamed (content self.old) «module» item vis) }
+        ensures done { OnOk result (content self.new
+            ≡ with_unnamed (content self.old) «module» item vis) }
         ensures refused { OnErr result (content self.new ≡ content self.old) };
 
     /// Adds an edge, or replaces the one with its importer.

@@ -14,8 +14,8 @@ use indexmap::IndexMap;
 use std::alloc::{AllocError, Global};
 use std::hash::Hash;
 
-/// Values in one numbered list, each under a module and a key. For each module there are the numbers
-/// of its values, in order.
+/// Values in one numbered list, each under a module and a key. For each module there are the
+/// numbers of its values, in order.
 #[derive(Drop)]
 pub struct Keyed<K: Eq + Hash, W> {
     entries: IndexMap<Placed<K>, W>,
@@ -26,7 +26,8 @@ pub struct Keyed<K: Eq + Hash, W> {
 /// Replaces the value of a key that is there, and answers whether it is.
 pub fn replace<K: Copy + Eq + Hash, W: Copy>(entries: &mut IndexMap<K, W>, key: K, value: W) -> bool
     ensures found { result ≡ is_some (get K.eq entries.old key) }
-    ensures entries { IsTrue result → entries.new.entries ≡ insert_entry K.eq entries.old.entries key value }
+    ensures entries { IsTrue result → entries.new.entries
+        ≡ insert_entry K.eq entries.old.entries key value }
     ensures updates { IsTrue result → Updates K.eq entries.old entries.new key (Some value) }
     ensures same { IsFalse result → entries.new.entries ≡ entries.old.entries }
 {
@@ -82,8 +83,10 @@ impl<K: Copy + Eq + Hash, W: Copy> Keyed<K, W> {
     /// Sets a value, in the place of the one with its key or last.
     pub fn set(&mut self, module: ModuleId, key: K, value: W) -> Result<(), AllocError>
         ensures done { OnOk result (own_entries self.new.entries.entries
-            ≡ listed_as (own_entries self.old.entries.entries) «module» (insert_entry K.eq (own_entries self.old.entries.entries «module») key value)) }
-        ensures refused { OnErr result (own_entries self.new.entries.entries ≡ own_entries self.old.entries.entries) }
+            ≡ listed_as (own_entries self.old.entries.entries) «module»
+            (insert_entry K.eq (own_entries self.old.entries.entries «module») key value)) }
+        ensures refused { OnErr result (own_entries self.new.entries.entries
+            ≡ own_entries self.old.entries.entries) }
         ensures distinct { IsDistinct K.eq (keys_of (own_entries self.old.entries.entries «module»)) }
     {
         let number = self.entries.len();

@@ -52,7 +52,8 @@ impl<K: Copy> Lists<K> {
 
     /// Adds an element at the end of a module's list.
     pub fn push(&mut self, module: ModuleId, item: K) -> Result<(), AllocError>
-        ensures done { OnOk result (lists_of self.new ≡ listed_as (lists_of self.old) «module» (lists_of self.old «module» ++ item ∷ [])) }
+        ensures done { OnOk result (lists_of self.new
+            ≡ listed_as (lists_of self.old) «module» (lists_of self.old «module» ++ item ∷ [])) }
         ensures refused { OnErr result (lists_of self.new ≡ lists_of self.old) }
     {
         self.reserve(module)?;
@@ -67,7 +68,9 @@ impl<K: Copy> Lists<K> {
 
     /// Adds an element, if it is new.
     pub fn push_if(&mut self, new: bool, module: ModuleId, item: K) -> Result<(), AllocError>
-        ensures done { OnOk result (lists_of self.new ≡ listed_as (lists_of self.old) «module» (if_listed new (lists_of self.old «module») item)) }
+        ensures done { OnOk result (lists_of self.new
+            ≡ listed_as (lists_of self.old) «module»
+            (if_listed new (lists_of self.old «module») item)) }
         ensures refused { OnErr result (lists_of self.new ≡ lists_of self.old) }
     {
         if new { self.push(module, item) } else { Ok(()) }
@@ -83,7 +86,8 @@ fn take_out(names: &mut Vec<Name>, name: Name)
 impl Lists<Name> {
     /// Takes a name out of a module's list.
     pub fn remove(&mut self, module: ModuleId, name: Name)
-        ensures { lists_of self.new ≡ listed_as (lists_of self.old) «module» (without_name (lists_of self.old «module») name) }
+        ensures { lists_of self.new
+            ≡ listed_as (lists_of self.old) «module» (without_name (lists_of self.old «module») name) }
     {
         match self.lists.get_mut(&module) {
             Some(list) => take_out(list, name),

@@ -57,8 +57,8 @@ impl ModuleTree {
     ghost use Rattle.def_ids.specs.Ids.{is_same_module, is_block_root};
     ghost use Rattle.def_bindings.specs.Visibility.{home_of, is_at_most};
 
-    /// The tree of one root, that of a block within these modules; none where two of them are equal or one is of
-    /// this map.
+    /// The tree of one root, that of a block within these modules; none where two of them are equal
+    /// or one is of this map.
     pub fn new(
         alloc: Global,
         map: MapId,
@@ -154,7 +154,8 @@ impl ModuleTree {
     /// What follows in a chain, without a search.
     fn step(&self, here: Position) -> Option<Position>
         requires { here.next ≡ next_in self.now here.at }
-        ensures chain { chain_in self.now here.at ≡ here.at ∷ option_map_or (λ p. chain_in self.now p.at) result [] }
+        ensures chain { chain_in self.now here.at
+            ≡ here.at ∷ option_map_or (λ p. chain_in self.now p.at) result [] }
         ensures next { IfSome result (λ p. p.next ≡ next_in self.now p.at) }
     {
         self.follow(here)
@@ -163,7 +164,8 @@ impl ModuleTree {
     /// What follows in a chain: the parent, or the next of the modules that contain the block.
     fn follow(&self, here: Position) -> Option<Position>
         requires { here.next ≡ next_in self.now here.at }
-        ensures at { option_map (λ p. p.at) result ≡ above_of self.now.map self.now.parents self.now.containing here.at }
+        ensures at { option_map (λ p. p.at) result
+            ≡ above_of self.now.map self.now.parents self.now.containing here.at }
         ensures next { IfSome result (λ p. p.next ≡ next_in self.now p.at) }
     {
         if self.is_own(here.at) {
@@ -233,7 +235,8 @@ impl ModuleTree {
 
     /// Entry `n`, from 0, of the chain without roots of blocks.
     pub fn ancestor(&self, start: ModuleId, n: usize) -> Option<ModuleId>
-        ensures { result ≡ slice_get (filter (λ m. not (is_block_root m)) (chain_in self.now start)) n }
+        ensures { result
+            ≡ slice_get (filter (λ m. not (is_block_root m)) (chain_in self.now start)) n }
     {
         let mut left = n;
         let mut here = Some(self.position(start));

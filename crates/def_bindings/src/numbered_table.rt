@@ -88,7 +88,8 @@ impl<V: Copy> NumberedTable<V> {
         ns: Namespace,
         binding: Binding<V>,
     ) -> Result<(), AllocError>
-        ensures done { OnOk result (content_of self.new ≡ with_binding (content_of self.old) «module» name ns binding) }
+        ensures done { OnOk result (content_of self.new
+            ≡ with_binding (content_of self.old) «module» name ns binding) }
         ensures refused { OnErr result (content_of self.new ≡ content_of self.old) }
     {
         let new = !is_bound(&self.places, module, name);
@@ -154,7 +155,8 @@ impl<V: Copy> BindingTable for NumberedTable<V> {
         ns: Namespace,
         binding: Binding<V>,
     ) -> Result<(), AllocError>
-        ensures done { OnOk result (content_of self.new ≡ with_binding (content_of self.old) «module» name ns binding) }
+        ensures done { OnOk result (content_of self.new
+            ≡ with_binding (content_of self.old) «module» name ns binding) }
         ensures refused { OnErr result (content_of self.new ≡ content_of self.old) }
     {
         let place = Place {
@@ -181,14 +183,16 @@ impl<V: Copy> BindingTable for NumberedTable<V> {
     }
 
     fn set_unnamed(&mut self, module: ModuleId, item: TraitId, vis: V) -> Result<(), AllocError>
-        ensures done { OnOk result (content_of self.new ≡ with_unnamed (content_of self.old) «module» item vis) }
+        ensures done { OnOk result (content_of self.new
+            ≡ with_unnamed (content_of self.old) «module» item vis) }
         ensures refused { OnErr result (content_of self.new ≡ content_of self.old) }
     {
         self.unnamed.set(module, item, vis)
     }
 
     fn set_edge(&mut self, module: ModuleId, edge: EdgeTo<V>) -> Result<(), AllocError>
-        ensures done { OnOk result (content_of self.new ≡ with_edge (content_of self.old) «module» edge) }
+        ensures done { OnOk result (content_of self.new
+            ≡ with_edge (content_of self.old) «module» edge) }
         ensures refused { OnErr result (content_of self.new ≡ content_of self.old) }
     {
         let link = Link {

@@ -41,7 +41,8 @@ fn settle_over<O: VisOrder>(
     there: Binding<O::Vis>,
     offer: Binding<O::Vis>,
 ) -> Option<Binding<O::Vis>>
-    ensures { result ≡ settled_over (O.order order.now) there offer (glob_of there.import) (glob_of offer.import) }
+    ensures { result
+        ≡ settled_over (O.order order.now) there offer (glob_of there.import) (glob_of offer.import) }
 {
     match (glob(there.import), glob(offer.import)) {
         (Some(first), Some(later)) => settle_by_glob(order, there, offer, first, later),
@@ -142,7 +143,8 @@ pub fn put_at<T: BindingTable, O: VisOrder<Vis = T::Vis>>(
     slot: Slot,
     offer: Binding<T::Vis>,
 ) -> Result<bool, AllocError>
-    ensures done { IfOk result (λ changed. let c = T.content table.old in let o = O.order order.now in
+    ensures done { IfOk result (λ changed. let c = T.content table.old in
+        let o = O.order order.now in
         (changed ≡ is_some (settled o (held c «module» slot) (fitted slot offer)))
         × (T.content table.new ≡ put o c «module» slot offer)) }
     ensures refused { OnErr result (T.content table.new ≡ T.content table.old) }
@@ -170,7 +172,8 @@ pub fn put_entry<T: BindingTable, O: VisOrder<Vis = T::Vis>>(
     module: ModuleId,
     entry: &Entry<T::Vis>,
 ) -> Result<bool, AllocError>
-    ensures done { IfOk result (λ changed. let c = T.content table.old in let o = O.order order.now in
+    ensures done { IfOk result (λ changed. let c = T.content table.old in
+        let o = O.order order.now in
         (changed ≡ is_put o «module» (slot_of entry.now) (offered entry.now) c)
         × (T.content table.new ≡ after_entry o «module» entry.now c)) }
     ensures refused { OnErr result (T.content table.new ≡ T.content table.old) }
@@ -195,7 +198,8 @@ pub fn copy_along<T: BindingTable, O: VisOrder<Vis = T::Vis>>(
     edge: EdgeTo<T::Vis>,
     slot: Slot,
 ) -> Result<bool, AllocError>
-    ensures done { IfOk result (λ changed. let c = T.content table.old in let o = O.order order.now in
+    ensures done { IfOk result (λ changed. let c = T.content table.old in
+        let o = O.order order.now in
         (changed ≡ is_some (answer o edge slot (held c source slot) (held c edge.importer slot)))
         × (T.content table.new ≡ copied o source edge slot c)) }
     ensures refused { OnErr result (T.content table.new ≡ T.content table.old) }

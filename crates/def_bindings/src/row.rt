@@ -101,7 +101,8 @@ impl<V: Copy> Row<V> {
     /// Binds a name in a namespace.
     pub fn set(&mut self, name: Name, ns: Namespace, binding: Binding<V>) -> Result<(), AllocError>
         ensures done { OnOk result (self.new.names.entries
-            ≡ insert_entry is_name self.old.names.entries name (with_bound (bindings_at self.old.names.entries name) ns (Some binding))) }
+            ≡ insert_entry is_name self.old.names.entries name
+            (with_bound (bindings_at self.old.names.entries name) ns (Some binding))) }
         ensures refused { OnErr result (SameBindings self.old self.new) }
         ensures unnamed { SameUnnamed self.old self.new }
         ensures edges { SameEdges self.old self.new }
@@ -132,7 +133,8 @@ impl<V: Copy> Row<V> {
 
     /// Sets the visibility of an unnamed trait, in its place or last.
     pub fn set_unnamed(&mut self, item: TraitId, vis: V) -> Result<(), AllocError>
-        ensures done { OnOk result (self.new.unnamed.entries ≡ insert_entry is_trait self.old.unnamed.entries item vis) }
+        ensures done { OnOk result (self.new.unnamed.entries
+            ≡ insert_entry is_trait self.old.unnamed.entries item vis) }
         ensures refused { OnErr result (SameUnnamed self.old self.new) }
         ensures bindings { SameBindings self.old self.new }
         ensures edges { SameEdges self.old self.new }
@@ -143,7 +145,8 @@ impl<V: Copy> Row<V> {
 
     /// Adds an edge, or replaces the one with its importer.
     pub fn set_edge(&mut self, edge: EdgeTo<V>) -> Result<(), AllocError>
-        ensures done { OnOk result (self.new.edges.entries ≡ insert_entry is_same_module self.old.edges.entries edge.importer (link_of edge)) }
+        ensures done { OnOk result (self.new.edges.entries
+            ≡ insert_entry is_same_module self.old.edges.entries edge.importer (link_of edge)) }
         ensures refused { OnErr result (SameEdges self.old self.new) }
         ensures distinct { IsDistinct is_same_module (keys self.old.edges) }
         ensures bindings { SameBindings self.old self.new }

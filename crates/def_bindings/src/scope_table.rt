@@ -94,7 +94,8 @@ impl<V: Copy> BindingTable for ScopeTable<V> {
         ns: Namespace,
         binding: Binding<V>,
     ) -> Result<(), AllocError>
-        ensures done { OnOk result (content_of self.new ≡ with_binding (content_of self.old) «module» name ns binding) }
+        ensures done { OnOk result (content_of self.new
+            ≡ with_binding (content_of self.old) «module» name ns binding) }
         ensures refused { OnErr result (content_of self.new ≡ content_of self.old) }
     {
         self.reserve(module)?;
@@ -120,7 +121,8 @@ impl<V: Copy> BindingTable for ScopeTable<V> {
     }
 
     fn set_edge(&mut self, module: ModuleId, edge: EdgeTo<V>) -> Result<(), AllocError>
-        ensures done { OnOk result (content_of self.new ≡ with_edge (content_of self.old) «module» edge) }
+        ensures done { OnOk result (content_of self.new
+            ≡ with_edge (content_of self.old) «module» edge) }
         ensures refused { OnErr result (content_of self.new ≡ content_of self.old) }
     {
         self.reserve(module)?;

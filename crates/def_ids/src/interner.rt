@@ -62,6 +62,7 @@ impl Interner {
             builtin_derive_impls: Numbering::new(alloc),
         })
     }
+
     /// The name of this text: its own if it has one, else the next.
     #[tactic(auto, using(crate::proofs::TableLemmas::grows_names))]
     pub fn intern_name(&mut self, text: &str) -> Result<Name, AllocError>
@@ -85,6 +86,7 @@ impl Interner {
     {
         self.names.text(name)
     }
+
     /// A law for contracts: equal items, and equal impls of derives, have equal ids.
     /// Nothing happens when it runs.
     #[tactic(auto, using(crate::proofs::SessionLemmas::injective_from_tables))]

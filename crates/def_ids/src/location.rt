@@ -1,6 +1,6 @@
 //! Locations and their ids.
 ghost use Rattle.std.specs.Prelude.{◌≡◌, ℕ, List, Option, Some, option_map, slice_get};
-ghost use Rattle.std.specs.Prelude.{IfOk, OnOk, OnErr};
+ghost use Rattle.std.specs.Prelude.{Contains, IfOk, OnOk, OnErr};
 ghost use Rattle.std.specs.Option.{option_copied};
 ghost use Rattle.item_tree.specs.Numbering.{IsInjective, IsGrownBy};
 
@@ -62,6 +62,7 @@ pub trait Location: Exact + Hash + Copy {
             ≡ Self.Id.with_entries session.old (Self.Id.entries session.new) }
         ensures grows { Grows (session_of session.old) (session_of session.new) }
 
-        // On failure nothing changes.
-        ensures unchanged { OnErr result (session.new ≡ session.old) };
+        // On failure nothing changes. Only a new location can fail.
+        ensures unchanged { OnErr result (session.new ≡ session.old) }
+        ensures fresh { OnErr result (¬ Contains (Self.Id.entries session.old) self) };
 }

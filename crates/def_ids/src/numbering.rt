@@ -1,5 +1,5 @@
 //! `Numbering`: values that are numbered as they are first met.
-ghost use Rattle.std.specs.Prelude.{◌≡◌, [], length, Some, slice_get, IfOk, OnOk, OnErr};
+ghost use Rattle.std.specs.Prelude.{◌≡◌, [], length, Contains, Some, slice_get, IfOk, OnOk, OnErr};
 ghost use Rattle.std.specs.Option.{option_copied};
 ghost use Rattle.item_tree.specs.Numbering.{IsInjective, IsGrownBy};
 
@@ -51,8 +51,9 @@ impl<T: Exact + Hash + Drop> Numbering<T> {
         ensures grown { OnOk result (IsGrownBy value self.old self.new) }
         ensures injective { IsInjective self.new }
 
-        // On failure nothing changes.
+        // On failure nothing changes. Only a new value can fail.
         ensures unchanged { OnErr result (self.new ≡ self.old) }
+        ensures fresh { OnErr result (¬ Contains self.old value) }
     {
         let (i, _) = self.values.insert_full(value)?;
         Ok(i)

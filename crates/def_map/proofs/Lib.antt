@@ -9,3 +9,5 @@ pub mod SourcesLemmas
 pub mod AnswersLemmas
 pub mod PathsFacts
 pub mod IterLemmas
+pub mod LegacyLemmas
+mod MapsFacts

@@ -72,7 +72,7 @@ pub derives-called : {S : Type 0} (old new : IndexMap DeriveKey DeriveMacroInvoc
     → derives_of new ≡ derive_called (derives_of old) position attr pos call
 derives-called old new position attr pos call was now eq same there called written =
     let before : derives_of old position attr ≡ Some (derive_state was) =
-      ap (option_map derive_state) (ap (λ e. get e old (record { position = position; attr = attr })) (sym same) ∙ there) in
+    ap (option_map derive_state) (ap (λ e. get e old (record { position = position; attr = attr })) (sym same) ∙ there) in
     let found : Some (derive_state now) ≡ option_map (with_call pos call) (derives_of old position attr) =
-      ap Some called ∙ ap (option_map (with_call pos call)) (sym before) in
+    ap Some called ∙ ap (option_map (with_call pos call)) (sym before) in
     derives-set old new position attr now eq same written ∙ ap (derive_set (derives_of old) position attr) found

@@ -1,5 +1,5 @@
 -- What a scope keeps by key.
-use Rattle.std.specs.Prelude.{ℕ, Bool, true, cond, ◌&&◌, ◌==◌, List, [], ◌∷◌, Option, Some, reverse, option_map}
+use Rattle.std.specs.Prelude.{◌≡◌, ◌++◌, ℕ, Bool, true, cond, ◌&&◌, ◌==◌, List, [], ◌∷◌, Option, Some, reverse, option_map}
 use Rattle.std.specs.Option.{option_map_or}
 use Rattle.indexmap.specs.IndexMap.{IndexMap, get}
 use Rattle.indexmap.specs.IndexSet.{IndexSet, contains}
@@ -27,6 +27,25 @@ with_first textual name macro_id = set_where (is_name name) (macro_id ∷ textua
 abbrev pub with_last : List MacroId → List MacroId → List MacroId
 with_last [] own = own
 with_last (last ∷ rest) own = last ∷ own
+
+-- a name with the first macro of a list
+abbrev pub named_first : Name → List MacroId → List (Name × MacroId)
+named_first name [] = []
+named_first name (last ∷ before) = (name, last) ∷ []
+
+-- the last macro of each name, as pairs
+abbrev pub last_macros : List (Name × List MacroId) → List (Name × MacroId)
+last_macros [] = []
+last_macros (e ∷ es) = named_first e.0 (reverse e.1) ++ last_macros es
+
+-- textual macros after these are defined in turn
+abbrev pub defined_all : (Name → List MacroId) → List (Name × MacroId) → Name → List MacroId
+defined_all textual [] = textual
+defined_all textual (p ∷ ps) = defined_all (with_first textual p.0 p.1) ps
+
+-- defining these in turn brings the last macro of each name
+abbrev pub AreLastOf : (Name → List MacroId) → List (Name × MacroId) → Type 0
+AreLastOf textual pairs = (own : Name → List MacroId) → defined_all own pairs ≡ (λ x. with_last (textual x) (own x))
 
 -- a derive attribute's call, and what its list gave
 abbrev pub derive_state : DeriveMacroInvocation → DeriveState

@@ -8,6 +8,7 @@ mod def_map_reads;
 mod fresh;
 mod item_scope;
 mod keyed_lists;
+mod legacy_macros;
 mod local_def_map;
 mod macro_resolver;
 mod map;

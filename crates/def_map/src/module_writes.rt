@@ -4,7 +4,7 @@ ghost use Rattle.std.specs.Prelude.{◌≡◌, OnOk};
 ghost use Rattle.def_map.specs.Maps.{map_state, with_module};
 
 use crate::map::MapData;
-use crate::module_data::{DeriveMacroInvocation, Position};
+use crate::module_data::{DeriveCall, DeriveMacroInvocation, Position};
 use def_ids::{BuiltinDeriveImplId, ConstId, Def, ExternBlockId, ExternCrateId, ImplId, MacroId};
 use item_tree::{AttrId, MacroCallId, Name};
 use std::alloc::AllocError;
@@ -12,7 +12,7 @@ use std::alloc::AllocError;
 #[tactic(auto, using(crate::proofs::MapsLemmas::module_missing))]
 impl MapData {
     ghost use Rattle.def_map.specs.ScopeMaps.{derive_state};
-    ghost use Rattle.def_map.specs.Scopes.{declared_in, with_child, with_textual, with_extern_crate, with_extern_block, with_unnamed_const, with_impl, with_derive_impl, with_derive, with_invocation, marked_failed};
+    ghost use Rattle.def_map.specs.Scopes.{declared_in, with_child, with_textual, with_extern_crate, with_extern_block, with_unnamed_const, with_impl, with_derive_impl, with_derive, called_at, with_invocation, marked_failed};
 
     /// Adds a declaration to a module, behind the others.
     pub fn declare(&mut self, module: usize, def: Def) -> Result<(), AllocError>
@@ -154,6 +154,22 @@ impl MapData {
         match self.modules.get_mut(module) {
             Some(found) => found.set_derive(position, attr, derive),
             None => Ok(()),
+        }
+    }
+
+    /// Records the call of one path of a derive attribute, where the module has such a path.
+    pub fn set_derive_call(
+        &mut self,
+        module: usize,
+        position: Position,
+        attr: AttrId,
+        pos: usize,
+        call: DeriveCall,
+    )
+        ensures { map_state self.new ≡ with_module (map_state self.old) «module» (called_at position attr pos call) }
+    {
+        if let Some(found) = self.modules.get_mut(module) {
+            found.set_derive_call(position, attr, pos, call);
         }
     }
 }

@@ -1,4 +1,5 @@
-use Rattle.def_ids.proofs.NumberingLemmas.{injective_from_distinct}
+use Rattle.std.proofs.Common.{rules}
+use Rattle.def_ids.proofs.NumberingLemmas.{absent_from_test, injective_from_distinct}
 use Rattle.def_ids.proofs.numbering.Numbering.number.Goals as goal
 
 pub returns-in_err-i-clause-injective : goal.returns-in_err-i-clause-injective
@@ -6,3 +7,8 @@ returns-in_err-i-clause-injective g c = injective_from_distinct g.met.T.Eq.laws 
 
 pub returns-clause-injective : goal.returns-clause-injective
 returns-clause-injective g c = injective_from_distinct g.met.T.Eq.laws c.insert_full.new.self.keys c.insert_full.ensures.unique
+
+pub returns-in_err-i-clause-fresh : goal.returns-in_err-i-clause-fresh
+returns-in_err-i-clause-fresh g c =
+    let absent = absent_from_test g.met.T.Eq.laws c.self.inside.values.keys c.args.value c.in_err-i.ensures.absent in
+    rw (← c.self.view_is) (search rules)
