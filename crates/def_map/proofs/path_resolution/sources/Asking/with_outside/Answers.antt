@@ -1,7 +1,5 @@
 use Rattle.def_ids.specs.Ids.{crate_root}
-use Rattle.def_map.specs.Answers.{joined}
 use Rattle.def_map.specs.Asking.{question_in}
-use Rattle.def_map.specs.OuterMaps.{answers_outside}
 use Rattle.def_map.proofs.AnswersLemmas.{outside-step}
 use Rattle.def_map.proofs.path_resolution.sources.Asking.with_outside.Goals as goal
 
