@@ -7,7 +7,7 @@ use Rattle.def_bindings.specs.declared.bindings.EdgeTo.{EdgeTo}
 use Rattle.def_bindings.specs.Content.{replaced, leads_to}
 use Rattle.def_ids.specs.Ids.{is_same_module}
 use Rattle.def_bindings.specs.Puts.{edge_to}
-use Rattle.def_bindings.specs.IdLaws.{same_module_equal, same_module_itself}
+use Rattle.def_bindings.specs.IdLaws.{module-sym, same_module_equal, same_module_itself}
 
 -- an edge that was appended or put in the place of others is an old one or the new one
 in_pushed : {X : Type 0} (xs : List X) (new x : X) (k : ℕ) → slice_get (xs ++ new ∷ []) k ≡ Some x → (slice_get xs k ≡ Some x) ⊎ (x ≡ new)
@@ -47,13 +47,6 @@ mapped_at f [] x k h = cc
 mapped_at f (y ∷ xs) x zero h = let e : y ≡ x = cc in ap (λ z. Some (f z)) e
 mapped_at f (y ∷ xs) x (suc k) h = mapped_at f xs x k h
 
-same_module_back : (a b : ModuleId) → is_same_module a b ≡ false → is_same_module b a ≡ false
-same_module_back a b h =
-    elim (cases_Bool (is_same_module b a)) [
-      | inl same ↦ absurd (false≢true (sym h ∙ subst (λ z. is_same_module a z ≡ true) (sym (same_module_equal b a same)) (same_module_itself a)))
-      | inr other ↦ other
-    ]
-
 pub no_edge : {V : Type 0} (es : List (EdgeTo V)) (importer : ModuleId) → edge_to es importer ≡ None → leads_to importer es ≡ false
 no_edge [] importer h = refl
 no_edge (f ∷ es) importer h =
@@ -61,7 +54,7 @@ no_edge (f ∷ es) importer h =
       | inl same ↦ absurd (let g : Some f ≡ None = rw same at h in cc)
       | inr other ↦
           let g : edge_to es importer ≡ None = rw other at h in
-          let back : is_same_module importer f.importer ≡ false = same_module_back f.importer importer other in
+          let back : is_same_module importer f.importer ≡ false = module-sym importer f.importer ∙ other in
           rw (back, no_edge es importer g) refl
     ]
 

@@ -6,6 +6,7 @@ use Rattle.std.specs.List.{flat_map, join_with_byte, starts_with, slice_split}
 use Rattle.item_tree.specs.declared.ids.FileId.{FileId}
 use Rattle.item_tree.specs.declared.ids.HirFileId.{HirFileId}
 use Rattle.item_tree.specs.Lists.{or_else}
+use Rattle.def_map.specs.Oracle.{Oracle}
 
 -- the text of an attribute, if there is one
 abbrev pub text_in : Option (Bor (List ℕ)) → Option (List ℕ)
@@ -124,10 +125,14 @@ FoundFile = FileId × Bool × Directory
 abbrev pub found_file : Directory → List ℕ → Option (List ℕ) → List (List ℕ) → FileId → Option FoundFile
 found_file dir name attr candidate file = option_map (λ child. (file, is_mod_rs candidate, child)) (found_directory dir name attr candidate)
 
--- what a database of files answers
+-- where each file comes from, and what lies at each path
 pub record Files : Type 0 where
   pub original_file : HirFileId → FileId
   pub resolve_path : FileId → List ℕ → Option FileId
+
+-- what a database answers about files
+abbrev pub files_of : Oracle → Files
+files_of oracle = record { original_file = oracle.original_file; resolve_path = oracle.resolve_path }
 
 -- a candidate that is found, and whose directory is not too deep
 abbrev pub in_candidate : Files → FileId → Directory → List ℕ → Option (List ℕ) → List (List ℕ) → Option FoundFile

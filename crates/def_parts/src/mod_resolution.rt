@@ -5,6 +5,7 @@ ghost use Rattle.def_parts.specs.Directories.{HasParent, pieces_of, is_mod_rs};
 mod dir_path;
 
 use arrayvec::ArrayVec;
+use def_map::SourceDatabase;
 pub use dir_path::DirPath;
 use item_tree::{FileId, HirFileId};
 use std::alloc::{AllocError, Global};
@@ -12,21 +13,6 @@ use std::marker::Model;
 
 /// How deep files of modules may lie in one another.
 const MOD_DEPTH_LIMIT: u32 = 32;
-
-/// What knows the files of a workspace.
-pub trait SourceFiles {
-    ghost use Rattle.def_parts.specs.Directories.{Files};
-
-    ghost files: { Self → Files };
-
-    /// The source file from which a file comes.
-    fn original_file(&self, file: HirFileId) -> FileId
-        ensures { result ≡ (files self.now).original_file file };
-
-    /// The file at a path that is relative to the directory of `anchor`.
-    fn resolve_path(&self, anchor: FileId, path: &str) -> Option<FileId>
-        ensures { result ≡ (files self.now).resolve_path anchor path.now };
-}
 
 /// Where the files of a module's children lie. A contract sees its parts.
 #[derive(Debug, Drop)]
@@ -54,7 +40,7 @@ impl Model for ModDir {
 }
 
 impl ModDir {
-    ghost use Rattle.def_parts.specs.Directories.{root_directory, child, below, descend, candidates, split_text, text_in, child_of_file, in_candidate, first_found, resolve_declaration, AnswersFile};
+    ghost use Rattle.def_parts.specs.Directories.{root_directory, child, below, descend, candidates, split_text, text_in, child_of_file, in_candidate, first_found, files_of, resolve_declaration, AnswersFile};
 
     /// The directory of a crate's root.
     pub fn root(alloc: Global) -> ModDir
@@ -180,7 +166,7 @@ impl ModDir {
     }
 
     /// The module in this candidate, if the file is there and not too deep.
-    fn find_in<D: SourceFiles>(
+    fn find_in<D: SourceDatabase>(
         &self,
         db: &D,
         anchor: FileId,
@@ -188,7 +174,7 @@ impl ModDir {
         name: &str,
         attr_path: Option<&str>,
     ) -> Result<Option<(FileId, bool, ModDir)>, AllocError>
-        ensures { IfOk result (λ found. found ≡ in_candidate (D.files db.now) anchor
+        ensures { IfOk result (λ found. found ≡ in_candidate (files_of (D.oracle db.now)) anchor
             self.now name.now (text_in attr_path.entry) (pieces_of candidate.now)) }
     {
         let Some(file) = db.resolve_path(anchor, candidate) else {
@@ -202,7 +188,7 @@ impl ModDir {
     }
 
     /// The module in the first of these candidates where there is one.
-    fn find_among<D: SourceFiles>(
+    fn find_among<D: SourceDatabase>(
         &self,
         db: &D,
         anchor: FileId,
@@ -210,7 +196,7 @@ impl ModDir {
         name: &str,
         attr_path: Option<&str>,
     ) -> Result<Option<(FileId, bool, ModDir)>, AllocError>
-        ensures { IfOk result (λ found. found ≡ first_found (D.files db.now) anchor
+        ensures { IfOk result (λ found. found ≡ first_found (files_of (D.oracle db.now)) anchor
             self.now name.now (text_in attr_path.entry) (map split_text candidates.now)) }
     {
         'candidates: for candidate in candidates {
@@ -225,7 +211,7 @@ impl ModDir {
     /// The file in which an outline module lies, whether that is a `mod.rs`, and the module's
     /// directory, by the module's name and the text of its `#[path]`; or all files that were looked
     /// for.
-    pub fn resolve_declaration<D: SourceFiles>(
+    pub fn resolve_declaration<D: SourceDatabase>(
         &self,
         db: &D,
         file: HirFileId,
@@ -233,7 +219,7 @@ impl ModDir {
         attr_path: Option<&str>,
     ) -> Result<Result<(FileId, bool, ModDir), Vec<String>>, AllocError>
         ensures { IfOk result (λ answer. AnswersFile answer
-            (resolve_declaration (D.files db.now) file self.now name.now
+            (resolve_declaration (files_of (D.oracle db.now)) file self.now name.now
             (text_in attr_path.entry))) }
     {
         let candidates = self.candidate_files(name, attr_path)?;

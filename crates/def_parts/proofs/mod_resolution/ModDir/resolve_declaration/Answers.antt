@@ -1,12 +1,12 @@
 use Rattle.std.proofs.Common.{Err, sym, ap, ◌∙◌}
 use Rattle.std.specs.Prelude.{map, option_map, string_bytes}
-use Rattle.def_parts.specs.Directories.{split_text, first_found}
+use Rattle.def_parts.specs.Directories.{split_text, first_found, files_of}
 use Rattle.def_parts.proofs.DirectoriesLemmas.{all_candidates}
 use Rattle.def_parts.proofs.mod_resolution.ModDir.resolve_declaration.Goals as goal
 
 pub returns : goal.returns
 returns g c =
-    let files = g.D.SourceFiles.files c.args.db.now in
+    let files = files_of (g.D.SourceDatabase.oracle c.args.db.now) in
     let attr = option_map (λ text. text.now) c.args.attr_path in
     let found = c.in_ok-found.ensures
     ∙ ap (λ anchor. first_found files anchor c.args.self.now c.args.name.now attr (map split_text c.as_slice.result.now)) c.original_file-anchor.ensures
