@@ -1,0 +1,64 @@
+-- From the seeded map to the headline.
+use Rattle.std.proofs.Common.{◌≡◌, false, List, [], ◌∷◌, map, Option, None, Some, Result, Ok, Err, All, refl, sym, ap, subst, ◌∙◌}
+use Rattle.std.proofs.lemmas.List.Elements.{All-cons, All-nil}
+use Rattle.std.specs.Result.{IfOk}
+use Rattle.item_tree.specs.declared.ids.BlockId.{BlockId}
+use Rattle.item_tree.specs.declared.name.Name.{Name}
+use Rattle.def_ids.specs.Session.{Session}
+use Rattle.def_bindings.specs.declared.visibility.Visibility.{Visibility}
+use Rattle.def_bindings.specs.Content.{Content, empty}
+use Rattle.def_map.specs.Fresh.{IsFresh, fresh_by}
+use Rattle.def_map.specs.MapState.{MapState, ModuleState}
+use Rattle.def_map.specs.MapView.{LocalView, empty_local}
+use Rattle.def_collector.specs.declared.collector.directive.ImportDirective.{ImportDirective}
+use Rattle.def_collector.specs.declared.collector.directive.PartialDirective.{PartialDirective}
+use Rattle.def_collector.specs.declared.diagnostics.DefDiagnostic.{DefDiagnostic}
+use Rattle.def_collector.specs.Collector.{IsFinished, partial_of, pending_of, waiting}
+use Rattle.def_collector.specs.Headline.{Answers}
+use Rattle.def_collector.specs.Imports.{NoneReady}
+use Rattle.def_collector.specs.Report.{Answer, NoneFailed}
+use Rattle.def_collector.specs.Start.{first_tasks, seeded_state}
+use Rattle.def_collector.specs.State.{Setting, State, PendingImport, PartialImport}
+use Rattle.def_collector.specs.Steps.{Leads}
+use Rattle.def_collector.proofs.HeadlineLemmas.{answers}
+use Rattle.def_collector.proofs.WaitingLemmas.{waiting-nil}
+
+-- what holds of a value and follows from it
+pub if_ok : {T E : Type 0} {P Q : T → Type 0} (r : Result T E) → IfOk r P → ((x : T) → P x → Q x) → IfOk r Q
+if_ok (Ok x) p f = f x p
+if_ok (Err e) p f = p
+
+unmarked : (d : ModuleState) → ((name : Name) → d.failed name ≡ false) → All (λ (e : ModuleState). (name : Name) → e.failed name ≡ false) (d ∷ [])
+unmarked d none = All-cons (λ (e : ModuleState). (name : Name) → e.failed name ≡ false) d [] none (All-nil (λ (e : ModuleState). (name : Name) → e.failed name ≡ false))
+
+none_fresh : (block : Option BlockId) (s : MapState) → NoneFailed (fresh_by block s)
+none_fresh None s = unmarked _ (λ name. refl)
+none_fresh (Some block) s = unmarked _ (λ name. refl)
+
+-- a fresh map has no name marked
+none_seeded : (s : MapState) (content : Content Visibility) → IsFresh s content → NoneFailed s
+none_seeded s content fresh = subst NoneFailed (sym fresh.state) (none_fresh s.id.block s)
+
+-- nothing waits in an empty list
+pub no_imports : (entries : List (Option ImportDirective)) → entries ≡ [] → map pending_of (waiting entries) ≡ []
+no_imports entries none = ap (λ es. map pending_of (waiting es)) none ∙ ap (map pending_of) (waiting-nil ImportDirective)
+
+pub no_partial : (entries : List (Option PartialDirective)) → entries ≡ [] → map partial_of (waiting entries) ≡ []
+no_partial entries none = ap (λ es. map partial_of (waiting es)) none ∙ ap (map partial_of) (waiting-nil PartialDirective)
+
+module _ (w : Setting) (before after : Session) (m : MapState) (content : Content Visibility) (local : LocalView) (imports : List PendingImport) (partial : List PartialImport) (diagnostics : List DefDiagnostic) where
+  -- the state that the code begins with
+  abbrev pub begun : State
+  begun = record { session = before; map = m; content = content; local = local; outer = w.crate_local; imports = imports; partial = partial; diagnostics = diagnostics }
+
+  module _ (same : m ≡ w.seeded) (bound : content ≡ empty) (known : local ≡ empty_local) (unresolved : imports ≡ []) (indeterminate : partial ≡ []) (said : diagnostics ≡ []) where
+    begins : begun ≡ seeded_state w before
+    begins = λ i. record { session = before; map = same i; content = bound i; local = known i; outer = w.crate_local; imports = unresolved i; partial = indeterminate i; diagnostics = said i }
+
+    -- what was collected and finished answers
+    pub collected_answers : (t : State) (answer : Answer) (given : Content Visibility) → IsFresh w.seeded given → Leads w.oracle (first_tasks w.oracle m w.tree) begun [] t → NoneReady w.oracle t → t.session ≡ after → IsFinished t answer
+        → Answers w before after answer
+    collected_answers t answer given fresh leads settled session finished =
+        answers w before after answer t
+        (subst (λ s. Leads w.oracle (first_tasks w.oracle w.seeded w.tree) s [] t) begins (subst (λ x. Leads w.oracle (first_tasks w.oracle x w.tree) begun [] t) same leads))
+        settled session (none_seeded w.seeded given fresh) finished

@@ -1,0 +1,21 @@
+use Rattle.std.proofs.Common.{arith, refl}
+use Rattle.def_map.specs.Maps.{map_state}
+use Rattle.def_collector.specs.Collector.{state_of}
+use Rattle.def_collector.proofs.FinishLemmas.{finished, left_more, left_none, left_whole}
+use Rattle.def_collector.proofs.collector.DefCollector.finish.Goals as goal
+
+pub left-init : goal.left-init
+left-init c = left_none (map_state c.args.self.def_map) c.new.result.items c.args.self.diagnostics.items c.new.ensures.items
+
+pub left-preserved : goal.left-preserved
+left-preserved c =
+    left_more (map_state c.args.self.def_map) (map_state c.left.finish.def_map) (map_state c.add.new.self.def_map) c.left.finish.imports.items c.add.new.self.imports.items
+    c.args.self.diagnostics.items c.left.finish.diagnostics.items c.add.new.self.diagnostics.items c.as_slice-entry-items.result.now c.entry-item.result c.left.entry-index
+    c.left.invariant c.left-test.true c.entry-item.is c.in_ok-add.ensures.map c.in_ok-add.ensures.imports c.in_ok-add.ensures.diagnostics
+
+pub returns : goal.returns
+returns c = λ session.
+    let left = left_whole (map_state c.args.self.def_map) (map_state c.left.finish.def_map) c.left.finish.imports.items c.args.self.diagnostics.items c.left.finish.diagnostics.items
+    c.as_slice-entry-items.result.now c.args.self.unresolved_imports.items c.left.entry-index c.left.invariant (omega (arith, c.left-test.false)) c.as_slice-entry-items.ensures.value in
+    finished (state_of c.args.self session) _ (map_state c.left.finish.def_map) c.left.finish.imports.items c.left.finish.diagnostics.items c.args.self.unresolved_imports.items left refl
+    c.from_parts.ensures.state c.from_parts.ensures.content refl c.from_vec.ensures refl c.new-2.ensures.items c.new-3.ensures.items c.new-4.ensures.items refl

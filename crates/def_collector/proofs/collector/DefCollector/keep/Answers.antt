@@ -1,0 +1,11 @@
+use Rattle.std.proofs.Common.{ap, ◌∙◌, sym}
+use Rattle.std.specs.Prelude.{map, ◌++◌}
+use Rattle.def_collector.specs.Collector.{kept_of, partial_of, pending_of, waiting}
+use Rattle.def_collector.specs.Imports.{kept_list}
+use Rattle.def_collector.proofs.WaitingLemmas.{waiting_pushed}
+use Rattle.def_collector.proofs.collector.DefCollector.keep.Goals as goal
+
+pub returns-in_ok-push-clause-kept : goal.returns-in_ok-push-clause-kept
+returns-in_ok-push-clause-kept c =
+    waiting_pushed partial_of _ _ _ c.in_ok-push.ensures.items
+    ∙ ap (λ kept. map partial_of (waiting c.args.self.now.indeterminate_imports.items) ++ kept_list (pending_of c.args.directive) (kept_of kept)) (sym c.in-Some.is)

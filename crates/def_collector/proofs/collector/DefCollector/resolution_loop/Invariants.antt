@@ -1,0 +1,10 @@
+use Rattle.std.proofs.Common.{[]}
+use Rattle.def_collector.specs.Collector.{state_of, turns_left}
+use Rattle.def_collector.specs.Steps.{Leads}
+use Rattle.def_collector.proofs.collector.DefCollector.resolution_loop.Given as goal
+
+abbrev pub invariant-resolve_imports : goal.invariant-resolve_imports
+invariant-resolve_imports g l = Leads (g.D.SourceDatabase.oracle l.db) [] (state_of l.initial.self l.session) [] (state_of l.self l.session)
+
+abbrev pub decreases-resolve_imports : goal.decreases-resolve_imports
+decreases-resolve_imports g l = turns_left (state_of l.self l.session)

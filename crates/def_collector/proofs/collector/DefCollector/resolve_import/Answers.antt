@@ -1,0 +1,10 @@
+use Rattle.std.proofs.Common.{ap, ◌∙◌}
+use Rattle.def_map.specs.Paths.{for_import, resolve}
+use Rattle.def_collector.specs.Collector.{state_of}
+use Rattle.def_collector.specs.State.{world}
+use Rattle.def_collector.proofs.collector.DefCollector.resolve_import.Goals as goal
+
+pub returns : goal.returns
+returns g c =
+    c.resolve_path_fp_with_macro.ensures
+    ∙ ap (λ local. resolve (record (world (g.D.SourceDatabase.oracle c.args.db.now) (state_of c.args.self.now c.args.session.now)) { local = local }) for_import c.args.directive.now.module_id c.args.directive.now.import.now.path) c.local.ensures

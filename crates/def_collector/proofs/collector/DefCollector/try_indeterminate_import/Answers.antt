@@ -1,0 +1,18 @@
+use Rattle.std.proofs.Common.{refl}
+use Rattle.def_collector.specs.Collector.{state_of}
+use Rattle.def_collector.proofs.TriesLemmas.{moved_indeterminate, stands_at, unready_again_here}
+use Rattle.def_collector.proofs.collector.DefCollector.try_indeterminate_import.Goals as goal
+
+pub returns-then-not-is_ready_again-clause-unready :
+    goal.returns-then-not-is_ready_again-clause-unready
+returns-then-not-is_ready_again-clause-unready g c = λ _.
+    unready_again_here (g.D.SourceDatabase.oracle c.args.db.now) (state_of c.args.self.now c.args.session.now) c.args.self.now.indeterminate_imports.items c.args.i c.in-Some.partial c.resolve_import-answer.result c.is_ready_again.result
+    (stands_at c.args.self.now.indeterminate_imports c.args.i c.index.result.now c.in-Some.partial c.requires c.index.ensures c.in-Some.is)
+    c.resolve_import-answer.ensures c.is_ready_again.ensures c.if-not-is_ready_again.true
+
+pub returns-clause-moved : goal.returns-clause-moved
+returns-clause-moved g c = λ _.
+    moved_indeterminate (g.D.SourceDatabase.oracle c.args.db.now) c.args.session.now c.args.self.now c.record_resolved_import.new.self _ c.args.i c.in-Some.partial c.resolve_import-answer.result c.is_ready_again.result c.kept_after.result c.still_partial.result
+    (stands_at c.args.self.now.indeterminate_imports c.args.i c.index.result.now c.in-Some.partial c.requires c.index.ensures c.in-Some.is)
+    c.resolve_import-answer.ensures c.is_ready_again.ensures c.if-not-is_ready_again.false
+    refl c.still_partial.ensures c.kept_after.ensures c.in_ok-record_resolved_import.ensures.state

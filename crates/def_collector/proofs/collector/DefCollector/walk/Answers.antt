@@ -1,0 +1,36 @@
+use Rattle.std.proofs.Common.{ap, subst, sym, ◌∙◌, ◌++◌, ◌∷◌, []}
+use Rattle.def_ids.specs.Session.{session_of}
+use Rattle.def_ids.specs.SessionLaws.{grows_refl, grows_trans}
+use Rattle.def_collector.specs.Collector.{agenda_of, is_known, state_of}
+use Rattle.def_collector.specs.Steps.{Leads}
+use Rattle.def_collector.proofs.StepsLemmas.{leads_refl, leads_trans}
+use Rattle.def_collector.proofs.VisitLemmas.{all_none, all_pushed}
+use Rattle.def_collector.proofs.WalkLemmas.{agenda_of-none, empty_list}
+use Rattle.def_collector.proofs.collector.DefCollector.walk.Goals as goal
+
+pub frames-init : goal.frames-init
+frames-init g c =
+    let oracle = g.D.SourceDatabase.oracle c.args.db.now in
+    let one = c.in_ok-push.ensures.items ∙ ap (λ fs. fs ++ c.args.first ∷ []) c.new-frames.ensures.items in
+    record {
+      run = subst (λ fs. Leads oracle (agenda_of (c.args.first ∷ [])) (state_of c.args.self.now c.args.session.now) (agenda_of fs) (state_of c.args.self.now c.args.session.now)) (sym one)
+      (leads_refl (agenda_of (c.args.first ∷ [])) (state_of c.args.self.now c.args.session.now));
+      known = all_pushed (is_known oracle) [] c.push.new.self.items c.args.first one (all_none (is_known oracle)) c.requires;
+      grows = grows_refl (session_of c.args.session.now);
+    }
+
+pub frames-preserved : goal.frames-preserved
+frames-preserved g c =
+    let oracle = g.D.SourceDatabase.oracle c.args.db.now in
+    record {
+      run = leads_trans c.frames.invariant.run
+      (subst (λ fs. Leads oracle (agenda_of fs) (state_of c.frames.self c.frames.session) (agenda_of c.visit_next.new.frames.items) (state_of c.visit_next.new.self c.visit_next.new.session)) (sym c.in-Some.ensures.items) c.in_ok-visit_next.ensures.run);
+      known = c.in_ok-visit_next.ensures.known;
+      grows = grows_trans (session_of c.args.session.now) (session_of c.frames.session) (session_of c.visit_next.new.session) c.frames.invariant.grows c.visit_next.ensures.session;
+    }
+
+pub returns-clause-run : goal.returns-clause-run
+returns-clause-run g c =
+    let oracle = g.D.SourceDatabase.oracle c.args.db.now in
+    subst (λ tasks. Leads oracle (agenda_of (c.args.first ∷ [])) (state_of c.args.self.now c.args.session.now) tasks (state_of c.frames.self c.frames.session))
+    (ap (λ fs. agenda_of fs) (empty_list c.frames.frames.items (sym c.frames.frames.ok.0 ∙ c.in_default.ensures.cases.0)) ∙ agenda_of-none) c.frames.invariant.run

@@ -1,0 +1,36 @@
+-- The headline: what `collect_defs` answers ends a run of the machine.
+use Rattle.std.specs.Prelude.{◌≡◌, []}
+use Rattle.def_ids.specs.Session.{Session}
+use Rattle.def_collector.specs.State.{Setting, Moment}
+use Rattle.def_collector.specs.Steps.{Reaches}
+use Rattle.def_collector.specs.Start.{start}
+use Rattle.def_collector.specs.Settled.{IsDeclared, ExplicitStays, IsSettled, HasEveryNamespace}
+use Rattle.def_collector.specs.Report.{Answer, IsAnswerOf, report}
+
+-- a run, from its start to an end at which nothing is left to do
+pub record Run (w : Setting) (before : Session) : Type 0 where
+  pub end : Moment
+  pub runs : Reaches w.oracle (start w before) end
+  -- every reached item is handled
+  pub done : end.tasks ≡ []
+
+-- one moment of the run comes before another
+pub record IsOnRun (w : Setting) (before : Session) (end a b : Moment) : Type 0 where
+  pub begins : Reaches w.oracle (start w before) a
+  pub goes_on : Reaches w.oracle a b
+  pub ends : Reaches w.oracle b end
+
+-- What is answered ends a run in which every reached item is handled, and has no import left over that resolves;
+-- its diagnostics are the run's and those of the leftovers.
+pub record Answers (w : Setting) (before after : Session) (answer : Answer) : Type 0 where
+  pub run : Run w before
+  pub session : run.end.state.session ≡ after
+  pub answered : IsAnswerOf run.end.state answer
+  -- each declaration stands at its place, or an explicit binding made before it does
+  pub declared : IsDeclared run.end.events run.end.state.content
+  -- no explicit binding is ever replaced
+  pub explicit_stays : (a b : Moment) → IsOnRun w before run.end a b → ExplicitStays a b
+  pub settled : IsSettled w.oracle run.end.state
+  -- each namespace of each recorded import is bound
+  pub every_namespace : HasEveryNamespace w.oracle run.end
+  pub reported : answer.diagnostics ≡ report run.end.state

@@ -1,0 +1,166 @@
+-- Imports: their classes, when one is ready, and what recording one does.
+use Rattle.std.specs.Prelude.{◌≡◌, ◌≢◌, ◌⊎◌, ℕ, Bool, true, false, cond, ◌&&◌, ◌||◌, not, nat_eq, nat_lt, List, [], ◌∷◌, ◌++◌, length, slice_get, ◌-◌, Option, None, Some, is_some, option_map, unwrap_or, IsPermutation, Contains}
+use Rattle.item_tree.specs.declared.items.ImportAlias.{ImportAlias}
+use Rattle.item_tree.specs.declared.items.ImportAlias.TheVariants.{Alias}
+use Rattle.item_tree.specs.declared.items.ImportKind.{ImportKind}
+use Rattle.item_tree.specs.declared.items.ImportKind.TheVariants as kind
+use Rattle.item_tree.specs.declared.items.UseImport.{UseImport}
+use Rattle.item_tree.specs.declared.mod_path.ModPath.{ModPath}
+use Rattle.item_tree.specs.declared.mod_path.PathKind.{PathKind}
+use Rattle.item_tree.specs.declared.mod_path.PathKind.TheVariants.{Plain, Super}
+use Rattle.item_tree.specs.declared.name.Name.{Name}
+use Rattle.def_bindings.specs.declared.bindings.ImportOrExternCrate.{ImportOrExternCrate}
+use Rattle.def_bindings.specs.declared.bindings.ImportOrExternCrate.TheVariants.{Import}
+use Rattle.def_bindings.specs.declared.bindings.Namespace.{Namespace}
+use Rattle.def_bindings.specs.declared.bindings.Namespace.TheVariants.{Types, Values, Macros}
+use Rattle.def_bindings.specs.declared.visibility.Visibility.{Visibility}
+use Rattle.def_bindings.specs.declared.visibility.Visibility.TheVariants.{Public}
+use Rattle.def_bindings.specs.Order.{Order}
+use Rattle.def_bindings.specs.Puts.{lessened}
+use Rattle.def_map.specs.declared.path_resolution.asked.ResolvePathResult.{ResolvePathResult}
+use Rattle.def_map.specs.declared.per_ns.PerNs.{PerNs}
+use Rattle.def_map.specs.Oracle.{Oracle}
+use Rattle.def_map.specs.Answers.{is_reached}
+use Rattle.def_map.specs.Paths.{resolve, for_import, resolve_visibility}
+use Rattle.def_map.specs.PerNs.{Item, is_nothing, kept}
+use Rattle.def_collector.specs.State.{State, Effect, followed_by, PendingImport, PartialImport, NsSet, Task, Put, Recorded, noting, world, order}
+
+-- the namespaces that are there
+abbrev pub given_set : PerNs → NsSet
+given_set found = record { types = is_some found.types; values = is_some found.values; macros = is_some found.macros }
+
+-- all three namespaces
+abbrev pub is_full : NsSet → Bool
+is_full set = set.types && (set.values && set.macros)
+
+-- whether a prefix or everything is missing, or a segment is left
+abbrev pub is_missing : ResolvePathResult → Bool
+is_missing answer = not (is_reached answer.reached_fixedpoint) || (is_nothing answer.resolved_def || is_some answer.segment_index)
+
+-- whether another crate was entered
+abbrev pub is_foreign : ResolvePathResult → Bool
+is_foreign answer = answer.prefix_info.differing_crate
+
+-- what an import's path gives now
+abbrev pub answer_now : Oracle → State → PendingImport → ResolvePathResult
+answer_now oracle s pending = resolve (world oracle s) for_import pending.scope pending.import.path
+
+-- whether a pending import is ready: its path gives something
+abbrev pub is_ready : ResolvePathResult → Bool
+is_ready answer = not (is_missing answer)
+
+-- the namespaces of either set
+abbrev pub union : NsSet → NsSet → NsSet
+union a b = record { types = a.types || b.types; values = a.values || b.values; macros = a.macros || b.macros }
+
+-- whether the second set has a namespace that the first lacks
+abbrev pub is_extended : NsSet → NsSet → Bool
+is_extended recorded given = (given.types && not recorded.types) || ((given.values && not recorded.values) || (given.macros && not recorded.macros))
+
+-- whether a partial import is ready again: it is not missing, and is foreign or gives a namespace that it has not recorded
+abbrev pub is_ready_again : NsSet → ResolvePathResult → Bool
+is_ready_again recorded answer = not (is_missing answer) && (is_foreign answer || is_extended recorded (given_set answer.resolved_def))
+
+-- an import stays partial until it has recorded all three namespaces
+abbrev pub kept_unless_full : NsSet → Option NsSet
+kept_unless_full recorded = cond (is_full recorded) None (Some recorded)
+
+-- what an import that is recorded stays partial with, after what it had recorded: nothing where it is foreign or has all three namespaces
+abbrev pub kept_after : NsSet → ResolvePathResult → Option NsSet
+kept_after recorded answer = cond (is_foreign answer) None (kept_unless_full (union recorded (given_set answer.resolved_def)))
+
+-- nothing is recorded yet
+abbrev pub no_namespaces : NsSet
+no_namespaces = record { types = false; values = false; macros = false }
+
+-- the visibility of an import; public where it means nothing
+abbrev pub import_vis : Oracle → State → PendingImport → Visibility
+import_vis oracle s pending = unwrap_or (resolve_visibility (world oracle s) pending.scope pending.vis) Public
+
+-- the last segment of a path
+abbrev pub last_segment : List Name → Option Name
+last_segment segments = slice_get segments (length segments - 1)
+
+-- the name that an alias gives; None is `_`
+abbrev pub alias_name : ImportAlias → Option Name
+alias_name (Alias name) = Some name
+
+-- the name that an import binds: its alias, else the last segment; the inner None is `_`
+abbrev pub name_or : Option ImportAlias → List Name → Option (Option Name)
+name_or (Some alias) segments = Some (alias_name alias)
+name_or None segments = option_map (λ name. Some name) (last_segment segments)
+
+-- the name that an import binds
+abbrev pub bound_name : UseImport → Option (Option Name)
+bound_name import = name_or import.alias import.path.segments
+
+-- whether something is public
+abbrev pub is_public : Visibility → Bool
+is_public Public = true
+is_public _ = false
+
+-- what is kept of an answer: of another crate what is public
+abbrev pub kept_item : ResolvePathResult → Option Item → Option Item
+kept_item answer item = kept (λ i. not (is_foreign answer) || is_public i.vis) item
+
+-- the namespaces that an import's kind keeps
+abbrev pub keeps_ns : ImportKind → Namespace → Bool
+keeps_ns kind.Plain ns = true
+
+-- what brings an import's bindings
+abbrev pub origin_of : PendingImport → ImportOrExternCrate
+origin_of pending = Import (record { use_id = pending.use_id; idx = pending.import.idx })
+
+-- the entry that an import of this visibility puts in one namespace
+abbrev pub entry_of : Order Visibility → PendingImport → Visibility → Option Name → Namespace → Option Item → List Task
+entry_of order pending vis name ns None = []
+entry_of order pending vis name ns (Some item) =
+    cond (keeps_ns pending.import.kind ns)
+    (Put pending.scope (record { name = name; ns = ns; def = item.def; vis = lessened order item.vis vis; origin = Some (origin_of pending) }) ∷ [])
+    []
+
+-- the entries of a named import, one in each namespace that its path gives
+abbrev pub named_entries : Order Visibility → PendingImport → Visibility → ResolvePathResult → Option (Option Name) → List Task
+named_entries order pending vis answer None = []
+named_entries order pending vis answer (Some name) =
+    entry_of order pending vis name Types (kept_item answer answer.resolved_def.types)
+    ++ (entry_of order pending vis name Values (kept_item answer answer.resolved_def.values)
+    ++ entry_of order pending vis name Macros (kept_item answer answer.resolved_def.macros))
+
+-- an import is recorded with what its path gives
+abbrev pub Records : Oracle → State → PendingImport → ResolvePathResult → Effect → Type 0
+Records oracle s pending answer effect =
+    effect ≡ followed_by s (named_entries (order s) pending (import_vis oracle s pending) answer (bound_name pending.import))
+
+-- a partial import as a list, if it stays one
+abbrev pub kept_list : PendingImport → Option NsSet → List PartialImport
+kept_list pending None = []
+kept_list pending (Some recorded) = record { pending = pending; recorded = recorded } ∷ []
+
+-- the state with one more partial import, if it stays one
+abbrev pub with_partial : State → PendingImport → Option NsSet → State
+with_partial s pending kept = record s { partial = s.partial ++ kept_list pending kept }
+
+-- the state without a pending import, which stays partial unless it is whole or foreign
+abbrev pub after_pending : State → PendingImport → List PendingImport → ResolvePathResult → State
+after_pending s pending rest answer = with_partial (record s { imports = rest }) pending (kept_after no_namespaces answer)
+
+-- the state in which a partial import leaves, or stays with more namespaces
+abbrev pub after_partial : State → PartialImport → List PartialImport → ResolvePathResult → State
+after_partial s partial rest answer = with_partial (record s { partial = rest }) partial.pending (kept_after partial.recorded answer)
+
+-- one import is recorded with what its path gives now: one that pends and is ready, or a partial one that is ready again
+pub data ImportStep (oracle : Oracle) (s : State) (effect : Effect) : Type 0 where
+  of_pending : (pending : PendingImport) (rest : List PendingImport) (recorded : Effect) → IsPermutation s.imports (pending ∷ rest)
+      → is_ready (answer_now oracle s pending) ≡ true
+      → Records oracle (after_pending s pending rest (answer_now oracle s pending)) pending (answer_now oracle s pending) recorded
+      → effect ≡ noting (Recorded pending (is_foreign (answer_now oracle s pending))) recorded → ImportStep oracle s effect
+  of_partial : (partial : PartialImport) (rest : List PartialImport) (recorded : Effect) → IsPermutation s.partial (partial ∷ rest)
+      → is_ready_again partial.recorded (answer_now oracle s partial.pending) ≡ true
+      → Records oracle (after_partial s partial rest (answer_now oracle s partial.pending)) partial.pending (answer_now oracle s partial.pending) recorded
+      → effect ≡ noting (Recorded partial.pending (is_foreign (answer_now oracle s partial.pending))) recorded → ImportStep oracle s effect
+
+-- no import is ready
+pub record NoneReady (oracle : Oracle) (s : State) : Type 0 where
+  pub pending : (p : PendingImport) → Contains s.imports p → is_ready (answer_now oracle s p) ≡ false
+  pub partial : (p : PartialImport) → Contains s.partial p → is_ready_again p.recorded (answer_now oracle s p.pending) ≡ false

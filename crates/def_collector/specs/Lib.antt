@@ -1,0 +1,9 @@
+pub mod State
+pub mod Imports
+pub mod Items
+pub mod Steps
+pub mod Start
+pub mod Settled
+pub mod Report
+pub mod Headline
+pub mod Collector

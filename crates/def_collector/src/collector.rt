@@ -1,0 +1,175 @@
+//! The collector: it walks item trees, and records imports until none resolves any further.
+ghost use Rattle.std.specs.Prelude.{◌≡◌, [], is_some, option_map, unwrap_or, IfOk, OnOk};
+ghost use Rattle.def_ids.specs.Session.{Grows, session_of};
+ghost use Rattle.def_map.specs.DefMaps as whole;
+ghost use Rattle.def_map.specs.Fresh.{IsFresh};
+ghost use Rattle.def_map.specs.Locals.{local_view};
+ghost use Rattle.def_map.specs.Maps.{map_state};
+ghost use Rattle.def_collector.specs.Collector.{setting_of, shown, state_of};
+ghost use Rattle.def_collector.specs.Headline.{Answers};
+ghost use Rattle.def_collector.specs.Imports.{NoneReady};
+ghost use Rattle.def_collector.specs.Start.{first_tasks, first_tree};
+ghost use Rattle.def_collector.specs.Steps.{Leads};
+
+mod directive;
+mod finish;
+mod imports;
+mod items;
+mod walk;
+
+use crate::diagnostics::DefDiagnostic;
+use crate::outcome::Collected;
+use def_ids::{Interner, MapId, ModuleId};
+use def_map::{DefMap, LocalDefMap, MapData, SourceDatabase, Table};
+use directive::{ImportDirective, PartialDirective};
+use item_tree::{HirFileId, TreeId};
+use std::alloc::{AllocError, Global};
+use walk::Frame;
+
+/// Walks the tree of items and collects definitions into a map.
+#[derive(Drop)]
+pub struct DefCollector<'a> {
+    alloc: Global,
+    def_map: MapData,
+    table: Table,
+    local_def_map: LocalDefMap,
+    /// The names of crates that a block's crate knows.
+    crate_local: Option<&'a LocalDefMap>,
+    /// Imports that no pass could resolve so far. One that was recorded leaves `None`.
+    unresolved_imports: Vec<Option<ImportDirective<'a>>>,
+    /// Imports that were recorded, and that may give more namespaces. One that left leaves `None`.
+    indeterminate_imports: Vec<Option<PartialDirective<'a>>>,
+    diagnostics: Vec<DefDiagnostic>,
+}
+
+/// Collects the definitions of a crate or a block into its seeded map.
+///
+/// The map is fresh, as `DefMap::seed` leaves one; the tree is a block's, and `crate_local` is
+/// given, exactly where the map is a block's. A tree that the database lacks counts as empty. Want
+/// of memory answers no map; the session keeps all earlier entries, perhaps with more.
+pub fn collect_defs<D: SourceDatabase>(
+    alloc: Global,
+    db: &D,
+    session: &mut Interner,
+    def_map: DefMap,
+    tree_id: TreeId,
+    crate_local: Option<&LocalDefMap>,
+) -> Result<Collected, AllocError>
+    requires fresh { IsFresh (whole.state_of def_map) (whole.content_of def_map) }
+    requires tree { is_some tree_id.block ≡ is_some (whole.state_of def_map).id.block }
+    requires local { is_some crate_local ≡ is_some (whole.state_of def_map).id.block }
+
+    // What is answered ends a run of the machine.
+    ensures answers { IfOk result (λ collected.
+        Answers (setting_of (D.oracle db.now) def_map tree_id (option_map (λ l. local_view l.now) crate_local.entry))
+        (session_of session.old) (session_of session.new) (shown collected)) }
+
+    // Whatever is answered, the session keeps its entries.
+    ensures session { Grows (session_of session.old) (session_of session.new) }
+{
+    let (data, table) = def_map.into_parts();
+    let mut collector = DefCollector {
+        alloc,
+        def_map: data,
+        table,
+        local_def_map: LocalDefMap::new(alloc),
+        crate_local,
+        unresolved_imports: Vec::new(alloc),
+        indeterminate_imports: Vec::new(alloc),
+        diagnostics: Vec::new(alloc),
+    };
+    collector.collect(db, session, tree_id)?;
+    collector.finish()
+}
+
+impl<'a> DefCollector<'a> {
+    /// The names of crates that paths are read with.
+    fn local(&self) -> &LocalDefMap
+        ensures { local_view result.now ≡ unwrap_or (option_map (λ l. local_view l.now) self.now.crate_local) (local_view self.now.local_def_map) }
+    {
+        match self.crate_local {
+            Some(local) => local,
+            None => &self.local_def_map,
+        }
+    }
+
+    /// Walks the items, and records imports until none is ready. On `Err` nothing but safety is
+    /// promised.
+    fn collect<D: SourceDatabase>(
+        &mut self,
+        db: &'a D,
+        session: &mut Interner,
+        tree_id: TreeId,
+    ) -> Result<(), AllocError>
+        ensures run { OnOk result (Leads (D.oracle db.now)
+            (first_tasks (D.oracle db.now) (map_state self.old.def_map) tree_id)
+            (state_of self.old session.old) [] (state_of self.new session.new)) }
+        ensures settled { OnOk result (NoneReady (D.oracle db.now) (state_of self.new session.new)) }
+        ensures session { Grows (session_of session.old) (session_of session.new) }
+    {
+        self.seed_with_top_level(db, session, tree_id)?;
+        self.resolution_loop(db, session)
+    }
+
+    /// Walks the top items of the crate's root file, or of the block. On `Err` nothing but safety
+    /// is promised.
+    fn seed_with_top_level<D: SourceDatabase>(
+        &mut self,
+        db: &'a D,
+        session: &mut Interner,
+        tree_id: TreeId,
+    ) -> Result<(), AllocError>
+        ensures run { OnOk result (Leads (D.oracle db.now)
+            (first_tasks (D.oracle db.now) (map_state self.old.def_map) tree_id)
+            (state_of self.old session.old) [] (state_of self.new session.new)) }
+        ensures session { Grows (session_of session.old) (session_of session.new) }
+    {
+        let map = self.def_map.tree.map;
+        let tree_id = first_tree(db, map, tree_id);
+        let Some(tree) = db.item_tree(tree_id) else {
+            return Ok(());
+        };
+        self.walk(
+            db,
+            session,
+            Frame {
+                module_id: ModuleId { map, index: 0 },
+                tree_id,
+                tree,
+                items: tree.top_level_items(),
+                next: 0,
+            },
+        )
+    }
+
+    /// Records imports until none is ready. On `Err` nothing but safety is promised.
+    fn resolution_loop<D: SourceDatabase>(
+        &mut self,
+        db: &D,
+        session: &Interner,
+    ) -> Result<(), AllocError>
+        ensures run { OnOk result (Leads (D.oracle db.now)
+            [] (state_of self.old session.now) [] (state_of self.new session.now)) }
+        ensures settled { OnOk result (NoneReady (D.oracle db.now) (state_of self.new session.now)) }
+    {
+        'resolve_imports: while self.resolve_imports(db, session)? {}
+        Ok(())
+    }
+}
+
+/// The tree whose top items are walked: that of the crate's root file, where its data name one,
+/// or the one that was handed in.
+fn first_tree<D: SourceDatabase>(db: &D, map: MapId, tree_id: TreeId) -> TreeId
+    ensures { result ≡ first_tree (D.oracle db.now) map tree_id }
+{
+    if map.block.is_some() {
+        return tree_id;
+    }
+    match db.crate_data(map.krate) {
+        Some(known) => TreeId {
+            file: HirFileId::File(known.root_file),
+            block: None,
+        },
+        None => tree_id,
+    }
+}

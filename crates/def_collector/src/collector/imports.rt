@@ -1,0 +1,293 @@
+//! Imports: each pass records those that are ready.
+ghost use Rattle.std.specs.Prelude.{◌≡◌, ◌<◌, ◌++◌, [], ℕ, true, false, map, option_map, vec_len, slice_get, IfOk, OnOk, Some};
+ghost use Rattle.def_ids.specs.declared.interner.Interner.{Interner};
+ghost use Rattle.def_collector.specs.Collector.{IsUnready, IsUnreadyAgain, Moves, kept_of, partial_of, pending_of, performed, state_of, turns_left, waiting};
+ghost use Rattle.def_collector.specs.Imports.{answer_now, bound_name, entry_of, import_vis, kept_list, named_entries, NoneReady};
+ghost use Rattle.def_collector.specs.State.{order};
+ghost use Rattle.def_collector.specs.Steps.{Leads};
+
+use super::DefCollector;
+use super::directive::{
+    ImportDirective, NamespaceSet, PartialDirective, import_name, is_missing, is_ready_again,
+    kept_after, kept_item,
+};
+use def_bindings::{Entry, Namespace, Visibility, lesser_or_import};
+use def_ids::Interner;
+use def_map::{BuiltinShadowMode, Item, ResolveMode, ResolvePathResult, SourceDatabase};
+use item_tree::Name;
+use std::alloc::AllocError;
+
+impl<'a> DefCollector<'a> {
+    /// Records each import that is ready, the waiting ones first and then those that gave some
+    /// namespaces before. Answers whether one was recorded. On `Err` nothing but safety is
+    /// promised.
+    pub fn resolve_imports<D: SourceDatabase>(
+        &mut self,
+        db: &D,
+        session: &Interner,
+    ) -> Result<bool, AllocError>
+        ensures run { OnOk result (Leads (D.oracle db.now)
+            [] (state_of self.old session.now) [] (state_of self.new session.now)) }
+        ensures settled { IfOk result (λ moved. moved ≡ false →
+            NoneReady (D.oracle db.now) (state_of self.new session.now)) }
+        ensures fewer { IfOk result (λ moved. moved ≡ true → turns_left (state_of self.new session.now) < turns_left (state_of self.old session.now)) }
+    {
+        let unresolved = self.try_unresolved_imports(db, session)?;
+        let indeterminate = self.try_indeterminate_imports(db, session)?;
+        let moved = unresolved || indeterminate;
+        if moved {
+            self.drop_resolved();
+        }
+        Ok(moved)
+    }
+
+    /// Tries each waiting import in order.
+    fn try_unresolved_imports<D: SourceDatabase>(
+        &mut self,
+        db: &D,
+        session: &Interner,
+    ) -> Result<bool, AllocError>
+        ensures run { OnOk result (Leads (D.oracle db.now)
+            [] (state_of self.old session.now) [] (state_of self.new session.now)) }
+        ensures fewer { IfOk result (λ moved. moved ≡ true →
+            turns_left (state_of self.new session.now) < turns_left (state_of self.old session.now)) }
+        ensures unready { IfOk result (λ moved. moved ≡ false → (index : ℕ) →
+            IsUnready (D.oracle db.now) (state_of self.old session.now) self.old.unresolved_imports.items index) }
+        ensures same { IfOk result (λ moved. moved ≡ false → self.new ≡ self.old) }
+    {
+        let mut moved = false;
+        'unresolved: for i in 0..self.unresolved_imports.len() {
+            if self.try_unresolved_import(db, session, i)? {
+                moved = true;
+            }
+        }
+        Ok(moved)
+    }
+
+    /// Tries each import that gave some namespaces before, in order.
+    fn try_indeterminate_imports<D: SourceDatabase>(
+        &mut self,
+        db: &D,
+        session: &Interner,
+    ) -> Result<bool, AllocError>
+        ensures run { OnOk result (Leads (D.oracle db.now)
+            [] (state_of self.old session.now) [] (state_of self.new session.now)) }
+        ensures fewer { IfOk result (λ moved. moved ≡ true →
+            turns_left (state_of self.new session.now) < turns_left (state_of self.old session.now)) }
+        ensures unready { IfOk result (λ moved. moved ≡ false → (index : ℕ) →
+            IsUnreadyAgain (D.oracle db.now) (state_of self.old session.now) self.old.indeterminate_imports.items index) }
+        ensures same { IfOk result (λ moved. moved ≡ false → self.new ≡ self.old) }
+    {
+        let mut moved = false;
+        'indeterminate: for i in 0..self.indeterminate_imports.len() {
+            if self.try_indeterminate_import(db, session, i)? {
+                moved = true;
+            }
+        }
+        Ok(moved)
+    }
+
+    /// Records a waiting import, if it is ready. Answers whether it was.
+    fn try_unresolved_import<D: SourceDatabase>(
+        &mut self,
+        db: &D,
+        session: &Interner,
+        i: usize,
+    ) -> Result<bool, AllocError>
+        requires { i < vec_len self.old.unresolved_imports }
+        ensures len { OnOk result (vec_len self.new.unresolved_imports ≡ vec_len self.old.unresolved_imports) }
+        ensures moved { IfOk result (λ moved. moved ≡ true →
+            Moves (D.oracle db.now) (state_of self.old session.now) (state_of self.new session.now)) }
+        ensures unready { IfOk result (λ moved. moved ≡ false →
+            IsUnready (D.oracle db.now) (state_of self.old session.now) self.old.unresolved_imports.items i) }
+        ensures same { IfOk result (λ moved. moved ≡ false → self.new ≡ self.old) }
+    {
+        let Some(directive) = self.unresolved_imports[i] else {
+            return Ok(false);
+        };
+        let answer = self.resolve_import(db, session, &directive);
+        if is_missing(&answer) {
+            return Ok(false);
+        }
+        self.unresolved_imports[i] = None;
+        self.keep(directive, kept_after(NamespaceSet::NONE, &answer))?;
+        self.record_resolved_import(db, session, &directive, &answer)?;
+        Ok(true)
+    }
+
+    /// Records an import once more, if it is ready again. Answers whether it was.
+    fn try_indeterminate_import<D: SourceDatabase>(
+        &mut self,
+        db: &D,
+        session: &Interner,
+        i: usize,
+    ) -> Result<bool, AllocError>
+        requires { i < vec_len self.old.indeterminate_imports }
+        ensures len { OnOk result (vec_len self.new.indeterminate_imports ≡ vec_len self.old.indeterminate_imports) }
+        ensures moved { IfOk result (λ moved. moved ≡ true →
+            Moves (D.oracle db.now) (state_of self.old session.now) (state_of self.new session.now)) }
+        ensures unready { IfOk result (λ moved. moved ≡ false →
+            IsUnreadyAgain (D.oracle db.now) (state_of self.old session.now) self.old.indeterminate_imports.items i) }
+        ensures same { IfOk result (λ moved. moved ≡ false → self.new ≡ self.old) }
+    {
+        let Some(partial) = self.indeterminate_imports[i] else {
+            return Ok(false);
+        };
+        let directive = partial.directive;
+        let answer = self.resolve_import(db, session, &directive);
+        if !is_ready_again(partial.recorded, &answer) {
+            return Ok(false);
+        }
+        self.indeterminate_imports[i] = still_partial(
+            directive,
+            kept_after(partial.recorded, &answer),
+        );
+        self.record_resolved_import(db, session, &directive, &answer)?;
+        Ok(true)
+    }
+
+    /// Appends an import to those that gave some namespaces, if it stays one. On `Err` nothing but
+    /// safety is promised.
+    fn keep(
+        &mut self,
+        directive: ImportDirective<'a>,
+        recorded: Option<NamespaceSet>,
+    ) -> Result<(), AllocError>
+        ensures frame { OnOk result (self.new ≡ record self.old { indeterminate_imports = self.new.indeterminate_imports }) }
+        ensures kept { OnOk result (map partial_of (waiting self.new.indeterminate_imports.items)
+            ≡ map partial_of (waiting self.old.indeterminate_imports.items) ++ kept_list (pending_of directive.entry) (kept_of recorded)) }
+    {
+        if let Some(recorded) = recorded {
+            self.indeterminate_imports.push(Some(PartialDirective {
+                directive,
+                recorded,
+            }))?;
+        }
+        Ok(())
+    }
+
+    /// What the path of an import gives now.
+    fn resolve_import<D: SourceDatabase>(
+        &self,
+        db: &D,
+        session: &Interner,
+        directive: &ImportDirective,
+    ) -> ResolvePathResult
+        ensures { result ≡ answer_now (D.oracle db.now) (state_of self.now session.now) (pending_of directive.now) }
+    {
+        self.def_map.resolve_path_fp_with_macro(
+            &self.table,
+            self.local(),
+            db,
+            session,
+            ResolveMode::Import,
+            directive.module_id,
+            &directive.import.path,
+            BuiltinShadowMode::Module,
+            None,
+        )
+    }
+
+    /// Puts what an import gives at its name. On `Err` nothing but safety is promised.
+    fn record_resolved_import<D: SourceDatabase>(
+        &mut self,
+        db: &D,
+        session: &Interner,
+        directive: &ImportDirective,
+        answer: &ResolvePathResult,
+    ) -> Result<(), AllocError>
+        ensures state { OnOk result (let s = state_of self.old session.now in
+            let pending = pending_of directive.now in
+            state_of self.new session.now
+            ≡ performed (named_entries (order s) pending (import_vis (D.oracle db.now) s pending) answer.now (bound_name directive.now.import.now)) s) }
+        ensures frame { OnOk result (self.new ≡ record self.old { table = self.new.table }) }
+    {
+        let Some(name) = import_name(directive.import) else {
+            return Ok(());
+        };
+        let vis = self.resolve_visibility(db, session, directive.module_id, directive.vis);
+        let found = &answer.resolved_def;
+        self.put_import(
+            directive,
+            vis,
+            name,
+            Namespace::Types,
+            kept_item(answer, found.types),
+        )?;
+        self.put_import(
+            directive,
+            vis,
+            name,
+            Namespace::Values,
+            kept_item(answer, found.values),
+        )?;
+        self.put_import(
+            directive,
+            vis,
+            name,
+            Namespace::Macros,
+            kept_item(answer, found.macros),
+        )
+    }
+
+    /// Puts what an import gives in one namespace, if it gives something there.
+    fn put_import(
+        &mut self,
+        directive: &ImportDirective,
+        import_vis: Visibility,
+        name: Option<Name>,
+        ns: Namespace,
+        item: Option<Item>,
+    ) -> Result<(), AllocError>
+        ensures state { OnOk result ((session : Interner) →
+            let s = state_of self.old session in
+            state_of self.new session ≡ performed (entry_of (order s) (pending_of directive.now) import_vis name ns item) s) }
+        ensures frame { OnOk result (self.new ≡ record self.old { table = self.new.table }) }
+    {
+        let Some(item) = item else {
+            return Ok(());
+        };
+        let vis = lesser_or_import(&self.def_map.tree, item.vis, import_vis);
+        self.put(
+            directive.module_id,
+            Entry {
+                name,
+                ns,
+                def: item.def,
+                vis,
+                origin: Some(directive.origin()),
+            },
+        )
+    }
+
+    /// Drops the entries that imports left behind.
+    fn drop_resolved(&mut self)
+        ensures { (session : Interner) → state_of self.new session ≡ state_of self.old session }
+    {
+        drop_left(&mut self.unresolved_imports);
+        drop_left(&mut self.indeterminate_imports);
+    }
+}
+
+/// What stands for an import that was recorded once more, if it may be again.
+fn still_partial<'a>(
+    directive: ImportDirective<'a>,
+    recorded: Option<NamespaceSet>,
+) -> Option<PartialDirective<'a>>
+    ensures { result ≡ option_map (λ r. record { directive = directive.entry; recorded = r }) recorded }
+{
+    match recorded {
+        Some(recorded) => Some(PartialDirective {
+            directive,
+            recorded,
+        }),
+        None => None,
+    }
+}
+
+/// Drops the entries that are left.
+fn drop_left<T: Drop>(entries: &mut Vec<Option<T>>)
+    ensures { waiting entries.new.items ≡ waiting entries.old.items }
+{
+    entries.retain(|entry| entry.is_some());
+}
