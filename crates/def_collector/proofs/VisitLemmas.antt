@@ -77,7 +77,7 @@ module _ (oracle : Oracle) (frames : List Frame) (frame : Frame) where
       turn_closed opened none handled =
           subst (λ fs. Leads oracle (agenda_of (frames ++ frame ∷ [])) s (agenda_of fs) t) (sym taken)
           (visits_closed frames frame id found oracle s t item (node_of id (Some item) (all_last (is_known oracle) frames frame known) there)
-              (subst (λ o. Handled oracle s t (frame_site frame) item (inner_of (record { module_id = frame.module_id; tree_id = frame.tree_id }) o item)) none handled))
+          (subst (λ o. Handled oracle s t (frame_site frame) item (inner_of (record { module_id = frame.module_id; tree_id = frame.tree_id }) o item)) none handled))
 
       module _ (child : ModuleId) (items : Bor (List ModItemId)) (children : items.now ≡ children_of item) (last : List Frame) (pushed : last ≡ next ++ opened_frame frame child items ∷ []) where
         both : last ≡ (frames ++ after_turn frame ∷ []) ++ opened_frame frame child items ∷ []
@@ -89,7 +89,7 @@ module _ (oracle : Oracle) (frames : List Frame) (frame : Frame) where
         turn_opened opened some handled =
             subst (λ fs. Leads oracle (agenda_of (frames ++ frame ∷ [])) s (agenda_of fs) t) (sym both)
             (visits_opened frames frame id found oracle s t child items item (node_of id (Some item) (all_last (is_known oracle) frames frame known) there) children
-                (subst (λ o. Handled oracle s t (frame_site frame) item (inner_of (record { module_id = frame.module_id; tree_id = frame.tree_id }) o item)) some handled))
+            (subst (λ o. Handled oracle s t (frame_site frame) item (inner_of (record { module_id = frame.module_id; tree_id = frame.tree_id }) o item)) some handled))
 
         pub opened_known : All (is_known oracle) last
         opened_known = all_pushed (is_known oracle) next last (opened_frame frame child items) pushed turn_known (all_last (is_known oracle) frames frame known)

@@ -13,8 +13,8 @@ returns-in_default-clause-state g c =
 pub returns-clause-state : goal.returns-clause-state
 returns-clause-state g c =
     on_ok c.put_import-3.result c.put_import-3.ensures.state (λ third.
-        recorded_named (state_of c.args.self.now c.args.session.now) (state_of c.put_import.new.self c.args.session.now) (state_of c.put_import-2.new.self c.args.session.now) (state_of c.put_import-3.new.self c.args.session.now)
-        (pending_of c.args.directive.now) c.resolve_visibility-vis.result (import_vis (g.D.SourceDatabase.oracle c.args.db.now) (state_of c.args.self.now c.args.session.now) (pending_of c.args.directive.now))
-        c.args.answer.now c.in-Some.name (bound_name c.args.directive.now.import.now) c.kept_item.result c.kept_item-2.result c.kept_item-3.result
-        (sym c.in-Some.is ∙ c.import_name.ensures) c.resolve_visibility-vis.ensures c.kept_item.ensures c.kept_item-2.ensures c.kept_item-3.ensures
-        (c.in_ok-put_import.ensures.state c.args.session.now) (c.in_ok-put_import-2.ensures.state c.args.session.now) (third c.args.session.now))
+    recorded_named (state_of c.args.self.now c.args.session.now) (state_of c.put_import.new.self c.args.session.now) (state_of c.put_import-2.new.self c.args.session.now) (state_of c.put_import-3.new.self c.args.session.now)
+    (pending_of c.args.directive.now) c.resolve_visibility-vis.result (import_vis (g.D.SourceDatabase.oracle c.args.db.now) (state_of c.args.self.now c.args.session.now) (pending_of c.args.directive.now))
+    c.args.answer.now c.in-Some.name (bound_name c.args.directive.now.import.now) c.kept_item.result c.kept_item-2.result c.kept_item-3.result
+    (sym c.in-Some.is ∙ c.import_name.ensures) c.resolve_visibility-vis.ensures c.kept_item.ensures c.kept_item-2.ensures c.kept_item-3.ensures
+    (c.in_ok-put_import.ensures.state c.args.session.now) (c.in_ok-put_import-2.ensures.state c.args.session.now) (third c.args.session.now))

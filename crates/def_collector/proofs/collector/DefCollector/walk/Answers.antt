@@ -14,7 +14,7 @@ frames-init g c =
     let one = c.in_ok-push.ensures.items ∙ ap (λ fs. fs ++ c.args.first ∷ []) c.new-frames.ensures.items in
     record {
       run = subst (λ fs. Leads oracle (agenda_of (c.args.first ∷ [])) (state_of c.args.self.now c.args.session.now) (agenda_of fs) (state_of c.args.self.now c.args.session.now)) (sym one)
-      (leads_refl (agenda_of (c.args.first ∷ [])) (state_of c.args.self.now c.args.session.now));
+          (leads_refl (agenda_of (c.args.first ∷ [])) (state_of c.args.self.now c.args.session.now));
       known = all_pushed (is_known oracle) [] c.push.new.self.items c.args.first one (all_none (is_known oracle)) c.requires;
       grows = grows_refl (session_of c.args.session.now);
     }
@@ -24,7 +24,7 @@ frames-preserved g c =
     let oracle = g.D.SourceDatabase.oracle c.args.db.now in
     record {
       run = leads_trans c.frames.invariant.run
-      (subst (λ fs. Leads oracle (agenda_of fs) (state_of c.frames.self c.frames.session) (agenda_of c.visit_next.new.frames.items) (state_of c.visit_next.new.self c.visit_next.new.session)) (sym c.in-Some.ensures.items) c.in_ok-visit_next.ensures.run);
+          (subst (λ fs. Leads oracle (agenda_of fs) (state_of c.frames.self c.frames.session) (agenda_of c.visit_next.new.frames.items) (state_of c.visit_next.new.self c.visit_next.new.session)) (sym c.in-Some.ensures.items) c.in_ok-visit_next.ensures.run);
       known = c.in_ok-visit_next.ensures.known;
       grows = grows_trans (session_of c.args.session.now) (session_of c.frames.session) (session_of c.visit_next.new.session) c.frames.invariant.grows c.visit_next.ensures.session;
     }
