@@ -11,7 +11,6 @@ use item_tree::{Name, NameTable};
 use std::alloc::{AllocError, Global};
 
 /// The names and locations of a session, each in the order in which they were first met.
-#[derive(Drop)]
 pub struct Interner {
     pub names: NameTable,
     pub functions: Numbering<FunctionLoc>,
@@ -30,6 +29,30 @@ pub struct Interner {
     pub macro2s: Numbering<Macro2Loc>,
     pub proc_macros: Numbering<ProcMacroLoc>,
     pub builtin_derive_impls: Numbering<BuiltinDeriveImplLoc>,
+}
+
+impl Drop for Interner {
+    fn drop(self) {
+        let Interner {
+            names: _,
+            functions: _,
+            structs: _,
+            unions: _,
+            enums: _,
+            consts: _,
+            statics: _,
+            traits: _,
+            type_aliases: _,
+            impls: _,
+            uses: _,
+            extern_crates: _,
+            extern_blocks: _,
+            macro_rules: _,
+            macro2s: _,
+            proc_macros: _,
+            builtin_derive_impls: _,
+        } = self;
+    }
 }
 
 impl Interner {

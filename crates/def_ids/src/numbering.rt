@@ -10,9 +10,14 @@ use std::hash::Hash;
 use std::marker::Model;
 
 /// Values in the order in which they were first met. A contract sees their list.
-#[derive(Drop)]
 pub struct Numbering<T: Eq + Hash> {
     values: IndexSet<T>,
+}
+
+impl<T: Eq + Hash + Drop> Drop for Numbering<T> {
+    fn drop(self) {
+        let Numbering { values: _ } = self;
+    }
 }
 
 impl<T: Eq + Hash> Model for Numbering<T> {

@@ -21,10 +21,15 @@ use item_tree::{Crate, Name, Seq};
 use std::alloc::{AllocError, Global};
 
 /// A map of the definitions of a crate, or of one of its blocks.
-#[derive(Drop)]
 pub struct DefMap {
     pub(crate) data: MapData,
     pub(crate) table: Table,
+}
+
+impl Drop for DefMap {
+    fn drop(self) {
+        let DefMap { data: _, table: _ } = self;
+    }
 }
 
 impl DefMap {
