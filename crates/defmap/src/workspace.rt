@@ -1,0 +1,127 @@
+//! A scripted workspace at work: a session, and the database of its files and crates.
+
+ghost use Rattle.std.specs.Prelude.{◌≡◌, IfOk};
+ghost use Rattle.def_ids.specs.Session.{Grows, session_of};
+ghost use Rattle.def_collector.specs.Collector.{shown};
+ghost use Rattle.def_collector.specs.Headline.{Answers};
+ghost use Rattle.defmap.specs.Scripted.{answers_of};
+ghost use Rattle.defmap.specs.Workspace.{file_tree, setting};
+
+use crate::script::{CrateText, DependencyText, Line, Vector};
+use crate::scripted::Scripted;
+use crate::trees::tree_of;
+use def_collector::{Collected, collect_defs};
+use def_ids::Interner;
+use def_map::{CrateData, DefMap, Dependency};
+use item_tree::{Crate, FileId, HirFileId, Seq, TreeId};
+use std::alloc::{AllocError, Global};
+
+/// A session, and a database whose answers are in its names.
+#[derive(Drop)]
+pub struct Workspace {
+    pub alloc: Global,
+    pub session: Interner,
+    pub db: Scripted,
+}
+
+impl Workspace {
+    /// A workspace that knows nothing.
+    fn empty(alloc: Global) -> Result<Workspace, AllocError> {
+        Ok(Workspace {
+            alloc,
+            session: Interner::new(alloc)?,
+            db: Scripted::new(alloc),
+        })
+    }
+
+    /// Adds the files and crates of a vector.
+    fn fill(&mut self, vector: &Vector) -> Result<(), AllocError> {
+        for (number, lines) in vector.files.iter().enumerate() {
+            self.add_file(FileId(number), lines)?;
+        }
+        for krate in vector.crates {
+            self.add_crate(krate)?;
+        }
+        Ok(())
+    }
+
+    /// The workspace of a vector, with no crate collected.
+    pub fn new(alloc: Global, vector: &Vector) -> Result<Workspace, AllocError> {
+        let mut workspace = Workspace::empty(alloc)?;
+        workspace.fill(vector)?;
+        Ok(workspace)
+    }
+
+    /// Adds a file. One whose lines make no tree is not there.
+    fn add_file(&mut self, file: FileId, lines: &[Line]) -> Result<(), AllocError> {
+        if let Ok(tree) = tree_of(self.alloc, &mut self.session, lines)? {
+            self.db.files.trees.insert(tree_id(file), tree)?;
+        }
+        Ok(())
+    }
+
+    fn dependency(&mut self, text: &DependencyText) -> Result<Dependency, AllocError> {
+        Ok(Dependency {
+            name: self.session.intern_name(text.name)?,
+            krate: Crate(text.krate),
+            prelude: text.prelude,
+            sysroot: text.sysroot,
+        })
+    }
+
+    /// Adds what is known of a crate.
+    fn add_crate(&mut self, text: &CrateText) -> Result<(), AllocError> {
+        let mut deps = Seq::from_vec(Vec::new(self.alloc));
+        for dependency in text.deps {
+            deps.push(self.dependency(dependency)?)?;
+        }
+        let data = CrateData {
+            root_file: FileId(text.root_file),
+            proc_macro: false,
+            lang: None,
+            deps,
+        };
+        self.db.crates.known.insert(Crate(text.krate), data)?;
+        Ok(())
+    }
+
+    /// Collects the definitions of a crate.
+    pub fn collect(&mut self, text: &CrateText) -> Result<Collected, AllocError>
+        // What is answered ends a run over the crate.
+        ensures answers { IfOk result (λ collected.
+            Answers (setting (answers_of self.old.db) text.now)
+            (session_of self.old.session) (session_of self.new.session) (shown collected)) }
+        ensures session { Grows (session_of self.old.session) (session_of self.new.session) }
+        ensures db { self.new.db ≡ self.old.db }
+    {
+        let seeded = DefMap::seed(self.alloc, Crate(text.krate), text.edition, None)?;
+        let tree = tree_id(FileId(text.root_file));
+        collect_defs(self.alloc, &self.db, &mut self.session, seeded, tree, None)
+    }
+
+    /// Collects the definitions of a crate, and hands their map to the crates that depend on it.
+    pub fn collect_dependency(&mut self, text: &CrateText) -> Result<(), AllocError> {
+        let Collected {
+            def_map,
+            local_def_map,
+            outcome: _,
+            diagnostics: _,
+        } = self.collect(text)?;
+        self.db.crates.maps.insert(Crate(text.krate), def_map)?;
+        self.db
+            .crates
+            .local_maps
+            .insert(Crate(text.krate), local_def_map)?;
+        Ok(())
+    }
+}
+
+/// The tree of a file.
+fn tree_id(file: FileId) -> TreeId
+    ensures { result ≡ file_tree file }
+{
+    TreeId {
+        file: HirFileId::File(file),
+        block: None,
+    }
+}
