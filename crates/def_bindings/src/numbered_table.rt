@@ -17,13 +17,18 @@ use std::alloc::{AllocError, Global};
 
 /// All bindings in one numbered list with one index over places, and so the unnamed traits and the
 /// edges; and the names of each module in first-bound order.
-#[derive(Drop)]
 pub struct NumberedTable<V> {
     places: IndexMap<Place, Binding<V>>,
     names: Lists<Name>,
     unnamed: Keyed<TraitId, V>,
     edges: Keyed<ModuleId, Link<V>>,
     ghost tied: { AreTied (bindings_of places) (lists_of names) },
+}
+
+impl<V: Drop> Drop for NumberedTable<V> {
+    fn drop(self) {
+        let NumberedTable { places: _, names: _, unnamed: _, edges: _ } = self;
+    }
 }
 
 /// Whether a name has a binding in some namespace.

@@ -10,10 +10,15 @@ use item_tree::Name;
 use std::alloc::{AllocError, Global};
 
 /// A row for each module that has something.
-#[derive(Drop)]
 pub struct ScopeTable<V> {
     alloc: Global,
     rows: IndexMap<ModuleId, Row<V>>,
+}
+
+impl<V: Drop> Drop for ScopeTable<V> {
+    fn drop(self) {
+        let ScopeTable { alloc: _, rows: _ } = self;
+    }
 }
 
 impl<V: Copy> ScopeTable<V> {

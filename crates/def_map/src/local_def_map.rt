@@ -17,9 +17,14 @@ pub struct ExternPreludeEntry {
 }
 
 /// The extern prelude of a crate.
-#[derive(Drop)]
 pub struct LocalDefMap {
     pub extern_prelude: IndexMap<Name, ExternPreludeEntry>,
+}
+
+impl Drop for LocalDefMap {
+    fn drop(self) {
+        let LocalDefMap { extern_prelude: _ } = self;
+    }
 }
 
 impl LocalDefMap {
