@@ -21,7 +21,7 @@ fn list<W: io::Write>(out: &mut W) -> Result<(), Fault> {
 }
 
 /// Collects the crates of a vector, and prints the map of the last.
-fn show<W: io::Write>(alloc: Global, vector: &Vector, out: &mut W) -> Result<(), Fault> {
+pub fn show<W: io::Write>(alloc: Global, vector: &Vector, out: &mut W) -> Result<(), Fault> {
     let mut workspace = Workspace::new(alloc, vector)?;
     show_last(&mut workspace, vector.crates, out)
 }

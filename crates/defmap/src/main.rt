@@ -6,6 +6,8 @@ mod fault;
 mod lines;
 mod script;
 mod scripted;
+#[cfg(test)]
+mod tests;
 mod trees;
 mod vectors;
 mod workspace;

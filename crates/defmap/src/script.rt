@@ -56,6 +56,7 @@ pub struct DependencyText {
 }
 
 /// A crate.
+#[derive(Clone, Copy)]
 pub struct CrateText {
     pub krate: usize,
     pub edition: Edition,
@@ -64,10 +65,18 @@ pub struct CrateText {
     pub deps: &'static [DependencyText],
 }
 
+/// A builtin type, with its number.
+pub struct BuiltinText {
+    pub name: &'static str,
+    pub number: u32,
+}
+
 /// A scripted workspace: its files by number, and its crates, each behind those that it depends
 /// on. The last one is shown.
+#[derive(Clone, Copy)]
 pub struct Vector {
     pub name: &'static str,
     pub files: &'static [&'static [Line]],
     pub crates: &'static [CrateText],
+    pub builtin_types: &'static [BuiltinText],
 }

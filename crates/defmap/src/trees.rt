@@ -120,7 +120,7 @@ fn add_child(parent: &mut ItemNode, child: ModItemId) -> Result<(), AllocError> 
 }
 
 /// The attributes of a file without any.
-fn no_attrs(alloc: Global) -> AttrsOrCfg {
+pub fn no_attrs(alloc: Global) -> AttrsOrCfg {
     AttrsOrCfg::Enabled(Attrs {
         list: Seq::from_vec(Vec::new(alloc)),
     })

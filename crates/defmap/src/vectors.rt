@@ -19,6 +19,7 @@ static VECTORS: [Vector; 2] = [
             root_file: 0,
             deps: &[],
         }],
+        builtin_types: &[],
     },
     // mod a { pub struct S; } use a::S; use a::T;
     Vector {
@@ -72,6 +73,7 @@ static VECTORS: [Vector; 2] = [
             root_file: 0,
             deps: &[],
         }],
+        builtin_types: &[],
     },
 ];
 

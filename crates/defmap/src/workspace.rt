@@ -42,6 +42,10 @@ impl Workspace {
         for krate in vector.crates {
             self.add_crate(krate)?;
         }
+        for text in vector.builtin_types {
+            let name = self.session.intern_name(text.name)?;
+            self.db.types.builtin.insert(name, text.number)?;
+        }
         Ok(())
     }
 

@@ -1,0 +1,10 @@
+//! What no contract says: the printed lines, and worked rows over scripted crates.
+
+mod blocks;
+mod directories;
+mod globs;
+mod paths;
+mod proc_macros;
+mod program;
+mod tables;
+mod trees;

@@ -1,0 +1,153 @@
+//! Blocks over scripted crates.
+#![tactic(auto)]
+
+use crate::script::{CrateText, ImportText, ItemText, Line, PathText, Vector, VisText};
+use crate::trees::tree_of;
+use crate::workspace::Workspace;
+use def_bindings::{Binding, ImportOrExternCrate, Visibility};
+use def_collector::{Collected, collect_defs};
+use def_ids::{Def, Edition, ImportId, MapId, ModuleId, StructId, UseId};
+use def_map::{BlockInfo, DefMap, PerNs};
+use item_tree::{BlockId, Crate, FileId, HirFileId, PathKind, TreeId};
+use std::alloc::{AllocError, Global};
+use std::test::Fail;
+
+/// pub struct S;
+static CRATE: Vector = Vector {
+    name: "crate",
+    files: &[&[Line {
+        depth: 0,
+        item: ItemText::Struct {
+            vis: VisText::Public,
+            name: "S",
+            ctor: Some(VisText::Public),
+        },
+    }]],
+    crates: &[],
+    builtin_types: &[],
+};
+
+/// use S as T;
+static BLOCK: [Line; 1] = [Line {
+    depth: 0,
+    item: ItemText::Use {
+        vis: VisText::PubSelf,
+        imports: &[ImportText {
+            path: PathText {
+                kind: PathKind::Plain,
+                segments: &["S"],
+            },
+            alias: Some("T"),
+        }],
+    },
+}];
+
+const TREE: TreeId = TreeId {
+    file: HirFileId::File(FileId(0)),
+    block: Some(BlockId(0)),
+};
+
+const BLOCK_ROOT: ModuleId = ModuleId {
+    map: MapId {
+        krate: Crate(0),
+        block: Some(BlockId(0)),
+    },
+    index: 0,
+};
+
+/// Collects the crate, and adds the block's tree.
+fn prepare(workspace: &mut Workspace) -> Result<(), AllocError> {
+    workspace.collect_dependency(&CrateText {
+        krate: 0,
+        edition: Edition::Edition2021,
+        root_file: 0,
+        deps: &[],
+    })?;
+    add_block(workspace)
+}
+
+fn add_block(workspace: &mut Workspace) -> Result<(), AllocError> {
+    if let Ok(tree) = tree_of(workspace.alloc, &mut workspace.session, BLOCK.as_slice())? {
+        workspace.db.files.trees.insert(TREE, tree)?;
+    }
+    Ok(())
+}
+
+/// A block within these modules, if they are fit.
+fn block_in(
+    workspace: &Workspace,
+    containing: Vec<ModuleId>,
+) -> Result<Option<BlockInfo>, AllocError> {
+    match workspace.db.crates.maps.get(&Crate(0)) {
+        Some(map) => BlockInfo::new(workspace.alloc, BlockId(0), containing, map),
+        None => Ok(None),
+    }
+}
+
+/// The definitions of the block.
+fn collect(workspace: &mut Workspace, info: BlockInfo) -> Result<Collected, AllocError> {
+    let alloc = workspace.alloc;
+    let seeded = DefMap::seed(alloc, Crate(0), Edition::Edition2021, Some(info))?;
+    let db = &workspace.db;
+    let Some(local) = db.crates.local_maps.get(&Crate(0)) else {
+        return Err(AllocError);
+    };
+    collect_defs(alloc, db, &mut workspace.session, seeded, TREE, Some(local))
+}
+
+/// What T means in the root of the block.
+fn meaning(workspace: &mut Workspace, info: BlockInfo) -> Result<Option<PerNs>, AllocError> {
+    let name = workspace.session.intern_name("T")?;
+    let collected = collect(workspace, info)?;
+    match collected.def_map.scope(0) {
+        Some(scope) => Ok(Some(scope.get(name))),
+        None => Ok(None),
+    }
+}
+
+/// What T means in the root of a block that stands in these modules. None where they are unfit.
+fn meaning_within(
+    workspace: &mut Workspace,
+    containing: Vec<ModuleId>,
+) -> Result<Option<PerNs>, AllocError> {
+    match block_in(workspace, containing)? {
+        Some(info) => meaning(workspace, info),
+        None => Ok(None),
+    }
+}
+
+/// What T means in the root of the block, if it stands once in the root of its crate, and if it
+/// does so twice.
+fn meanings(workspace: &mut Workspace) -> Result<(Option<PerNs>, Option<PerNs>), AllocError> {
+    let alloc = workspace.alloc;
+    let root = ModuleId::crate_root(Crate(0));
+    prepare(workspace)?;
+    let once = meaning_within(workspace, vec![in alloc; root]?)?;
+    let twice = meaning_within(workspace, vec![in alloc; root, root]?)?;
+    Ok((once, twice))
+}
+
+/// The same in a workspace of its own.
+fn meanings_in_block(alloc: Global) -> Result<(Option<PerNs>, Option<PerNs>), AllocError> {
+    let mut workspace = Workspace::new(alloc, &CRATE)?;
+    meanings(&mut workspace)
+}
+
+#[test]
+fn a_block_sees_the_module_that_it_stands_in(rt: HostRuntime) -> Result<(), Fail> {
+    let binding = Some(Binding {
+        def: Def::Struct(StructId(0)),
+        vis: Visibility::Module(BLOCK_ROOT),
+        import: Some(ImportOrExternCrate::Import(ImportId {
+            use_id: UseId(0),
+            idx: 0,
+        })),
+    });
+    let (once, twice) = meanings_in_block(rt.alloc())?;
+    let found = once.ok_or("no root")?;
+    assert!(rt; found.types == binding);
+    assert!(rt; found.values == binding);
+    assert!(rt; found.macros.is_none());
+    assert!(rt; twice.is_none());
+    Ok(())
+}
