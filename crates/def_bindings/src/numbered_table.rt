@@ -27,7 +27,12 @@ pub struct NumberedTable<V> {
 
 impl<V: Drop> Drop for NumberedTable<V> {
     fn drop(self) {
-        let NumberedTable { places: _, names: _, unnamed: _, edges: _ } = self;
+        let NumberedTable {
+            places: _,
+            names: _,
+            unnamed: _,
+            edges: _,
+        } = self;
     }
 }
 
