@@ -21,7 +21,7 @@ use Rattle.def_ids.specs.Ids.{is_same_module}
 use Rattle.def_bindings.specs.Content.{Content, is_name, is_namespace, bound_as, listed_as, is_bound, is_listed, with_name, without_name, if_listed, AreTied, replaced, empty}
 use Rattle.def_bindings.specs.Places.{is_place, place, bindings_of}
 use Rattle.def_bindings.proofs.ByModuleLemmas.{listed_as-same}
-use Rattle.def_bindings.specs.IdLaws.{cases_module, cases_name, module-refl, name-refl, name-sym}
+use Rattle.def_bindings.specs.IdLaws.{both, cases_module, cases_name, module-refl, name-refl, name-sym, name-eq, namespace-eq, same_module_equal}
 
 pub place-parts : (m : ModuleId) (x : Name) (n : Namespace) (m' : ModuleId) (x' : Name) (n' : Namespace)
     → is_place (place m x n) (place m' x' n') ≡ (is_same_module m m' && (is_name x x' && is_namespace n n'))
@@ -181,30 +181,53 @@ pub content-parts : {V : Type 0} (c : Content V) (p p' : ModuleId → Name → N
     → record c { binding = p; names = l } ≡ record c { binding = p'; names = l' }
 content-parts c p p' l l' e f = λ i. record c { binding = e i; names = f i }
 
--- a binding set: what it leaves, and that names and bindings stay tied
-pub numbered-set : {B S : Type 0} (old room new : HashMap Place B S) (l l' : ModuleId → List Name) (m : ModuleId) (x : Name) (n : Namespace) (b : B)
-    → AreTied (bindings_of old) l → room.entries ≡ old.entries
-    → (known : Bool) → known ≡ is_bound (bindings_of old) m x → l' ≡ listed_as l m (if_listed (not known) (l m) x)
-    → ((q : Place) → get is_place new q ≡ cond (is_place (place m x n) q) (Some b) (get is_place room q))
-    → (bindings_of new ≡ bound_as (bindings_of old) m x n (Some b)) × (l' ≡ listed_as l m (with_name (l m) x)) × AreTied (bindings_of new) l'
-numbered-set old room new l l' m x n b tied same known is listed written =
-    let bindings : bindings_of new ≡ bound_as (bindings_of old) m x n (Some b) = bindings-updated room new m x n (Some b) written ∙ ap (λ p. bound_as p m x n (Some b)) (bindings-same old room same) in
-    let names : l' ≡ listed_as l m (with_name (l m) x) =
-    listed ∙ ap (λ k. listed_as l m (if_listed (not k) (l m) x)) is ∙ ap (λ ks. listed_as l m ks) (names-set (bindings_of old) l tied m x n) in
-    (bindings, names, tied-same _ _ _ _ bindings names (tied-set (bindings_of old) l tied m x n b))
+-- a binding set where there was none, and taken out again
+taken_back : {B : Type 0} (p : ModuleId → Name → Namespace → Option B) (m : ModuleId) (x : Name) (n : Namespace) (b : B) → p m x n ≡ None → bound_as (bound_as p m x n (Some b)) m x n None ≡ p
+taken_back p m x n b none = λ i q y k. at q y k i
+  where
+    at : (q : ModuleId) (y : Name) (k : Namespace) → bound_as (bound_as p m x n (Some b)) m x n None q y k ≡ p q y k
+    at q y k =
+        elim (cases_Bool (is_same_module m q && (is_name x y && is_namespace n k))) [
+          | inl h ↦
+              let parts = both _ _ h in
+              let name = both _ _ parts.1 in
+              rw h (sym none ∙ ap (λ z. p z x n) (same_module_equal m q parts.0) ∙ ap (λ z. p q z n) (name-eq x y name.0) ∙ ap (λ z. p q y z) (namespace-eq n k name.1))
+          | inr h ↦ rw h refl
+        ]
+
+module _ {B S : Type 0} (old set : HashMap Place B S) (l : ModuleId → List Name) (m : ModuleId) (x : Name) (n : Namespace) (b : B) (tied : AreTied (bindings_of old) l)
+    (written : (q : Place) → get is_place set q ≡ cond (is_place (place m x n) q) (Some b) (get is_place old q)) where
+  set_as : bindings_of set ≡ bound_as (bindings_of old) m x n (Some b)
+  set_as = bindings-updated old set m x n (Some b) written
+
+  -- a binding set where there was none: what it leaves, and that names and bindings stay tied
+  pub numbered-set : (l' : ModuleId → List Name) → bindings_of old m x n ≡ None
+      → (known : Bool) → known ≡ is_bound (bound_as (bindings_of set) m x n None) m x → l' ≡ listed_as l m (if_listed (not known) (l m) x)
+      → (bindings_of set ≡ bound_as (bindings_of old) m x n (Some b)) × (l' ≡ listed_as l m (with_name (l m) x)) × AreTied (bindings_of set) l'
+  numbered-set l' none known is listed =
+      let before : known ≡ is_bound (bindings_of old) m x = is ∙ ap (λ p. is_bound (bound_as p m x n None) m x) set_as ∙ ap (λ p. is_bound p m x) (taken_back (bindings_of old) m x n b none) in
+      let names : l' ≡ listed_as l m (with_name (l m) x) =
+      listed ∙ ap (λ k. listed_as l m (if_listed (not k) (l m) x)) before ∙ ap (λ ks. listed_as l m ks) (names-set (bindings_of old) l tied m x n) in
+      (set_as, names, tied-same _ _ _ _ set_as names (tied-set (bindings_of old) l tied m x n b))
+
+  -- the same binding taken out again
+  pub numbered-back : (back : HashMap Place B S) → bindings_of old m x n ≡ None
+      → ((q : Place) → get is_place back q ≡ cond (is_place (place m x n) q) None (get is_place set q)) → bindings_of back ≡ bindings_of old
+  numbered-back back none removed =
+      bindings-updated set back m x n None removed ∙ ap (λ p. bound_as p m x n None) set_as ∙ taken_back (bindings_of old) m x n b none
 
 -- a binding taken out
 pub numbered-remove : {B S : Type 0} (old new : HashMap Place B S) (l l' : ModuleId → List Name) (m : ModuleId) (x : Name) (n : Namespace)
     → AreTied (bindings_of old) l
     → ((q : Place) → get is_place new q ≡ cond (is_place (place m x n) q) None (get is_place old q))
-    → (known : Bool) → known ≡ is_bound (bindings_of new) m x → l' ≡ listed_as l m (cond known (l m) (without_name (l m) x))
+    → (known : Bool) → known ≡ is_bound (bound_as (bindings_of old) m x n None) m x → l' ≡ listed_as l m (cond known (l m) (without_name (l m) x))
     → (bindings_of new ≡ bound_as (bindings_of old) m x n None)
     × (l' ≡ listed_as l m (cond (is_bound (bound_as (bindings_of old) m x n None) m x) (l m) (without_name (l m) x)))
     × AreTied (bindings_of new) l'
 numbered-remove old new l l' m x n tied written known is listed =
     let bindings : bindings_of new ≡ bound_as (bindings_of old) m x n None = bindings-updated old new m x n None written in
     let names : l' ≡ listed_as l m (cond (is_bound (bound_as (bindings_of old) m x n None) m x) (l m) (without_name (l m) x)) =
-    listed ∙ ap (λ k. listed_as l m (cond k (l m) (without_name (l m) x))) (is ∙ ap (λ p. is_bound p m x) bindings) in
+    listed ∙ ap (λ k. listed_as l m (cond k (l m) (without_name (l m) x))) is in
     (bindings, names, tied-same _ _ _ _ bindings names (tied-remove (bindings_of old) l tied m x n))
 
 -- names that stay are a list written as it was

@@ -1,8 +1,8 @@
 //! Values by module and key.
-ghost use Rattle.std.specs.Prelude.{◌≡◌, ◌↔◌, ◌<◌, ◌^◌, IsTrue, IsFalse, is_some, true, [], length, slice_get, OnOk, OnErr, Some};
+ghost use Rattle.std.specs.Prelude.{◌≡◌, ◌↔◌, ◌<◌, ◌^◌, IsTrue, IsFalse, is_some, true, [], length, slice_get, OnOk, OnErr};
 ghost use Rattle.std.specs.List.{IsDistinct};
 ghost use Rattle.std.specs.Map.{lookup, keys_of};
-ghost use Rattle.indexmap.specs.IndexMap.{get, insert_entry, keys, Updates};
+ghost use Rattle.indexmap.specs.IndexMap.{get, insert_entry, keys};
 ghost use Rattle.def_bindings.specs.Content.{listed_as};
 ghost use Rattle.def_bindings.specs.Lists.{lists_of};
 ghost use Rattle.def_bindings.specs.Numbers.{AreNumbered, own_entries};
@@ -24,11 +24,10 @@ pub struct Keyed<K: Eq + Hash, W> {
 }
 
 /// Replaces the value of a key that is there, and answers whether it is.
-pub fn replace<K: Copy + Eq + Hash, W: Copy>(entries: &mut IndexMap<K, W>, key: K, value: W) -> bool
+fn replace<K: Copy + Eq + Hash, W: Copy>(entries: &mut IndexMap<K, W>, key: K, value: W) -> bool
     ensures found { result ≡ is_some (get K.eq entries.old key) }
     ensures entries { IsTrue result → entries.new.entries
         ≡ insert_entry K.eq entries.old.entries key value }
-    ensures updates { IsTrue result → Updates K.eq entries.old entries.new key (Some value) }
     ensures same { IsFalse result → entries.new.entries ≡ entries.old.entries }
 {
     match entries.get_mut(&key) {

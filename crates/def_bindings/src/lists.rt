@@ -1,5 +1,5 @@
 //! Lists by module.
-ghost use Rattle.std.specs.Prelude.{◌≡◌, ◌∷◌, [], ◌++◌, ◌<◌, ◌^◌, true, is_some, length, slice_get, OnOk, OnErr};
+ghost use Rattle.std.specs.Prelude.{◌≡◌, ◌∷◌, [], ◌++◌, ◌<◌, ◌^◌, None, length, slice_get, OnOk, OnErr};
 ghost use Rattle.indexmap.specs.IndexMap.{get};
 ghost use Rattle.def_ids.specs.Ids.{is_same_module};
 ghost use Rattle.def_bindings.specs.Content.{listed_as, without_name, if_listed};
@@ -39,14 +39,16 @@ impl<K: Copy> Lists<K> {
         }
     }
 
-    /// Makes a module's list, where it has none.
-    fn reserve(&mut self, module: ModuleId) -> Result<(), AllocError>
-        ensures same { lists_of self.new ≡ lists_of self.old }
-        ensures there { OnOk result (is_some (get is_same_module self.new.lists «module») ≡ true) }
+    /// Begins the list of a module that has none.
+    fn begin(&mut self, module: ModuleId, item: K) -> Result<(), AllocError>
+        requires { get is_same_module self.old.lists «module» ≡ None }
+        ensures done { OnOk result (lists_of self.new
+            ≡ listed_as (lists_of self.old) «module» (lists_of self.old «module» ++ item ∷ [])) }
+        ensures refused { OnErr result (lists_of self.new ≡ lists_of self.old) }
     {
-        if !self.lists.contains_key(&module) {
-            self.lists.insert(module, Vec::new(self.alloc))?;
-        }
+        let mut list = Vec::new(self.alloc);
+        list.push(item)?;
+        self.lists.insert(module, list)?;
         Ok(())
     }
 
@@ -56,13 +58,12 @@ impl<K: Copy> Lists<K> {
             ≡ listed_as (lists_of self.old) «module» (lists_of self.old «module» ++ item ∷ [])) }
         ensures refused { OnErr result (lists_of self.new ≡ lists_of self.old) }
     {
-        self.reserve(module)?;
         match self.lists.get_mut(&module) {
             Some(list) => {
                 list.push(item)?;
                 Ok(())
             }
-            None => Ok(()),
+            None => self.begin(module, item),
         }
     }
 

@@ -1,12 +1,12 @@
 //! A table that keeps all bindings in one numbered list.
-ghost use Rattle.std.specs.Prelude.{◌≡◌, ◌↔◌, IsTrue, is_some, OnOk, OnErr, IfOk};
-ghost use Rattle.def_bindings.specs.Content.{AreTied, is_bound};
+ghost use Rattle.std.specs.Prelude.{◌≡◌, ◌↔◌, IsTrue, None, is_some, OnOk, OnErr, IfOk};
+ghost use Rattle.def_bindings.specs.Content.{AreTied, bound_as, is_bound};
 ghost use Rattle.def_bindings.specs.Lists.{lists_of};
 ghost use Rattle.def_bindings.specs.Places.{bindings_of};
 
 use crate::binding_table::BindingTable;
 use crate::bindings::{Binding, EdgeTo, Namespace};
-use crate::keyed::{Keyed, replace};
+use crate::keyed::Keyed;
 use crate::link::Link;
 use crate::lists::Lists;
 use crate::place::Place;
@@ -36,13 +36,30 @@ impl<V: Drop> Drop for NumberedTable<V> {
     }
 }
 
-/// Whether a name has a binding in some namespace.
-fn is_bound<V: Copy>(places: &IndexMap<Place, Binding<V>>, module: ModuleId, name: Name) -> bool
-    ensures { result ≡ is_bound (bindings_of places.now) «module» name }
+/// Whether a name has a binding in a namespace other than this one.
+fn is_bound_beside<V: Copy>(
+    places: &IndexMap<Place, Binding<V>>,
+    module: ModuleId,
+    name: Name,
+    ns: Namespace,
+) -> bool
+    ensures { result
+        ≡ is_bound (bound_as (bindings_of places.now) «module» name ns None) «module» name }
 {
-    has(places, module, name, Namespace::Types)
-        || has(places, module, name, Namespace::Values)
-        || has(places, module, name, Namespace::Macros)
+    match ns {
+        Namespace::Types => {
+            has(places, module, name, Namespace::Values)
+                || has(places, module, name, Namespace::Macros)
+        }
+        Namespace::Values => {
+            has(places, module, name, Namespace::Types)
+                || has(places, module, name, Namespace::Macros)
+        }
+        Namespace::Macros => {
+            has(places, module, name, Namespace::Types)
+                || has(places, module, name, Namespace::Values)
+        }
+    }
 }
 
 /// Whether there is a binding at a place.
@@ -62,7 +79,7 @@ fn has<V: Copy>(
 }
 
 impl<V: Copy> NumberedTable<V> {
-    ghost use Rattle.def_bindings.specs.Content.{empty, with_binding};
+    ghost use Rattle.def_bindings.specs.Content.{empty};
     ghost use Rattle.def_bindings.specs.NumberedTable.{content_of};
 
     /// A table with nothing in it.
@@ -88,30 +105,6 @@ impl<V: Copy> NumberedTable<V> {
             return false;
         }
         self.edges.is_empty()
-    }
-
-    /// Binds a name in a namespace, for the first time there.
-    fn add(
-        &mut self,
-        module: ModuleId,
-        name: Name,
-        ns: Namespace,
-        binding: Binding<V>,
-    ) -> Result<(), AllocError>
-        ensures done { OnOk result (content_of self.new
-            ≡ with_binding (content_of self.old) «module» name ns binding) }
-        ensures refused { OnErr result (content_of self.new ≡ content_of self.old) }
-    {
-        let new = !is_bound(&self.places, module, name);
-        self.places.reserve(1)?;
-        self.names.push_if(new, module, name)?;
-        let place = Place {
-            at: module,
-            name,
-            ns,
-        };
-        self.places.insert(place, binding)?;
-        Ok(())
     }
 }
 
@@ -174,10 +167,17 @@ impl<V: Copy> BindingTable for NumberedTable<V> {
             name,
             ns,
         };
-        if replace(&mut self.places, place, binding) {
+        if self.places.insert(place, binding)?.is_some() {
             return Ok(());
         }
-        self.add(module, name, ns, binding)
+        let new = !is_bound_beside(&self.places, module, name, ns);
+        match self.names.push_if(new, module, name) {
+            Ok(()) => Ok(()),
+            Err(refused) => {
+                let _ = self.places.swap_remove(&place);
+                Err(refused)
+            }
+        }
     }
 
     fn remove(&mut self, module: ModuleId, name: Name, ns: Namespace) {
@@ -186,8 +186,9 @@ impl<V: Copy> BindingTable for NumberedTable<V> {
             name,
             ns,
         };
+        let stays = is_bound_beside(&self.places, module, name, ns);
         let _ = self.places.swap_remove(&place);
-        if !is_bound(&self.places, module, name) {
+        if !stays {
             self.names.remove(module, name);
         }
     }

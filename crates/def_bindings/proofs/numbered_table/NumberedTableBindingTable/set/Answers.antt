@@ -1,38 +1,53 @@
-use Rattle.std.proofs.Common.{sym, ap, ◌∙◌, refl, inl, inr}
-use Rattle.std.proofs.lemmas.Bool.{cases_Bool}
-use Rattle.def_bindings.specs.Content.{with_binding}
+use Rattle.std.proofs.Common.{sym, ap, ◌∙◌}
+use Rattle.std.specs.Prelude.{is_some}
 use Rattle.def_bindings.specs.Lists.{lists_of}
 use Rattle.def_bindings.specs.NumberedTable.{content_of}
-use Rattle.def_bindings.proofs.NumberedTableLemmas.{bindings-same, content-parts, numbered-reset, tied-same}
-use Rattle.def_bindings.proofs.ResultLemmas.{OnOk_then, OnErr_then}
+use Rattle.def_bindings.proofs.NumberedTableLemmas.{content-parts, numbered-set, numbered-back, numbered-reset, tied-same}
+use Rattle.def_bindings.proofs.ResultLemmas.{none_there}
 use Rattle.def_bindings.proofs.numbered_table.NumberedTableBindingTable.set.Goals as goal
 
-pub invariant_of-self : goal.invariant_of-self
-invariant_of-self g c =
-    let names = lists_of c.args.self.now.names in
-    elim (cases_Bool c.replace.result) [
-      | inl found ↦
-          let written = numbered-reset c.args.self.now.places c.replace.new.entries names c.args.module c.args.name c.args.ns c.args.binding
-          c.args.self.now.tied (sym c.replace.ensures.found ∙ found) (c.replace.ensures.updates found).0 in
-          record { tied = written.2 }
-      | inr absent ↦
-          record { tied = tied-same _ _ names names (bindings-same c.args.self.now.places c.replace.new.entries (c.replace.ensures.same absent)) refl c.args.self.now.tied }
-    ]
+pub invariant_of-self-then-is_some : goal.invariant_of-self-then-is_some
+invariant_of-self-then-is_some g c =
+    let t = c.args.self.now in
+    let there = ap is_some (sym c.in_ok-insert.ensures.old) ∙ sym c.is_some.ensures ∙ c.if-is_some.true in
+    let written = numbered-reset t.places c.insert.new.self (lists_of t.names) c.args.module c.args.name c.args.ns c.args.binding t.tied there c.in_ok-insert.ensures.updates.0 in
+    record { tied = written.2 }
 
-pub returns-then-replace-clause-done : goal.returns-then-replace-clause-done
-returns-then-replace-clause-done g c =
-    let written = numbered-reset c.args.self.now.places c.replace.new.entries (lists_of c.args.self.now.names) c.args.module c.args.name c.args.ns c.args.binding
-    c.args.self.now.tied (sym c.replace.ensures.found ∙ c.if-replace.true) (c.replace.ensures.updates c.if-replace.true).0 in
-    content-parts (content_of c.args.self.now) _ _ _ _ written.0 written.1
+pub returns-then-is_some-clause-done : goal.returns-then-is_some-clause-done
+returns-then-is_some-clause-done g c =
+    let t = c.args.self.now in
+    let there = ap is_some (sym c.in_ok-insert.ensures.old) ∙ sym c.is_some.ensures ∙ c.if-is_some.true in
+    let written = numbered-reset t.places c.insert.new.self (lists_of t.names) c.args.module c.args.name c.args.ns c.args.binding t.tied there c.in_ok-insert.ensures.updates.0 in
+    content-parts (content_of t) _ _ _ _ written.0 written.1
 
-pub returns-clause-done : goal.returns-clause-done
-returns-clause-done g c =
-    let names = lists_of c.args.self.now.names in
-    let before = content-parts (content_of c.args.self.now) _ _ names names (bindings-same c.args.self.now.places c.replace.new.entries (c.replace.ensures.same c.if-replace.false)) refl in
-    OnOk_then c.add.result c.add.ensures.done (λ done. done ∙ ap (λ k. with_binding k c.args.module c.args.name c.args.ns c.args.binding) before)
+pub invariant_of-self-in-Ok : goal.invariant_of-self-in-Ok
+invariant_of-self-in-Ok g c =
+    let t = c.args.self.now in
+    let none = none_there (ap is_some (sym c.in_ok-insert.ensures.old) ∙ sym c.is_some.ensures ∙ c.if-is_some.false) in
+    let written = numbered-set t.places c.insert.new.self (lists_of t.names) c.args.module c.args.name c.args.ns c.args.binding t.tied c.in_ok-insert.ensures.updates.0
+    (lists_of c.push_if.new.self) none c.is_bound_beside-new.result c.is_bound_beside-new.ensures c.in-Ok.ensures.done in
+    record { tied = written.2 }
 
-pub returns-clause-refused : goal.returns-clause-refused
-returns-clause-refused g c =
-    let names = lists_of c.args.self.now.names in
-    let before = content-parts (content_of c.args.self.now) _ _ names names (bindings-same c.args.self.now.places c.replace.new.entries (c.replace.ensures.same c.if-replace.false)) refl in
-    OnErr_then c.add.result c.add.ensures.refused (λ same. same ∙ before)
+pub returns-in-Ok-clause-done : goal.returns-in-Ok-clause-done
+returns-in-Ok-clause-done g c =
+    let t = c.args.self.now in
+    let none = none_there (ap is_some (sym c.in_ok-insert.ensures.old) ∙ sym c.is_some.ensures ∙ c.if-is_some.false) in
+    let written = numbered-set t.places c.insert.new.self (lists_of t.names) c.args.module c.args.name c.args.ns c.args.binding t.tied c.in_ok-insert.ensures.updates.0
+    (lists_of c.push_if.new.self) none c.is_bound_beside-new.result c.is_bound_beside-new.ensures c.in-Ok.ensures.done in
+    content-parts (content_of t) _ _ _ _ written.0 written.1
+
+pub invariant_of-self-in-Err : goal.invariant_of-self-in-Err
+invariant_of-self-in-Err g c =
+    let t = c.args.self.now in
+    let none = none_there (ap is_some (sym c.in_ok-insert.ensures.old) ∙ sym c.is_some.ensures ∙ c.if-is_some.false) in
+    let back = numbered-back t.places c.insert.new.self (lists_of t.names) c.args.module c.args.name c.args.ns c.args.binding t.tied c.in_ok-insert.ensures.updates.0
+    c.swap_remove.new.self none c.swap_remove.ensures.updates.0 in
+    record { tied = tied-same _ _ _ _ back c.in-Err.ensures.refused t.tied }
+
+pub returns-in-Err-clause-refused : goal.returns-in-Err-clause-refused
+returns-in-Err-clause-refused g c =
+    let t = c.args.self.now in
+    let none = none_there (ap is_some (sym c.in_ok-insert.ensures.old) ∙ sym c.is_some.ensures ∙ c.if-is_some.false) in
+    let back = numbered-back t.places c.insert.new.self (lists_of t.names) c.args.module c.args.name c.args.ns c.args.binding t.tied c.in_ok-insert.ensures.updates.0
+    c.swap_remove.new.self none c.swap_remove.ensures.updates.0 in
+    content-parts (content_of t) _ _ _ _ back c.in-Err.ensures.refused
