@@ -1,6 +1,7 @@
 pub mod ContentLemmas
 pub mod ByModuleLemmas
 pub mod ResultLemmas
+pub mod LinkLemmas
 pub mod RowEntriesLemmas
 pub mod ScopeTableLemmas
 pub mod NumbersLemmas

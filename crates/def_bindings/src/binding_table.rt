@@ -2,6 +2,7 @@
 ghost use Rattle.std.specs.Prelude.{◌≡◌, ◌<◌, ◌^◌, List, length, slice_get, OnOk, OnErr};
 ghost use Rattle.def_ids.specs.declared.ids.ModuleId.{ModuleId};
 ghost use Rattle.def_bindings.specs.Content.{Content, with_binding, without_binding, with_unnamed, with_edge, vis_of, AreSources, AreTied};
+ghost use Rattle.def_bindings.specs.Puts.{edge_to};
 
 use crate::bindings::{Binding, EdgeTo, Namespace};
 use def_ids::{ModuleId, TraitId};
@@ -36,6 +37,10 @@ pub trait BindingTable {
     fn edge_at(&self, module: ModuleId, index: usize) -> Option<EdgeTo<Self::Vis>>
         ensures edge { result ≡ slice_get ((content self.now).edges «module») index }
         ensures few { length ((content self.now).edges «module») < 2 ^ 64 };
+
+    /// The edge to an importer, where the module has one.
+    fn edge_to(&self, module: ModuleId, importer: ModuleId) -> Option<EdgeTo<Self::Vis>>
+        ensures { result ≡ edge_to ((content self.now).edges «module») importer };
 
     fn set(
         &mut self,

@@ -151,6 +151,17 @@ impl<V: Copy> BindingTable for NumberedTable<V> {
         }
     }
 
+    fn edge_to(&self, module: ModuleId, importer: ModuleId) -> Option<EdgeTo<V>> {
+        match self.edges.get(module, importer) {
+            Some(link) => Some(EdgeTo {
+                importer,
+                vis: link.vis,
+                glob: link.glob,
+            }),
+            None => None,
+        }
+    }
+
     fn set(
         &mut self,
         module: ModuleId,

@@ -6,6 +6,7 @@ ghost use Rattle.def_ids.specs.Ids.{is_same_module};
 ghost use Rattle.def_bindings.specs.Content.{is_name, is_trait, vis_of};
 ghost use Rattle.def_bindings.specs.Link.{link_of};
 ghost use Rattle.def_bindings.specs.NameBindings.{with_bound};
+ghost use Rattle.def_bindings.specs.Puts.{edge_to};
 ghost use Rattle.def_bindings.specs.RowEntries.{bindings_at, bindings_left, are_bound};
 
 use crate::bindings::{Binding, EdgeTo, Namespace};
@@ -96,6 +97,20 @@ impl<V: Copy> Row<V> {
             vis: link.vis,
             glob: link.glob,
         })
+    }
+
+    /// The edge to an importer, where there is one.
+    pub fn edge_to(&self, importer: ModuleId) -> Option<EdgeTo<V>>
+        ensures { result ≡ edge_to (row_edges self.now) importer }
+    {
+        match self.edges.get(&importer) {
+            Some(link) => Some(EdgeTo {
+                importer,
+                vis: link.vis,
+                glob: link.glob,
+            }),
+            None => None,
+        }
     }
 
     /// Binds a name in a namespace.

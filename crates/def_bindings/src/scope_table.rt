@@ -92,6 +92,13 @@ impl<V: Copy> BindingTable for ScopeTable<V> {
         }
     }
 
+    fn edge_to(&self, module: ModuleId, importer: ModuleId) -> Option<EdgeTo<V>> {
+        match self.rows.get(&module) {
+            Some(row) => row.edge_to(importer),
+            None => None,
+        }
+    }
+
     fn set(
         &mut self,
         module: ModuleId,

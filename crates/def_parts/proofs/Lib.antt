@@ -11,7 +11,6 @@ pub mod IterationLemmas
 pub mod PlacedLemmas
 pub mod UpdateLemmas
 pub mod AddingLemmas
-pub mod SeekingLemmas
 pub mod EdgesLemmas
 pub mod DirectoriesLemmas
 pub mod DirectoriesFacts

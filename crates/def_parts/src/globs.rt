@@ -1,8 +1,7 @@
 //! A table whose names travel along its glob edges.
 ghost use Rattle.std.specs.Prelude.{◌≡◌, OnOk, OnErr};
-ghost use Rattle.def_ids.specs.Ids.{is_same_module};
 ghost use Rattle.def_bindings.specs.Content.{without_binding};
-ghost use Rattle.def_bindings.specs.Puts.{edge_to, joined};
+ghost use Rattle.def_bindings.specs.Puts.{joined};
 ghost use Rattle.def_parts.specs.Waves.{KeepsGlobs, AddsEdge};
 ghost use Rattle.def_parts.specs.Globs.{Updates, ClosesTo, KeepsClosed, KeepsCoherent, with_recorded, KeepsClosedWith, KeepsBegins, StaysCoherent};
 
@@ -14,31 +13,6 @@ use item_tree::Name;
 use std::alloc::{AllocError, Global};
 use std::marker::Model;
 use wave::{put_list, spread};
-
-/// Whether two modules are one.
-fn are_same(a: ModuleId, b: ModuleId) -> bool
-    ensures { result ≡ is_same_module a b }
-{
-    a == b
-}
-
-/// The edge between two modules, if there is one.
-fn edge_between<T: BindingTable>(
-    table: &T,
-    source: ModuleId,
-    importer: ModuleId,
-) -> Option<EdgeTo<T::Vis>>
-    ensures { result ≡ edge_to ((T.content table.now).edges source) importer }
-{
-    let mut index = 0;
-    'edges: while let Some(edge) = table.edge_at(source, index) {
-        if are_same(edge.importer, importer) {
-            return Some(edge);
-        }
-        index += 1;
-    }
-    None
-}
 
 /// An edge beside the one that is there.
 fn join<O: VisOrder>(
@@ -165,7 +139,7 @@ impl<T: BindingTable> Globs<T> {
             (AddsEdge source importer glob (T.content self.old) (T.content self.new)) }
         ensures refused { OnErr result (T.content self.new ≡ T.content self.old) }
     {
-        let there = edge_between(&self.table, source, importer);
+        let there = self.table.edge_to(source, importer);
         let edge = join(
             order,
             there,
