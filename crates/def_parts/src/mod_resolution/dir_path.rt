@@ -67,10 +67,10 @@ impl DirPath {
         ensures { IfOk result (λ path. pieces_of (string_bytes path)
             ≡ self.now ++ pieces_of (name.now ++ end.now)) }
     {
-        let mut path = self.path.clone()?;
-        path.push_str(name)?;
-        path.push_str(end)?;
-        Ok(path)
+        let mut file = self.path.clone()?;
+        file.push_str(name)?;
+        file.push_str(end)?;
+        Ok(file)
     }
 
     /// The path.

@@ -5,7 +5,7 @@ use Rattle.def_parts.proofs.mod_resolution.dir_path.DirPath.join_file.Goals as g
 
 pub returns : goal.returns
 returns c =
-    let copy : string_bytes c.in_ok-path.path ≡ string_bytes c.self.inside.path = c.in_ok-path.ensures.cases in
+    let copy : string_bytes c.in_ok-file.file ≡ string_bytes c.self.inside.path = c.in_ok-file.ensures.cases in
     let whole : string_bytes c.push_str-2.new.self ≡ (string_bytes c.self.inside.path ++ c.args.name.now) ++ c.args.end.now =
     c.in_ok-push_str-2.ensures.bytes ∙ ap (λ xs. xs ++ c.args.end.now) (c.in_ok-push_str.ensures.bytes ∙ ap (λ xs. xs ++ c.args.name.now) copy) in
     rw (← c.self.view_is) (joined_file (string_bytes c.self.inside.path) c.args.name.now c.args.end.now (string_bytes c.push_str-2.new.self) c.self.invariant whole)
