@@ -1,22 +1,25 @@
 -- States after what an item puts.
-use Rattle.std.proofs.Common.{◌≡◌, ◌<◌, ◌+◌, ℕ, List, length, map, take, get_or, Option, [], ◌∷◌, ◌++◌, Some, None, refl, sym, ap, subst, ◌∙◌, append-nil, append_assoc}
+use Rattle.std.proofs.Common.{◌≡◌, ◌<◌, ◌+◌, ℕ, Bool, List, length, map, take, get_or, Option, [], ◌∷◌, ◌++◌, Some, None, refl, sym, ap, subst, ◌∙◌, append-nil, append_assoc}
 use Rattle.std.proofs.lemmas.List.{map_more}
 use Rattle.item_tree.specs.declared.ids.FileAstId.{FileAstId}
 use Rattle.item_tree.specs.declared.ids.InFile.{InFile}
 use Rattle.item_tree.specs.declared.items.CtorVisibility.{CtorVisibility}
 use Rattle.item_tree.specs.declared.items.ItemNode.{ItemNode}
 use Rattle.item_tree.specs.declared.items.ModContents.{ModContents}
-use Rattle.item_tree.specs.declared.items.ModItemKind.TheVariants.{Mod, Use, Struct}
+use Rattle.item_tree.specs.declared.items.ModItemKind.TheVariants.{Mod, Use, ExternBlock, Impl, Struct, Union, Enum, Function, Const, Static, Trait, TypeAlias}
 use Rattle.item_tree.specs.declared.items.RawVisibility.{RawVisibility}
 use Rattle.item_tree.specs.declared.items.UseImport.{UseImport}
 use Rattle.item_tree.specs.declared.name.Name.{Name}
-use Rattle.item_tree.specs.Trees.{children_of}
+use Rattle.item_tree.specs.declared.ids.ModItemId.{ModItemId}
+use Rattle.item_tree.specs.Trees.{children_of, children_of_kind}
 use Rattle.def_ids.specs.declared.ids.Def.{Def}
 use Rattle.def_ids.specs.declared.ids.Def.TheVariants.{Module}
 use Rattle.def_ids.specs.declared.ids.Def.TheVariants as def
+use Rattle.def_ids.specs.declared.ids.ItemContainerId.TheVariants as contained
 use Rattle.def_ids.specs.declared.ids.ModuleId.{ModuleId}
-use Rattle.def_ids.specs.Session.{Session, Grows, StructItem, UseItem, in_module}
+use Rattle.def_ids.specs.Session.{Session, Grows, ItemKind, FunctionItem, StructItem, UnionItem, EnumItem, ConstItem, StaticItem, TraitItem, TypeAliasItem, ImplItem, UseItem, ExternBlockItem, in_container, in_module}
 use Rattle.def_ids.specs.SessionLaws.{grows_refl}
+use Rattle.def_bindings.specs.declared.bindings.Namespace.{Namespace}
 use Rattle.def_bindings.specs.declared.bindings.Namespace.TheVariants.{Types, Values}
 use Rattle.def_bindings.specs.declared.visibility.Visibility.{Visibility}
 use Rattle.def_bindings.specs.Puts.{lessened}
@@ -25,30 +28,29 @@ use Rattle.def_map.specs.declared.module_data.ModuleOrigin.TheVariants.{Inline}
 use Rattle.def_map.specs.Maps.{pushed, with_module}
 use Rattle.def_map.specs.MapState.{MapState, ModuleState}
 use Rattle.def_map.specs.Oracle.{Oracle}
-use Rattle.def_map.specs.Scopes.{declared_in, empty_module, with_child}
+use Rattle.def_map.specs.Scopes.{declared_in, empty_module, with_child, with_extern_block, with_impl, with_unnamed_const}
 use Rattle.def_collector.specs.declared.collector.directive.ImportDirective.{ImportDirective}
 use Rattle.def_collector.specs.declared.collector.items.Written.{Written}
 use Rattle.def_collector.specs.Collector.{ArePuts, Handled, pending_of, performed, queued}
-use Rattle.def_collector.specs.Items.{add_module, ctor_task, ctor_vis, declare, Handles, loc_of, module_item, next_module, pending_imports, position_of, put_declared, struct_effect, walk, written_vis}
-use Rattle.def_collector.specs.State.{State, Effect, PendingImport, Site, only, with_map, order}
-
--- a struct without a constructor
-pub struct_put : (s s1 s2 : State) (at : ModuleId) (name : Name) (d : Def) (vis : Visibility) → s1 ≡ declare s at d → s2 ≡ performed (put_declared at name Types d vis ∷ []) s1
-    → s2 ≡ performed (struct_effect s at name d vis None).tasks (struct_effect s at name d vis None).state
-struct_put s s1 s2 at name d vis declared put = put ∙ ap (performed (put_declared at name Types d vis ∷ [])) declared
+use Rattle.def_collector.specs.Items.{add_module, container_of, ctor_task, ctor_vis, declare, declared_effect, Declares, Handles, loc_of, module_item, next_module, noted_in, pending_imports, position_of, put_declared, struct_effect, walk, written_vis}
+use Rattle.def_collector.specs.State.{State, Effect, PendingImport, Site, followed_by, module_site, only, with_map, order}
 
 -- a struct with a constructor
-pub struct_put_both : (s s1 s2 s3 : State) (at : ModuleId) (name : Name) (d : Def) (vis ctor : Visibility) (given : Option Visibility) (v : Visibility) → given ≡ Some ctor
-    → s1 ≡ declare s at d → s2 ≡ performed (put_declared at name Types d vis ∷ []) s1
+pub struct_put_both : (s s2 s3 : State) (at : ModuleId) (name : Name) (d : Def) (vis ctor : Visibility) (given : Option Visibility) (v : Visibility) → given ≡ Some ctor
+    → s2 ≡ performed (put_declared at name Types d vis ∷ []) (declare s at d)
     → v ≡ lessened (order s2) ctor vis → s3 ≡ performed (put_declared at name Values d v ∷ []) s2
     → s3 ≡ performed (struct_effect s at name d vis given).tasks (struct_effect s at name d vis given).state
-struct_put_both s s1 s2 s3 at name d vis ctor given v has declared first lesser second =
-    let e : s2 ≡ performed (put_declared at name Types d vis ∷ []) (declare s at d) = first ∙ ap (performed (put_declared at name Types d vis ∷ [])) declared in
+struct_put_both s s2 s3 at name d vis ctor given v has e lesser second =
     let same : v ≡ lessened (order s) ctor vis = lesser ∙ ap (λ x. lessened (order x) ctor vis) e in
     second
     ∙ ap (λ x. performed (put_declared at name Values d x ∷ []) s2) same
     ∙ ap (λ x. performed (put_declared at name Values d (lessened (order s) ctor vis) ∷ []) x) e
     ∙ ap (λ x. performed (struct_effect s at name d vis x).tasks (struct_effect s at name d vis x).state) (sym has)
+
+-- a definition in one namespace
+pub declared_put : (s s1 s2 : State) (at : ModuleId) (name : Name) (ns : Namespace) (d : Def) (vis : Visibility) → s1 ≡ declare s at d → s2 ≡ performed (put_declared at name ns d vis ∷ []) s1
+    → s2 ≡ performed (declared_effect s at name ns d vis).tasks (declared_effect s at name ns d vis).state
+declared_put s s1 s2 at name ns d vis declared put = put ∙ ap (performed (put_declared at name ns d vis ∷ [])) declared
 
 -- a module as a child
 pub module_put : (s t u : State) (at : ModuleId) (name : Name) (vis : Visibility) (o : ModuleOrigin) (m : ModuleState) (index : ℕ) (pushed_map led declared : MapState)
@@ -79,12 +81,12 @@ are_puts-ctor s at name d vis (Some ctor) = tt
 pub handled_module : (oracle : Oracle) (s t : State) (site : Site) (item : ItemNode) (name : Name) (raw : RawVisibility) (contents : ModContents) (child : ModuleId) (vis : Visibility)
     → item.kind ≡ Mod name raw contents → child ≡ next_module s → vis ≡ written_vis oracle s site.scope raw
     → t ≡ performed (put_declared site.scope name Types (Module (next_module s)) vis ∷ []) (add_module s site.scope name vis (Inline item.ast_id site.tree))
-    → Handled oracle s t site item (walk (record { scope = child; tree = site.tree }) (children_of item))
+    → Handled oracle s t site item (walk (module_site child site.tree) (children_of item))
 handled_module oracle s t site item name raw contents child vis kind numbered seen after = record {
   effect = module_item s site item name vis;
   puts = put_declared site.scope name Types (Module (next_module s)) vis ∷ [];
   handled = (s.session, grows_refl s.session, subst (λ k. Handles oracle s site item k (module_item s site item name vis)) (sym kind) (ap (module_item s site item name) seen));
-  tasks = ap (λ m. put_declared site.scope name Types (Module (next_module s)) vis ∷ walk (record { scope = m; tree = site.tree }) (children_of item)) (sym numbered);
+  tasks = ap (λ m. put_declared site.scope name Types (Module (next_module s)) vis ∷ walk (module_site m site.tree) (children_of item)) (sym numbered);
   are_puts = tt;
   after = after;
 }
@@ -100,7 +102,7 @@ pub handled_use : (oracle : Oracle) (s t : State) (session : Session) (site : Si
     → Handled oracle s t site item []
 handled_use oracle s t session site item raw imports n position kind grows placed numbered after =
     let effect : Effect = only (record s { session = session; imports = s.imports ++ pending_imports site item (record { 0 = n }) raw imports }) in
-    let number : session.item UseItem n ≡ Some (loc_of site item) = numbered ∙ ap (λ p. Some (in_module site.scope p)) placed in
+    let number : session.item UseItem n ≡ Some (loc_of site UseItem item) = numbered ∙ ap (λ p. Some (in_module site.scope p)) placed in
     record {
       effect = effect;
       puts = [];
@@ -118,7 +120,7 @@ pub handled_struct : (oracle : Oracle) (s t : State) (session : Session) (site :
     → Handled oracle s t site item []
 handled_struct oracle s t session site item name raw written n position vis ctor kind grows placed numbered seen built after =
     let effect : Effect = struct_effect (record s { session = session }) site.scope name (def.Struct (record { 0 = n })) vis ctor in
-    let number : session.item StructItem n ≡ Some (loc_of site item) = numbered ∙ ap (λ p. Some (in_module site.scope p)) placed in
+    let number : session.item StructItem n ≡ Some (loc_of site StructItem item) = numbered ∙ ap (λ p. Some (in_module site.scope p)) placed in
     let is : effect ≡ struct_effect (record s { session = session }) site.scope name (def.Struct (record { 0 = n })) (written_vis oracle (record s { session = session }) site.scope raw) (ctor_vis oracle (record s { session = session }) site.scope written) =
     ap (λ v. struct_effect (record s { session = session }) site.scope name (def.Struct (record { 0 = n })) v ctor) seen
     ∙ ap (struct_effect (record s { session = session }) site.scope name (def.Struct (record { 0 = n })) (written_vis oracle (record s { session = session }) site.scope raw)) built in
@@ -130,6 +132,114 @@ handled_struct oracle s t session site item name raw written n position vis ctor
       are_puts = are_puts-ctor (record s { session = session }) site.scope name (def.Struct (record { 0 = n })) vis ctor;
       after = after;
     }
+
+-- A definition was declared in one namespace
+
+module _ (oracle : Oracle) (s t : State) (session : Session) (site : Site) (item : ItemNode) (name : Name) (raw : RawVisibility) (n : ℕ) (position : InFile FileAstId) (vis : Visibility)
+    (grows : Grows s.session session) (placed : position ≡ position_of site item) (seen : vis ≡ written_vis oracle (record s { session = session }) site.scope raw) where
+  -- the state in the session that has grown
+  abbrev grown : State
+  grown = record s { session = session }
+
+  -- an item that declares one definition
+  handled_declared : (kind : ItemKind) (d : ℕ → Def) (ns : Namespace) → ((effect : Effect) → Declares oracle grown site item kind d ns name raw effect → Handles oracle grown site item item.kind effect)
+      → session.item kind n ≡ Some (in_container (container_of site kind) position)
+      → t ≡ performed (declared_effect grown site.scope name ns (d n) vis).tasks (declared_effect grown site.scope name ns (d n) vis).state
+      → Handled oracle s t site item []
+  handled_declared kind d ns handles numbered after =
+      let effect : Effect = declared_effect grown site.scope name ns (d n) vis in
+      let number : session.item kind n ≡ Some (loc_of site kind item) = numbered ∙ ap (λ p. Some (in_container (container_of site kind) p)) placed in
+      record {
+        effect = effect;
+        puts = effect.tasks;
+        handled = (session, grows, handles effect (n, number, ap (declared_effect grown site.scope name ns (d n)) seen));
+        tasks = refl;
+        are_puts = tt;
+        after = after;
+      }
+
+  pub handled_union : item.kind ≡ Union name raw → session.item UnionItem n ≡ Some (in_module site.scope position)
+      → t ≡ performed (declared_effect grown site.scope name Types (def.Union (record { 0 = n })) vis).tasks (declared_effect grown site.scope name Types (def.Union (record { 0 = n })) vis).state
+      → Handled oracle s t site item []
+  handled_union kind numbered after = handled_declared UnionItem (λ i. def.Union (record { 0 = i })) Types (λ effect does. subst (λ k. Handles oracle grown site item k effect) (sym kind) does) numbered after
+
+  pub handled_enum : item.kind ≡ Enum name raw → session.item EnumItem n ≡ Some (in_module site.scope position)
+      → t ≡ performed (declared_effect grown site.scope name Types (def.Enum (record { 0 = n })) vis).tasks (declared_effect grown site.scope name Types (def.Enum (record { 0 = n })) vis).state
+      → Handled oracle s t site item []
+  handled_enum kind numbered after = handled_declared EnumItem (λ i. def.Enum (record { 0 = i })) Types (λ effect does. subst (λ k. Handles oracle grown site item k effect) (sym kind) does) numbered after
+
+  pub handled_function : item.kind ≡ Function name raw → session.item FunctionItem n ≡ Some (in_container site.container position)
+      → t ≡ performed (declared_effect grown site.scope name Values (def.Function (record { 0 = n })) vis).tasks (declared_effect grown site.scope name Values (def.Function (record { 0 = n })) vis).state
+      → Handled oracle s t site item []
+  handled_function kind numbered after = handled_declared FunctionItem (λ i. def.Function (record { 0 = i })) Values (λ effect does. subst (λ k. Handles oracle grown site item k effect) (sym kind) does) numbered after
+
+  pub handled_static : item.kind ≡ Static name raw → session.item StaticItem n ≡ Some (in_container site.container position)
+      → t ≡ performed (declared_effect grown site.scope name Values (def.Static (record { 0 = n })) vis).tasks (declared_effect grown site.scope name Values (def.Static (record { 0 = n })) vis).state
+      → Handled oracle s t site item []
+  handled_static kind numbered after = handled_declared StaticItem (λ i. def.Static (record { 0 = i })) Values (λ effect does. subst (λ k. Handles oracle grown site item k effect) (sym kind) does) numbered after
+
+  pub handled_trait : item.kind ≡ Trait name raw → session.item TraitItem n ≡ Some (in_module site.scope position)
+      → t ≡ performed (declared_effect grown site.scope name Types (def.Trait (record { 0 = n })) vis).tasks (declared_effect grown site.scope name Types (def.Trait (record { 0 = n })) vis).state
+      → Handled oracle s t site item []
+  handled_trait kind numbered after = handled_declared TraitItem (λ i. def.Trait (record { 0 = i })) Types (λ effect does. subst (λ k. Handles oracle grown site item k effect) (sym kind) does) numbered after
+
+  pub handled_type_alias : item.kind ≡ TypeAlias name raw → session.item TypeAliasItem n ≡ Some (in_container site.container position)
+      → t ≡ performed (declared_effect grown site.scope name Types (def.TypeAlias (record { 0 = n })) vis).tasks (declared_effect grown site.scope name Types (def.TypeAlias (record { 0 = n })) vis).state
+      → Handled oracle s t site item []
+  handled_type_alias kind numbered after = handled_declared TypeAliasItem (λ i. def.TypeAlias (record { 0 = i })) Types (λ effect does. subst (λ k. Handles oracle grown site item k effect) (sym kind) does) numbered after
+
+  pub handled_const : item.kind ≡ Const (Some name) raw → session.item ConstItem n ≡ Some (in_container site.container position)
+      → t ≡ performed (declared_effect grown site.scope name Values (def.Const (record { 0 = n })) vis).tasks (declared_effect grown site.scope name Values (def.Const (record { 0 = n })) vis).state
+      → Handled oracle s t site item []
+  handled_const kind numbered after = handled_declared ConstItem (λ i. def.Const (record { 0 = i })) Values (λ effect does. subst (λ k. Handles oracle grown site item k effect) (sym kind) does) numbered after
+
+-- Something was recorded in the module, and nothing put
+
+module _ (oracle : Oracle) (s t : State) (session : Session) (site : Site) (item : ItemNode) (n : ℕ) (position : InFile FileAstId) (grows : Grows s.session session) (placed : position ≡ position_of site item) where
+  abbrev kept : State
+  kept = record s { session = session }
+
+  -- a constant without a name
+  pub handled_unnamed_const : (raw : RawVisibility) → item.kind ≡ Const None raw → session.item ConstItem n ≡ Some (in_container site.container position)
+      → t ≡ noted_in kept site.scope (with_unnamed_const (record { 0 = n })) → Handled oracle s t site item []
+  handled_unnamed_const raw kind numbered after =
+      let effect : Effect = only (noted_in kept site.scope (with_unnamed_const (record { 0 = n }))) in
+      record {
+        effect = effect;
+        puts = [];
+        handled = (session, grows, subst (λ k. Handles oracle kept site item k effect) (sym kind) (n, numbered ∙ ap (λ p. Some (in_container site.container p)) placed, refl));
+        tasks = refl;
+        are_puts = tt;
+        after = after;
+      }
+
+  pub handled_impl : (of_trait : Bool) → item.kind ≡ Impl of_trait → session.item ImplItem n ≡ Some (in_module site.scope position)
+      → t ≡ noted_in kept site.scope (with_impl (record { 0 = n }) of_trait) → Handled oracle s t site item []
+  handled_impl of_trait kind numbered after =
+      let effect : Effect = only (noted_in kept site.scope (with_impl (record { 0 = n }) of_trait)) in
+      record {
+        effect = effect;
+        puts = [];
+        handled = (session, grows, subst (λ k. Handles oracle kept site item k effect) (sym kind) (n, numbered ∙ ap (λ p. Some (in_module site.scope p)) placed, refl));
+        tasks = refl;
+        are_puts = tt;
+        after = after;
+      }
+
+  -- an extern block, whose items are walked in the same module
+  pub handled_extern_block : (children : List ModItemId) → item.kind ≡ ExternBlock children → session.item ExternBlockItem n ≡ Some (in_module site.scope position)
+      → t ≡ noted_in kept site.scope (with_extern_block (record { 0 = n }))
+      → Handled oracle s t site item (walk (record site { container = contained.ExternBlock (record { 0 = n }) }) (children_of item))
+  handled_extern_block children kind numbered after =
+      let effect : Effect = followed_by (noted_in kept site.scope (with_extern_block (record { 0 = n }))) (walk (record site { container = contained.ExternBlock (record { 0 = n }) }) children) in
+      record {
+        effect = effect;
+        puts = [];
+        handled = (session, grows, subst (λ k. Handles oracle kept site item k effect) (sym kind) (n, numbered ∙ ap (λ p. Some (in_module site.scope p)) placed, refl));
+        tasks = ap (λ k. walk (record site { container = contained.ExternBlock (record { 0 = n }) }) (children_of_kind k)) (sym kind);
+        are_puts = tt;
+        after = after;
+      }
 
 -- one more import of a `use` item waits
 pub queued_more : (old now new : List PendingImport) (at : ModuleId) (written : Written) (imports : List UseImport) (i : ℕ) (import : UseImport) (p : PendingImport)

@@ -17,10 +17,11 @@ use Rattle.def_map.specs.MapState.{MapState}
 use Rattle.def_map.specs.Oracle.{Oracle}
 use Rattle.def_map.specs.PerNs.{Item}
 use Rattle.def_collector.specs.declared.collector.walk.Frame.{Frame}
-use Rattle.def_collector.specs.Collector.{agenda_of, frame_site, left_of, performed}
+use Rattle.def_collector.specs.declared.collector.walk.Site.{Site as SiteInCode}
+use Rattle.def_collector.specs.Collector.{agenda_of, frame_site, left_of, performed, site_of}
 use Rattle.def_collector.specs.Imports.{entry_of, kept_item, named_entries}
 use Rattle.def_collector.specs.Items.{top_items, walk}
-use Rattle.def_collector.specs.State.{State, PendingImport, Site, Task, Visit, Put, order, root}
+use Rattle.def_collector.specs.State.{State, PendingImport, Site, Task, Visit, Put, module_site, order, root}
 use Rattle.def_collector.specs.Start.{first_site, first_tasks, first_tree}
 use Rattle.def_collector.specs.Steps.{put_effect}
 
@@ -87,18 +88,19 @@ abbrev top_of : Option ItemTree → List ModItemId
 top_of tree = unwrap_or (option_map (λ (t : ItemTree). t.top) tree) []
 
 module _ (oracle : Oracle) (m : MapState) (tree first : TreeId) (same : first ≡ first_tree oracle m.id tree) where
-  first_is : first_tasks oracle m tree ≡ walk (record { scope = root m; tree = first }) (top_of (oracle.item_tree first))
-  first_is = ap (λ (t : TreeId). walk (record { scope = root m; tree = t }) (top_of (oracle.item_tree t))) (sym same)
+  first_is : first_tasks oracle m tree ≡ walk (module_site (root m) first) (top_of (oracle.item_tree first))
+  first_is = ap (λ (t : TreeId). walk (module_site (root m) t) (top_of (oracle.item_tree t))) (sym same)
 
   -- a tree that is not there has nothing to walk
   pub first_none : None ≡ oracle.item_tree first → first_tasks oracle m tree ≡ []
-  first_none missing = first_is ∙ ap (λ o. walk (record { scope = root m; tree = first }) (top_of o)) (sym missing)
+  first_none missing = first_is ∙ ap (λ o. walk (module_site (root m) first) (top_of o)) (sym missing)
 
   -- one that is there has its top items
-  pub first_some : (t : Bor ItemTree) (items : Bor (List ModItemId)) → Some t.now ≡ oracle.item_tree first → items.now ≡ t.now.top
-      → agenda_of (record { module_id = root m; tree_id = first; tree = t; items = items; next = 0 } ∷ []) ≡ first_tasks oracle m tree
-  first_some t items there top =
-      agenda_of-one (record { module_id = root m; tree_id = first; tree = t; items = items; next = 0 })
-      ∙ ap (λ list. walk (record { scope = root m; tree = first }) list) top
-      ∙ ap (λ o. walk (record { scope = root m; tree = first }) (top_of o)) there
+  pub first_some : (site : SiteInCode) (t : Bor ItemTree) (items : Bor (List ModItemId)) → site_of site ≡ module_site (root m) first → Some t.now ≡ oracle.item_tree first → items.now ≡ t.now.top
+      → agenda_of (record { site = site; tree = t; items = items; next = 0 } ∷ []) ≡ first_tasks oracle m tree
+  first_some site t items placed there top =
+      agenda_of-one (record { site = site; tree = t; items = items; next = 0 })
+      ∙ ap (λ where_at. walk where_at items.now) placed
+      ∙ ap (λ list. walk (module_site (root m) first) list) top
+      ∙ ap (λ o. walk (module_site (root m) first) (top_of o)) there
       ∙ sym first_is

@@ -4,19 +4,23 @@ use Rattle.std.proofs.lemmas.List.Elements.{All-cons, All-head, All-tail, All-pu
 use Rattle.item_tree.specs.declared.ids.ModItemId.{ModItemId}
 use Rattle.item_tree.specs.declared.items.ItemNode.{ItemNode}
 use Rattle.item_tree.specs.declared.items.ModItemKind.{ModItemKind}
-use Rattle.item_tree.specs.declared.items.ModItemKind.TheVariants.{Mod, Use, Struct}
+use Rattle.item_tree.specs.declared.items.ModItemKind.TheVariants.{Mod, Use, ExternBlock, Impl, Struct, Union, Enum, Function, Const, Static, Trait, TypeAlias}
+use Rattle.item_tree.specs.declared.items.RawVisibility.{RawVisibility}
 use Rattle.item_tree.specs.declared.name.Name.{Name}
 use Rattle.def_ids.specs.declared.ids.ModuleId.{ModuleId}
 use Rattle.def_ids.specs.declared.ids.Def.{Def}
+use Rattle.def_ids.specs.Session.{ItemKind, FunctionItem, UnionItem, EnumItem, ConstItem, StaticItem, TraitItem, TypeAliasItem}
+use Rattle.def_bindings.specs.declared.bindings.Namespace.{Namespace}
+use Rattle.def_bindings.specs.declared.bindings.Namespace.TheVariants.{Types, Values}
 use Rattle.def_bindings.specs.declared.visibility.Visibility.{Visibility}
 use Rattle.def_map.specs.declared.module_data.ModuleOrigin.{ModuleOrigin}
 use Rattle.def_map.specs.Maps.{pushed, with_module}
 use Rattle.def_map.specs.MapState.{MapState, ModuleState}
 use Rattle.def_map.specs.Oracle.{Oracle}
-use Rattle.def_map.specs.Scopes.{declared_in, empty_module, with_child}
+use Rattle.def_map.specs.Scopes.{declared_in, empty_module, with_child, with_extern_block, with_impl, with_unnamed_const}
 use Rattle.def_map.specs.Updates.{update_at}
 use Rattle.def_collector.specs.Imports.{ImportStep, of_pending, of_partial}
-use Rattle.def_collector.specs.Items.{add_module, node_at, Handles, VisitsAt, Visits}
+use Rattle.def_collector.specs.Items.{add_module, Declares, node_at, Handles, VisitsAt, Visits}
 use Rattle.def_collector.specs.Report.{NoneFailed}
 use Rattle.def_collector.specs.State.{State, Effect, Moment, Site, Task, Visit, Put}
 use Rattle.def_collector.specs.Steps.{Does, Reaches, Step, here, one, join, performs, copies, rearranges, records}
@@ -70,13 +74,31 @@ pub record Leaves (s : State) (effect : Effect) : Type 0 where
 leaves_known : (s : State) (effect known : Effect) → effect ≡ known → Leaves s known → Leaves s effect
 leaves_known s effect known same leaves = subst (λ x. Leaves s x) (sym same) leaves
 
+declares_leaves : (oracle : Oracle) (s : State) (site : Site) (item : ItemNode) (kind : ItemKind) (d : ℕ → Def) (ns : Namespace) (name : Name) (raw : RawVisibility) (effect : Effect)
+    → Declares oracle s site item kind d ns name raw effect → Leaves s effect
+declares_leaves oracle s site item kind d ns name raw effect does =
+    leaves_known s effect _ does.2 (record { content = refl; partial = refl; events = refl; none_failed = λ none. none_failed-declare s.map site.scope.index _ none })
+
 handles_leaves : (oracle : Oracle) (s : State) (site : Site) (item : ItemNode) (kind : ModItemKind) (effect : Effect) → Handles oracle s site item kind effect → Leaves s effect
 handles_leaves oracle s site item (Mod name raw contents) effect does =
     leaves_known s effect _ does (record { content = refl; partial = refl; events = refl; none_failed = λ none. none_failed-add_module s site.scope name _ _ none })
 handles_leaves oracle s site item (Use raw imports) effect does =
     leaves_known s effect _ does.2 (record { content = refl; partial = refl; events = refl; none_failed = λ none. none })
+handles_leaves oracle s site item (ExternBlock children) effect does =
+    leaves_known s effect _ does.2 (record { content = refl; partial = refl; events = refl; none_failed = λ none. none_failed-with_module s.map site.scope.index (with_extern_block _) (λ d h. h) none })
+handles_leaves oracle s site item (Impl of_trait) effect does =
+    leaves_known s effect _ does.2 (record { content = refl; partial = refl; events = refl; none_failed = λ none. none_failed-with_module s.map site.scope.index (with_impl _ of_trait) (λ d h. h) none })
 handles_leaves oracle s site item (Struct name raw ctor) effect does =
     leaves_known s effect _ does.2 (record { content = refl; partial = refl; events = refl; none_failed = λ none. none_failed-declare s.map site.scope.index _ none })
+handles_leaves oracle s site item (Union name raw) effect does = declares_leaves oracle s site item UnionItem _ Types name raw effect does
+handles_leaves oracle s site item (Enum name raw) effect does = declares_leaves oracle s site item EnumItem _ Types name raw effect does
+handles_leaves oracle s site item (Function name raw) effect does = declares_leaves oracle s site item FunctionItem _ Values name raw effect does
+handles_leaves oracle s site item (Const (Some name) raw) effect does = declares_leaves oracle s site item ConstItem _ Values name raw effect does
+handles_leaves oracle s site item (Const None raw) effect does =
+    leaves_known s effect _ does.2 (record { content = refl; partial = refl; events = refl; none_failed = λ none. none_failed-with_module s.map site.scope.index (with_unnamed_const _) (λ d h. h) none })
+handles_leaves oracle s site item (Static name raw) effect does = declares_leaves oracle s site item StaticItem _ Values name raw effect does
+handles_leaves oracle s site item (Trait name raw) effect does = declares_leaves oracle s site item TraitItem _ Types name raw effect does
+handles_leaves oracle s site item (TypeAlias name raw) effect does = declares_leaves oracle s site item TypeAliasItem _ Types name raw effect does
 
 visits_leaves_at : (oracle : Oracle) (s : State) (site : Site) (item : Option ItemNode) (effect : Effect) → VisitsAt oracle s site item effect → Leaves s effect
 visits_leaves_at oracle s site None effect does = leaves_known s effect _ does (record { content = refl; partial = refl; events = refl; none_failed = λ none. none })

@@ -8,9 +8,9 @@ use Rattle.item_tree.specs.declared.items.ItemNode.{ItemNode}
 use Rattle.item_tree.specs.declared.tree.ItemTree.{ItemTree}
 use Rattle.item_tree.specs.Trees.{IsSound, children_of, item_at}
 use Rattle.item_tree.specs.TreesLaws.{child_after, child_there}
-use Rattle.def_ids.specs.declared.ids.ModuleId.{ModuleId}
 use Rattle.def_map.specs.Oracle.{Oracle}
 use Rattle.def_collector.specs.declared.collector.walk.Frame.{Frame}
+use Rattle.def_collector.specs.declared.collector.walk.Opened.{Opened}
 use Rattle.def_collector.specs.Collector.{agenda_of, frame_site, Handled, inner_of, is_known, left_of, site_of, walk_measure}
 use Rattle.def_collector.specs.Items.{node_at, walk}
 use Rattle.def_collector.specs.State.{State, Task}
@@ -52,7 +52,7 @@ module _ (oracle : Oracle) (frames : List Frame) (frame : Frame) where
   turn_done s past = subst (λ agenda. Leads oracle agenda s (agenda_of frames) s) (sym (agenda_of-done frames frame (drop_all frame.next frame.items.now past))) (leads_refl (agenda_of frames) s)
 
   -- what the oracle has at a number is what the frame's tree has
-  node_of : (id : ModItemId) (found : Option ItemNode) → is_known oracle frame → found ≡ item_at frame.tree.now.items id → node_at oracle frame.tree_id id ≡ found
+  node_of : (id : ModItemId) (found : Option ItemNode) → is_known oracle frame → found ≡ item_at frame.tree.now.items id → node_at oracle frame.site.tree_id id ≡ found
   node_of id found known is = ap (λ o. option_and_then (λ t. slice_get t.items id.0) o) known ∙ sym is
 
   module _ (known : All (is_known oracle) (frames ++ frame ∷ [])) (id : ModItemId) (found : Some id ≡ slice_get frame.items.now frame.next) (next : List Frame) (taken : next ≡ frames ++ after_turn frame ∷ []) where
@@ -72,24 +72,24 @@ module _ (oracle : Oracle) (frames : List Frame) (frame : Frame) where
 
     module _ (s t : State) (item : ItemNode) (there : Some item ≡ item_at frame.tree.now.items id) where
       -- an item that opens nothing
-      pub turn_closed : (opened : Option ModuleId) → opened ≡ None → Handled oracle s t (frame_site frame) item (inner_of (record { module_id = frame.module_id; tree_id = frame.tree_id }) opened item)
+      pub turn_closed : (opened : Option Opened) → opened ≡ None → Handled oracle s t (frame_site frame) item (inner_of frame.site opened item)
           → Leads oracle (agenda_of (frames ++ frame ∷ [])) s (agenda_of next) t
       turn_closed opened none handled =
           subst (λ fs. Leads oracle (agenda_of (frames ++ frame ∷ [])) s (agenda_of fs) t) (sym taken)
           (visits_closed frames frame id found oracle s t item (node_of id (Some item) (all_last (is_known oracle) frames frame known) there)
-          (subst (λ o. Handled oracle s t (frame_site frame) item (inner_of (record { module_id = frame.module_id; tree_id = frame.tree_id }) o item)) none handled))
+          (subst (λ o. Handled oracle s t (frame_site frame) item (inner_of frame.site o item)) none handled))
 
-      module _ (child : ModuleId) (items : Bor (List ModItemId)) (children : items.now ≡ children_of item) (last : List Frame) (pushed : last ≡ next ++ opened_frame frame child items ∷ []) where
+      module _ (child : Opened) (items : Bor (List ModItemId)) (children : items.now ≡ children_of item) (last : List Frame) (pushed : last ≡ next ++ opened_frame frame child items ∷ []) where
         both : last ≡ (frames ++ after_turn frame ∷ []) ++ opened_frame frame child items ∷ []
         both = pushed ∙ ap (λ fs. fs ++ opened_frame frame child items ∷ []) taken
 
         -- an item that opens a module
-        pub turn_opened : (opened : Option ModuleId) → opened ≡ Some child → Handled oracle s t (frame_site frame) item (inner_of (record { module_id = frame.module_id; tree_id = frame.tree_id }) opened item)
+        pub turn_opened : (opened : Option Opened) → opened ≡ Some child → Handled oracle s t (frame_site frame) item (inner_of frame.site opened item)
             → Leads oracle (agenda_of (frames ++ frame ∷ [])) s (agenda_of last) t
         turn_opened opened some handled =
             subst (λ fs. Leads oracle (agenda_of (frames ++ frame ∷ [])) s (agenda_of fs) t) (sym both)
             (visits_opened frames frame id found oracle s t child items item (node_of id (Some item) (all_last (is_known oracle) frames frame known) there) children
-            (subst (λ o. Handled oracle s t (frame_site frame) item (inner_of (record { module_id = frame.module_id; tree_id = frame.tree_id }) o item)) some handled))
+            (subst (λ o. Handled oracle s t (frame_site frame) item (inner_of frame.site o item)) some handled))
 
         pub opened_known : All (is_known oracle) last
         opened_known = all_pushed (is_known oracle) next last (opened_frame frame child items) pushed turn_known (all_last (is_known oracle) frames frame known)

@@ -9,10 +9,10 @@ use Rattle.item_tree.specs.declared.ids.ModItemId.{ModItemId}
 use Rattle.item_tree.specs.declared.items.ItemNode.{ItemNode}
 use Rattle.item_tree.specs.declared.tree.ItemTree.{ItemTree}
 use Rattle.item_tree.specs.Trees.{children_of}
-use Rattle.def_ids.specs.declared.ids.ModuleId.{ModuleId}
 use Rattle.def_map.specs.Oracle.{Oracle}
 use Rattle.def_collector.specs.declared.collector.walk.Frame.{Frame}
-use Rattle.def_collector.specs.Collector.{agenda_of, base_of, frame_measure, frame_site, Handled, left_of, walk_measure, weight_of}
+use Rattle.def_collector.specs.declared.collector.walk.Opened.{Opened}
+use Rattle.def_collector.specs.Collector.{agenda_of, base_of, frame_measure, frame_site, Handled, left_of, opened_site, site_of, walk_measure, weight_of}
 use Rattle.def_collector.specs.Items.{node_at, VisitsAt, walk}
 use Rattle.def_collector.specs.State.{State, Effect, only, Site, Task, Visit}
 use Rattle.def_collector.specs.Steps.{Leads}
@@ -57,9 +57,9 @@ agenda_of-next frames frame id found =
     ∙ ap (λ left. walk (frame_site frame) left ++ agenda_of frames) (left_of-cons frame id found)
     ∙ ap (λ agenda. Visit (frame_site frame) id ∷ agenda) (sym (agenda_of-push frames (after_turn frame)))
 
--- the frame of the module that an item opened
-abbrev pub opened_frame : Frame → ModuleId → Bor (List ModItemId) → Frame
-opened_frame frame child items = record frame { module_id = child; items = items; next = 0 }
+-- the frame of the list that an item opened
+abbrev pub opened_frame : Frame → Opened → Bor (List ModItemId) → Frame
+opened_frame frame opened items = record frame { site = opened_site frame.site opened; items = items; next = 0 }
 
 -- an item's children come after it, and are there
 abbrev pub AreLater : ItemTree → ModItemId → ItemNode → Type 0
@@ -119,7 +119,7 @@ module _ (frames : List Frame) (frame : Frame) (id : ModItemId) (found : Some id
   fewer_closed = let positive = weight-positive frame.tree.now id in rw (before_turn, taken) (omega arith)
 
   -- a turn that opens a module leaves less
-  pub fewer_opened : (child : ModuleId) (items : Bor (List ModItemId)) (item : ItemNode) → slice_get frame.tree.now.items id.0 ≡ Some item → items.now ≡ children_of item → AreLater frame.tree.now id item
+  pub fewer_opened : (child : Opened) (items : Bor (List ModItemId)) (item : ItemNode) → slice_get frame.tree.now.items id.0 ≡ Some item → items.now ≡ children_of item → AreLater frame.tree.now id item
       → walk_measure ((frames ++ after_turn frame ∷ []) ++ opened_frame frame child items ∷ []) < walk_measure (frames ++ frame ∷ [])
   fewer_opened child items item there children later =
       let less = children_weigh_less frame.tree.now id item there later in
@@ -130,26 +130,26 @@ module _ (frames : List Frame) (frame : Frame) (id : ModItemId) (found : Some id
       omega arith
 
   -- an item that the tree does not have is nothing
-  pub visits_nothing : (oracle : Oracle) (s : State) → node_at oracle frame.tree_id id ≡ None
+  pub visits_nothing : (oracle : Oracle) (s : State) → node_at oracle frame.site.tree_id id ≡ None
       → Leads oracle (agenda_of (frames ++ frame ∷ [])) s (agenda_of (frames ++ after_turn frame ∷ [])) s
   visits_nothing oracle s missing =
       subst (λ agenda. Leads oracle agenda s (agenda_of (frames ++ after_turn frame ∷ [])) s) (sym (agenda_of-next frames frame id found))
       (leads_task (Visit (frame_site frame) id) (agenda_of (frames ++ after_turn frame ∷ [])) s (only s) (subst (λ o. VisitsAt oracle s (frame_site frame) o (only s)) (sym missing) refl))
 
   -- an item that opens nothing
-  pub visits_closed : (oracle : Oracle) (s t : State) (item : ItemNode) → node_at oracle frame.tree_id id ≡ Some item → Handled oracle s t (frame_site frame) item []
+  pub visits_closed : (oracle : Oracle) (s t : State) (item : ItemNode) → node_at oracle frame.site.tree_id id ≡ Some item → Handled oracle s t (frame_site frame) item []
       → Leads oracle (agenda_of (frames ++ frame ∷ [])) s (agenda_of (frames ++ after_turn frame ∷ [])) t
   visits_closed oracle s t item there handled =
       subst (λ agenda. Leads oracle agenda s (agenda_of (frames ++ after_turn frame ∷ [])) t) (sym (agenda_of-next frames frame id found))
       (leads_handled s t (frame_site frame) id item [] (agenda_of (frames ++ after_turn frame ∷ [])) there handled)
 
   -- an item that opens a module
-  pub visits_opened : (oracle : Oracle) (s t : State) (child : ModuleId) (items : Bor (List ModItemId)) (item : ItemNode) → node_at oracle frame.tree_id id ≡ Some item → items.now ≡ children_of item
-      → Handled oracle s t (frame_site frame) item (walk (record { scope = child; tree = frame.tree_id }) (children_of item))
+  pub visits_opened : (oracle : Oracle) (s t : State) (child : Opened) (items : Bor (List ModItemId)) (item : ItemNode) → node_at oracle frame.site.tree_id id ≡ Some item → items.now ≡ children_of item
+      → Handled oracle s t (frame_site frame) item (walk (site_of (opened_site frame.site child)) (children_of item))
       → Leads oracle (agenda_of (frames ++ frame ∷ [])) s (agenda_of ((frames ++ after_turn frame ∷ []) ++ opened_frame frame child items ∷ [])) t
   visits_opened oracle s t child items item there children handled =
-      let agenda : agenda_of ((frames ++ after_turn frame ∷ []) ++ opened_frame frame child items ∷ []) ≡ walk (record { scope = child; tree = frame.tree_id }) (children_of item) ++ agenda_of (frames ++ after_turn frame ∷ []) =
-      agenda_of-push (frames ++ after_turn frame ∷ []) (opened_frame frame child items) ∙ ap (λ left. walk (record { scope = child; tree = frame.tree_id }) left ++ agenda_of (frames ++ after_turn frame ∷ [])) children in
+      let agenda : agenda_of ((frames ++ after_turn frame ∷ []) ++ opened_frame frame child items ∷ []) ≡ walk (site_of (opened_site frame.site child)) (children_of item) ++ agenda_of (frames ++ after_turn frame ∷ []) =
+      agenda_of-push (frames ++ after_turn frame ∷ []) (opened_frame frame child items) ∙ ap (λ left. walk (site_of (opened_site frame.site child)) left ++ agenda_of (frames ++ after_turn frame ∷ [])) children in
       subst (λ a. Leads oracle a s (agenda_of ((frames ++ after_turn frame ∷ []) ++ opened_frame frame child items ∷ [])) t) (sym (agenda_of-next frames frame id found))
       (subst (λ a. Leads oracle (Visit (frame_site frame) id ∷ agenda_of (frames ++ after_turn frame ∷ [])) s a t) (sym agenda)
       (leads_handled s t (frame_site frame) id item _ (agenda_of (frames ++ after_turn frame ∷ [])) there handled))

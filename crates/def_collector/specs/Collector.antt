@@ -26,6 +26,7 @@ use Rattle.def_collector.specs.declared.collector.directive.NamespaceSet.{Namesp
 use Rattle.def_collector.specs.declared.collector.directive.PartialDirective.{PartialDirective}
 use Rattle.def_collector.specs.declared.collector.items.Written.{Written}
 use Rattle.def_collector.specs.declared.collector.walk.Frame.{Frame}
+use Rattle.def_collector.specs.declared.collector.walk.Opened.{Opened}
 use Rattle.def_collector.specs.declared.collector.walk.Site.{Site as SiteInCode}
 use Rattle.def_collector.specs.declared.outcome.Collected.{Collected}
 use Rattle.def_collector.specs.Imports.{answer_now, bound_name, is_ready, is_ready_again}
@@ -85,7 +86,7 @@ state_of c session =
 
 -- where the items of a list stand
 abbrev pub site_of : SiteInCode → Site
-site_of site = record { scope = site.module_id; tree = site.tree_id }
+site_of site = record { scope = site.module_id; container = site.container; tree = site.tree_id }
 
 -- Tasks that only put
 
@@ -110,10 +111,14 @@ pub record Handled (oracle : Oracle) (s t : State) (site : Site) (item : ItemNod
   pub are_puts : ArePuts puts
   pub after : t ≡ performed puts effect.state
 
--- the items of the module that an item opened
-abbrev pub inner_of : SiteInCode → Option ModuleId → ItemNode → List Task
+-- where the items in an item stand, of a tree that it is of
+abbrev pub opened_site : SiteInCode → Opened → SiteInCode
+opened_site site opened = record { module_id = opened.module_id; container = opened.container; tree_id = site.tree_id }
+
+-- the items in an item that opened a list
+abbrev pub inner_of : SiteInCode → Option Opened → ItemNode → List Task
 inner_of site None item = []
-inner_of site (Some child) item = walk (record { scope = child; tree = site.tree_id }) (children_of item)
+inner_of site (Some opened) item = walk (site_of (opened_site site opened)) (children_of item)
 
 -- the imports of a `use` item as they wait
 abbrev pub queued : ModuleId → Written → List UseImport → List PendingImport
@@ -124,7 +129,7 @@ queued at written imports =
 
 -- where a frame's items stand
 abbrev pub frame_site : Frame → Site
-frame_site frame = record { scope = frame.module_id; tree = frame.tree_id }
+frame_site frame = site_of frame.site
 
 -- the items that a frame has left
 abbrev pub left_of : Frame → List ModItemId
@@ -137,7 +142,7 @@ agenda_of (frame ∷ above) = agenda_of above ++ walk (frame_site frame) (left_o
 
 -- a frame goes over a tree that the oracle has
 abbrev pub is_known : Oracle → Frame → Type 0
-is_known oracle frame = oracle.item_tree frame.tree_id ≡ Some frame.tree.now
+is_known oracle frame = oracle.item_tree frame.site.tree_id ≡ Some frame.tree.now
 
 -- more than the number of children of any item of a tree, and one
 abbrev pub base_of : ItemTree → ℕ

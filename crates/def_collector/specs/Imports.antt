@@ -1,7 +1,7 @@
 -- Imports: their classes, when one is ready, and what recording one does.
 use Rattle.std.specs.Prelude.{◌≡◌, ◌≢◌, ◌⊎◌, ℕ, Bool, true, false, cond, ◌&&◌, ◌||◌, not, nat_eq, nat_lt, List, [], ◌∷◌, ◌++◌, length, slice_get, ◌-◌, Option, None, Some, is_some, option_map, unwrap_or, IsPermutation, Contains}
 use Rattle.item_tree.specs.declared.items.ImportAlias.{ImportAlias}
-use Rattle.item_tree.specs.declared.items.ImportAlias.TheVariants.{Alias}
+use Rattle.item_tree.specs.declared.items.ImportAlias.TheVariants.{Alias, Underscore}
 use Rattle.item_tree.specs.declared.items.ImportKind.{ImportKind}
 use Rattle.item_tree.specs.declared.items.ImportKind.TheVariants as kind
 use Rattle.item_tree.specs.declared.items.UseImport.{UseImport}
@@ -84,6 +84,7 @@ last_segment segments = slice_get segments (length segments - 1)
 -- the name that an alias gives; None is `_`
 abbrev pub alias_name : ImportAlias → Option Name
 alias_name (Alias name) = Some name
+alias_name Underscore = None
 
 -- the name that an import binds: its alias, else the last segment; the inner None is `_`
 abbrev pub name_or : Option ImportAlias → List Name → Option (Option Name)
@@ -103,9 +104,16 @@ is_public _ = false
 abbrev pub kept_item : ResolvePathResult → Option Item → Option Item
 kept_item answer item = kept (λ i. not (is_foreign answer) || is_public i.vis) item
 
+-- whether a namespace is types
+abbrev pub is_types : Namespace → Bool
+is_types Types = true
+is_types Values = false
+is_types Macros = false
+
 -- the namespaces that an import's kind keeps
 abbrev pub keeps_ns : ImportKind → Namespace → Bool
 keeps_ns kind.Plain ns = true
+keeps_ns kind.TypeOnly ns = is_types ns
 
 -- what brings an import's bindings
 abbrev pub origin_of : PendingImport → ImportOrExternCrate

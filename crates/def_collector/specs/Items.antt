@@ -5,31 +5,35 @@ use Rattle.item_tree.specs.declared.ids.InFile.{InFile}
 use Rattle.item_tree.specs.declared.ids.ModItemId.{ModItemId}
 use Rattle.item_tree.specs.declared.ids.TreeId.{TreeId}
 use Rattle.item_tree.specs.declared.items.CtorVisibility.{CtorVisibility}
-use Rattle.item_tree.specs.declared.items.CtorVisibility.TheVariants.{NoValueNsCtor, ValueNsCtorWithVis}
+use Rattle.item_tree.specs.declared.items.CtorVisibility.TheVariants.{NoValueNsCtor, ValueNsCtorWithVis, ValueNsCtorWithMinVis}
 use Rattle.item_tree.specs.declared.items.ItemNode.{ItemNode}
 use Rattle.item_tree.specs.declared.items.ModItemKind.{ModItemKind}
-use Rattle.item_tree.specs.declared.items.ModItemKind.TheVariants.{Mod, Use, Struct}
+use Rattle.item_tree.specs.declared.items.ModItemKind.TheVariants.{Mod, Use, ExternBlock, Impl, Struct, Union, Enum, Function, Const, Static, Trait, TypeAlias}
 use Rattle.item_tree.specs.declared.items.RawVisibility.{RawVisibility}
 use Rattle.item_tree.specs.declared.items.UseImport.{UseImport}
 use Rattle.item_tree.specs.declared.name.Name.{Name}
 use Rattle.item_tree.specs.Trees.{children_of}
 use Rattle.def_ids.specs.declared.ids.Def.{Def}
 use Rattle.def_ids.specs.declared.ids.Def.TheVariants as def
+use Rattle.def_ids.specs.declared.ids.ItemContainerId.{ItemContainerId}
+use Rattle.def_ids.specs.declared.ids.ItemContainerId.TheVariants as contained
 use Rattle.def_ids.specs.declared.ids.ModuleId.{ModuleId}
 use Rattle.def_ids.specs.declared.ids.UseId.{UseId}
-use Rattle.def_ids.specs.Session.{Session, Grows, ItemKind, ItemLoc, StructItem, UseItem, in_module}
+use Rattle.def_ids.specs.Session.{Session, Grows, ItemKind, ItemLoc, FunctionItem, StructItem, UnionItem, EnumItem, ConstItem, StaticItem, TraitItem, TypeAliasItem, ImplItem, UseItem, ExternCrateItem, ExternBlockItem, in_container}
 use Rattle.def_bindings.specs.declared.bindings.Namespace.{Namespace}
 use Rattle.def_bindings.specs.declared.bindings.Namespace.TheVariants.{Types, Values}
 use Rattle.def_bindings.specs.declared.visibility.Visibility.{Visibility}
 use Rattle.def_bindings.specs.declared.visibility.Visibility.TheVariants.{Public}
+use Rattle.def_bindings.specs.Order.{Order, lesser_of}
 use Rattle.def_bindings.specs.Puts.{lessened}
 use Rattle.def_map.specs.declared.module_data.ModuleOrigin.{ModuleOrigin}
 use Rattle.def_map.specs.declared.module_data.ModuleOrigin.TheVariants as origin
 use Rattle.def_map.specs.Maps.{pushed, with_module}
-use Rattle.def_map.specs.Scopes.{declared_in, empty_module, with_child}
+use Rattle.def_map.specs.MapState.{ModuleState}
+use Rattle.def_map.specs.Scopes.{declared_in, empty_module, with_child, with_extern_block, with_impl, with_unnamed_const}
 use Rattle.def_map.specs.Oracle.{Oracle}
 use Rattle.def_map.specs.Paths.{resolve_visibility}
-use Rattle.def_collector.specs.State.{State, Effect, only, followed_by, with_map, Site, Task, Visit, Put, PendingImport, world, order}
+use Rattle.def_collector.specs.State.{State, Effect, only, followed_by, with_map, Site, module_site, Task, Visit, Put, PendingImport, world, order}
 
 -- an item of a tree; a tree that is not there has none
 abbrev pub node_at : Oracle → TreeId → ModItemId → Option ItemNode
@@ -47,13 +51,28 @@ walk site ids = map (λ id. Visit site id) ids
 abbrev pub position_of : Site → ItemNode → InFile FileAstId
 position_of site item = record { file = site.tree.file; value = item.ast_id }
 
+-- what contains an item: functions, constants, statics and type aliases stand in the container of their list, all others in the module
+abbrev pub container_of : Site → ItemKind → ItemContainerId
+container_of site FunctionItem = site.container
+container_of site ConstItem = site.container
+container_of site StaticItem = site.container
+container_of site TypeAliasItem = site.container
+container_of site StructItem = contained.Module site.scope
+container_of site UnionItem = contained.Module site.scope
+container_of site EnumItem = contained.Module site.scope
+container_of site TraitItem = contained.Module site.scope
+container_of site ImplItem = contained.Module site.scope
+container_of site UseItem = contained.Module site.scope
+container_of site ExternCrateItem = contained.Module site.scope
+container_of site ExternBlockItem = contained.Module site.scope
+
 -- where an item stands
-abbrev pub loc_of : Site → ItemNode → ItemLoc
-loc_of site item = in_module site.scope (position_of site item)
+abbrev pub loc_of : Site → ItemKind → ItemNode → ItemLoc
+loc_of site kind item = in_container (container_of site kind) (position_of site item)
 
 -- the number of this item's location
 abbrev pub IsNumber : State → ItemKind → Site → ItemNode → ℕ → Type 0
-IsNumber s kind site item n = s.session.item kind n ≡ Some (loc_of site item)
+IsNumber s kind site item n = s.session.item kind n ≡ Some (loc_of site kind item)
 
 -- what a written visibility means in a module; public where it means nothing
 abbrev pub written_vis : Oracle → State → ModuleId → RawVisibility → Visibility
@@ -84,17 +103,28 @@ add_module s at name vis o =
 abbrev pub module_item : State → Site → ItemNode → Name → Visibility → Effect
 module_item s site item name vis =
     followed_by (add_module s site.scope name vis (origin.Inline item.ast_id site.tree))
-    (put_declared site.scope name Types (def.Module (next_module s)) vis ∷ walk (record { scope = next_module s; tree = site.tree }) (children_of item))
+    (put_declared site.scope name Types (def.Module (next_module s)) vis ∷ walk (module_site (next_module s) site.tree) (children_of item))
 
 -- the imports of a `use` as they pend
 abbrev pub pending_imports : Site → ItemNode → UseId → RawVisibility → List UseImport → List PendingImport
 pending_imports site item id vis imports =
     map (λ import. record { scope = site.scope; position = position_of site item; use_id = id; import = import; vis = vis }) imports
 
--- a constructor's visibility, if it has one
+-- the least of a visibility and those of a list, met in order; none where two that meet are unrelated
+abbrev pub least_of : Order Visibility → Visibility → List Visibility → Option Visibility
+least_of o v [] = Some v
+least_of o v (w ∷ ws) = option_and_then (λ m. least_of o m ws) (lesser_of o.at_most v w)
+
+-- the least of a list, if it has any
+abbrev pub least_in : Order Visibility → List Visibility → Option Visibility
+least_in o [] = None
+least_in o (v ∷ vs) = least_of o v vs
+
+-- a constructor's visibility, if it has one: as it is written, or the least of those of its fields
 abbrev pub ctor_vis : Oracle → State → ModuleId → CtorVisibility → Option Visibility
 ctor_vis oracle s at NoValueNsCtor = None
 ctor_vis oracle s at (ValueNsCtorWithVis raw) = Some (written_vis oracle s at raw)
+ctor_vis oracle s at (ValueNsCtorWithMinVis raws) = least_in (order s) (map (λ raw. written_vis oracle s at raw) raws)
 
 -- a constructor is at most as visible as its struct
 abbrev pub ctor_task : State → ModuleId → Name → Def → Visibility → Option Visibility → List Task
@@ -106,14 +136,41 @@ abbrev pub struct_effect : State → ModuleId → Name → Def → Visibility �
 struct_effect s at name d vis ctor =
     followed_by (declare s at d) (put_declared at name Types d vis ∷ ctor_task s at name d vis ctor)
 
+-- a definition is recorded as a declaration, and put in one namespace
+abbrev pub declared_effect : State → ModuleId → Name → Namespace → Def → Visibility → Effect
+declared_effect s at name ns d vis = followed_by (declare s at d) (put_declared at name ns d vis ∷ [])
+
+-- an item is numbered, and its definition is declared in one namespace
+abbrev pub Declares : Oracle → State → Site → ItemNode → ItemKind → (ℕ → Def) → Namespace → Name → RawVisibility → Effect → Type 0
+Declares oracle s site item kind d ns name raw effect =
+    (n : ℕ) × IsNumber s kind site item n × (effect ≡ declared_effect s site.scope name ns (d n) (written_vis oracle s site.scope raw))
+
+-- a change of a module's data with nothing to follow
+abbrev pub noted_in : State → ModuleId → (ModuleState → ModuleState) → State
+noted_in s at change = with_map s (with_module s.map at.index change)
+
 -- an item is handled, by its kind
 abbrev pub Handles : Oracle → State → Site → ItemNode → ModItemKind → Effect → Type 0
 Handles oracle s site item (Mod name raw contents) effect = effect ≡ module_item s site item name (written_vis oracle s site.scope raw)
 Handles oracle s site item (Use raw imports) effect =
     (n : ℕ) × IsNumber s UseItem site item n × (effect ≡ only (record s { imports = s.imports ++ pending_imports site item (record { 0 = n }) raw imports }))
+Handles oracle s site item (ExternBlock children) effect =
+    (n : ℕ) × IsNumber s ExternBlockItem site item n
+    × (effect ≡ followed_by (noted_in s site.scope (with_extern_block (record { 0 = n }))) (walk (record site { container = contained.ExternBlock (record { 0 = n }) }) children))
+Handles oracle s site item (Impl of_trait) effect =
+    (n : ℕ) × IsNumber s ImplItem site item n × (effect ≡ only (noted_in s site.scope (with_impl (record { 0 = n }) of_trait)))
 Handles oracle s site item (Struct name raw ctor) effect =
     (n : ℕ) × IsNumber s StructItem site item n
     × (effect ≡ struct_effect s site.scope name (def.Struct (record { 0 = n })) (written_vis oracle s site.scope raw) (ctor_vis oracle s site.scope ctor))
+Handles oracle s site item (Union name raw) effect = Declares oracle s site item UnionItem (λ n. def.Union (record { 0 = n })) Types name raw effect
+Handles oracle s site item (Enum name raw) effect = Declares oracle s site item EnumItem (λ n. def.Enum (record { 0 = n })) Types name raw effect
+Handles oracle s site item (Function name raw) effect = Declares oracle s site item FunctionItem (λ n. def.Function (record { 0 = n })) Values name raw effect
+Handles oracle s site item (Const (Some name) raw) effect = Declares oracle s site item ConstItem (λ n. def.Const (record { 0 = n })) Values name raw effect
+Handles oracle s site item (Const None raw) effect =
+    (n : ℕ) × IsNumber s ConstItem site item n × (effect ≡ only (noted_in s site.scope (with_unnamed_const (record { 0 = n }))))
+Handles oracle s site item (Static name raw) effect = Declares oracle s site item StaticItem (λ n. def.Static (record { 0 = n })) Values name raw effect
+Handles oracle s site item (Trait name raw) effect = Declares oracle s site item TraitItem (λ n. def.Trait (record { 0 = n })) Types name raw effect
+Handles oracle s site item (TypeAlias name raw) effect = Declares oracle s site item TypeAliasItem (λ n. def.TypeAlias (record { 0 = n })) Types name raw effect
 
 -- an item is handled in a session that may have grown
 abbrev pub HandlesInSession : Oracle → State → Site → ItemNode → Effect → Type 0

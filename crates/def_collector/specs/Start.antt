@@ -9,7 +9,7 @@ use Rattle.def_map.specs.declared.source_database.CrateData.{CrateData}
 use Rattle.def_map.specs.MapState.{MapState}
 use Rattle.def_map.specs.MapView.{empty_local}
 use Rattle.def_map.specs.Oracle.{Oracle}
-use Rattle.def_collector.specs.State.{Setting, State, Site, Task, Moment, root}
+use Rattle.def_collector.specs.State.{Setting, State, Site, Task, Moment, root, module_site}
 use Rattle.def_collector.specs.Items.{walk, top_items}
 
 -- a run's state before anything
@@ -37,7 +37,7 @@ first_tree oracle id tree = cond (is_some id.block) tree (root_tree tree (oracle
 
 -- where the first items stand
 abbrev pub first_site : Oracle → MapState → TreeId → Site
-first_site oracle m tree = record { scope = root m; tree = first_tree oracle m.id tree }
+first_site oracle m tree = module_site (root m) (first_tree oracle m.id tree)
 
 -- the walk of the top items
 abbrev pub first_tasks : Oracle → MapState → TreeId → List Task

@@ -7,6 +7,8 @@ use Rattle.item_tree.specs.declared.ids.TreeId.{TreeId}
 use Rattle.item_tree.specs.declared.items.RawVisibility.{RawVisibility}
 use Rattle.item_tree.specs.declared.items.UseImport.{UseImport}
 use Rattle.item_tree.specs.declared.name.Name.{Name}
+use Rattle.def_ids.specs.declared.ids.ItemContainerId.{ItemContainerId}
+use Rattle.def_ids.specs.declared.ids.ItemContainerId.TheVariants.{Module}
 use Rattle.def_ids.specs.declared.ids.ModuleId.{ModuleId}
 use Rattle.def_ids.specs.declared.ids.UseId.{UseId}
 use Rattle.def_ids.specs.Session.{Session}
@@ -63,10 +65,16 @@ pub record State : Type 0 where
   pub partial : List PartialImport
   pub diagnostics : List DefDiagnostic
 
--- where the items of a list stand: their module, and the tree that holds them
+-- where the items of a list stand: their module, what contains them, and the tree that holds them
 pub record Site : Type 0 where
   pub scope : ModuleId
+  -- the module, or an extern block in it
+  pub container : ItemContainerId
   pub tree : TreeId
+
+-- where a module's own items stand
+abbrev pub module_site : ModuleId → TreeId → Site
+module_site m tree = record { scope = m; container = Module m; tree = tree }
 
 -- work that is done in order
 pub data Task : Type 0 where

@@ -24,7 +24,7 @@ use def_map::{DefMap, LocalDefMap, MapData, SourceDatabase, Table};
 use directive::{ImportDirective, PartialDirective};
 use item_tree::{HirFileId, TreeId};
 use std::alloc::{AllocError, Global};
-use walk::Frame;
+use walk::{Frame, Site};
 
 /// Walks the tree of items and collects definitions into a map.
 #[derive(Drop)]
@@ -133,8 +133,7 @@ impl<'a> DefCollector<'a> {
             db,
             session,
             Frame {
-                module_id: ModuleId { map, index: 0 },
-                tree_id,
+                site: Site::of_module(ModuleId { map, index: 0 }, tree_id),
                 tree,
                 items: tree.top_level_items(),
                 next: 0,

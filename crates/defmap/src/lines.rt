@@ -3,7 +3,7 @@
 use crate::fault::Fault;
 use def_bindings::{ImportOrExternCrate, Visibility};
 use def_collector::{Collected, DefDiagnostic, DefDiagnosticKind, LeftImport};
-use def_ids::{Def, Interner, MacroId};
+use def_ids::{Def, Interner, MacroId, TraitId};
 use def_map::{DefMap, Item, ItemScope, PerNs};
 use item_tree::{Crate, HirFileId, ModPath, Name, PathKind};
 use std::alloc::{AllocError, Global};
@@ -173,6 +173,21 @@ impl<'a, 'b, W: io::Write> Printer<'a, 'b, W> {
         Ok(())
     }
 
+    /// The traits that a module has without a name, by their numbers.
+    fn unnamed_traits(
+        &mut self,
+        alloc: Global,
+        index: usize,
+        scope: &ItemScope<'_>,
+    ) -> Result<(), Fault> {
+        for (id, vis) in &sorted_traits(alloc, scope)? {
+            let number = id.0;
+            let vis = VisibilityText(*vis);
+            writeln!(self.out, "trait {index} trait:{number} {vis}")?;
+        }
+        Ok(())
+    }
+
     fn diagnostic(&mut self, diagnostic: &DefDiagnostic) -> Result<(), Fault> {
         let module = diagnostic.module.index;
         let file = FileText(diagnostic.ast_id.file);
@@ -245,6 +260,19 @@ fn sorted(
     Ok(found)
 }
 
+/// The traits that a scope has without a name, by their numbers.
+fn sorted_traits(
+    alloc: Global,
+    scope: &ItemScope<'_>,
+) -> Result<Vec<(TraitId, Visibility)>, AllocError> {
+    let mut traits = Vec::new(alloc);
+    for entry in scope.unnamed_traits() {
+        traits.push(entry)?;
+    }
+    traits.sort_unstable_by(|a, b| a.0.0.cmp(&b.0.0));
+    Ok(traits)
+}
+
 /// Prints a map, the diagnostics of its run, and what the run left over.
 pub fn print<W: io::Write>(
     alloc: Global,
@@ -261,6 +289,11 @@ pub fn print<W: io::Write>(
     for index in 0..map.modules().len() {
         if let Some(scope) = map.scope(index) {
             printer.bindings(alloc, krate, index, &scope)?;
+        }
+    }
+    for index in 0..map.modules().len() {
+        if let Some(scope) = map.scope(index) {
+            printer.unnamed_traits(alloc, index, &scope)?;
         }
     }
     for diagnostic in &collected.diagnostics {

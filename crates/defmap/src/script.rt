@@ -1,7 +1,7 @@
 //! How scripted crates are written down: as constant data, in the order of their text.
 
 use def_ids::Edition;
-use item_tree::PathKind;
+use item_tree::{ImportKind, PathKind};
 
 /// A path.
 pub struct PathText {
@@ -17,13 +17,33 @@ pub enum VisText {
     In(PathText),
 }
 
-/// One import of a `use`, with its alias.
+/// One import of a `use`, with its alias. The alias `_` is no name.
 pub struct ImportText {
     pub path: PathText,
+    pub kind: ImportKind,
     pub alias: Option<&'static str>,
 }
 
-/// An item. What stands in a module follows it, one deeper.
+/// A kind of items that are no more than a visibility and a name.
+#[derive(Clone, Copy)]
+pub enum PlainKind {
+    Union,
+    Enum,
+    Function,
+    Static,
+    Trait,
+    TypeAlias,
+}
+
+/// The constructor of a struct in values: none, one that has a visibility, or one that has the
+/// least of those of the fields.
+pub enum CtorText {
+    None,
+    Vis(VisText),
+    Fields(&'static [VisText]),
+}
+
+/// An item. What stands in a module or an extern block follows it, one deeper.
 pub enum ItemText {
     Mod {
         vis: VisText,
@@ -33,11 +53,24 @@ pub enum ItemText {
         vis: VisText,
         imports: &'static [ImportText],
     },
-    /// The constructor is in values where it has a visibility.
+    ExternBlock,
+    Impl {
+        is_trait_impl: bool,
+    },
     Struct {
         vis: VisText,
         name: &'static str,
-        ctor: Option<VisText>,
+        ctor: CtorText,
+    },
+    Plain {
+        kind: PlainKind,
+        vis: VisText,
+        name: &'static str,
+    },
+    /// A constant; one without a name is `const _`.
+    Const {
+        vis: VisText,
+        name: Option<&'static str>,
     },
 }
 
@@ -71,6 +104,14 @@ pub struct BuiltinText {
     pub number: u32,
 }
 
+/// The variants of the enum that is this item of a file: their names, and whether they have a
+/// constructor in values.
+pub struct VariantsText {
+    pub file: usize,
+    pub item: usize,
+    pub variants: &'static [(&'static str, bool)],
+}
+
 /// A scripted workspace: its files by number, and its crates, each behind those that it depends
 /// on. The last one is shown.
 #[derive(Clone, Copy)]
@@ -79,4 +120,5 @@ pub struct Vector {
     pub files: &'static [&'static [Line]],
     pub crates: &'static [CrateText],
     pub builtin_types: &'static [BuiltinText],
+    pub enums: &'static [VariantsText],
 }

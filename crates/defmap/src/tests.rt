@@ -3,6 +3,7 @@
 mod blocks;
 mod directories;
 mod globs;
+mod kinds;
 mod paths;
 mod proc_macros;
 mod program;

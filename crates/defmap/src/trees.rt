@@ -1,10 +1,10 @@
 //! Item trees of scripted files.
 
-use crate::script::{ImportText, ItemText, Line, PathText, VisText};
+use crate::script::{CtorText, ImportText, ItemText, Line, PathText, PlainKind, VisText};
 use def_ids::Interner;
 use item_tree::{
-    Attrs, AttrsOrCfg, CtorVisibility, FileAstId, ImportAlias, ImportKind, ItemNode, ItemTree,
-    ModContents, ModItemId, ModItemKind, ModPath, RawVisibility, Seq, TreeFault, UseImport,
+    Attrs, AttrsOrCfg, CtorVisibility, FileAstId, ImportAlias, ItemNode, ItemTree, ModContents,
+    ModItemId, ModItemKind, ModPath, Name, RawVisibility, Seq, TreeFault, UseImport,
 };
 use std::alloc::{AllocError, Global};
 
@@ -45,13 +45,14 @@ fn import(
 ) -> Result<UseImport, AllocError> {
     let path = path_of(alloc, session, &text.path)?;
     let alias = match text.alias {
+        Some("_") => Some(ImportAlias::Underscore),
         Some(alias) => Some(ImportAlias::Alias(session.intern_name(alias)?)),
         None => None,
     };
     Ok(UseImport {
         idx,
         path,
-        kind: ImportKind::Plain,
+        kind: text.kind,
         alias,
     })
 }
@@ -72,15 +73,36 @@ fn imports(
 fn constructor(
     alloc: Global,
     session: &mut Interner,
-    text: &Option<VisText>,
+    text: &CtorText,
 ) -> Result<CtorVisibility, AllocError> {
     match text {
-        Some(vis) => Ok(CtorVisibility::ValueNsCtorWithVis(visibility(alloc, session, vis)?)),
-        None => Ok(CtorVisibility::NoValueNsCtor),
+        CtorText::None => Ok(CtorVisibility::NoValueNsCtor),
+        CtorText::Vis(vis) => {
+            Ok(CtorVisibility::ValueNsCtorWithVis(visibility(alloc, session, vis)?))
+        }
+        CtorText::Fields(fields) => {
+            let mut list = Seq::from_vec(Vec::new(alloc));
+            for vis in *fields {
+                list.push(visibility(alloc, session, vis)?)?;
+            }
+            Ok(CtorVisibility::ValueNsCtorWithMinVis(list))
+        }
     }
 }
 
-/// What an item is. A module has no contents yet.
+/// An item that is no more than a visibility and a name.
+fn plain_item(kind: PlainKind, name: Name, visibility: RawVisibility) -> ModItemKind {
+    match kind {
+        PlainKind::Union => ModItemKind::Union { name, visibility },
+        PlainKind::Enum => ModItemKind::Enum { name, visibility },
+        PlainKind::Function => ModItemKind::Function { name, visibility },
+        PlainKind::Static => ModItemKind::Static { name, visibility },
+        PlainKind::Trait => ModItemKind::Trait { name, visibility },
+        PlainKind::TypeAlias => ModItemKind::TypeAlias { name, visibility },
+    }
+}
+
+/// What an item is. A module and an extern block have no contents yet.
 fn item_kind(
     alloc: Global,
     session: &mut Interner,
@@ -99,6 +121,23 @@ fn item_kind(
             visibility: visibility(alloc, session, vis)?,
             imports: imports(alloc, session, texts)?,
         }),
+        ItemText::ExternBlock => Ok(ModItemKind::ExternBlock {
+            children: Seq::from_vec(Vec::new(alloc)),
+        }),
+        ItemText::Impl { is_trait_impl } => Ok(ModItemKind::Impl {
+            is_trait_impl: *is_trait_impl,
+        }),
+        ItemText::Plain { kind, vis, name } => {
+            let name = session.intern_name(name)?;
+            Ok(plain_item(*kind, name, visibility(alloc, session, vis)?))
+        }
+        ItemText::Const { vis, name } => Ok(ModItemKind::Const {
+            name: match name {
+                Some(name) => Some(session.intern_name(name)?),
+                None => None,
+            },
+            visibility: visibility(alloc, session, vis)?,
+        }),
         ItemText::Struct { vis, name, ctor } => Ok(ModItemKind::Struct {
             name: session.intern_name(name)?,
             visibility: visibility(alloc, session, vis)?,
@@ -109,12 +148,13 @@ fn item_kind(
 
 /// Puts an item into another one. One that holds no items takes none.
 fn add_child(parent: &mut ItemNode, child: ModItemId) -> Result<(), AllocError> {
-    if let ModItemKind::Mod {
-        contents: ModContents::Inline(children),
-        ..
-    } = &mut parent.kind
-    {
-        children.push(child)?;
+    match &mut parent.kind {
+        ModItemKind::Mod {
+            contents: ModContents::Inline(children),
+            ..
+        } => children.push(child)?,
+        ModItemKind::ExternBlock { children } => children.push(child)?,
+        _ => {}
     }
     Ok(())
 }

@@ -4,12 +4,14 @@ ghost use Rattle.std.specs.Prelude.{◌≡◌, map, is_some, bytes_eq};
 ghost use Rattle.std.specs.List.{list_any};
 ghost use Rattle.defmap.specs.Command.{is_vector, vector_names};
 
-use crate::script::{CrateText, ImportText, ItemText, Line, PathText, Vector, VisText};
+use crate::script::{
+    CrateText, CtorText, ImportText, ItemText, Line, PathText, PlainKind, Vector, VisText,
+};
 use def_ids::Edition;
-use item_tree::PathKind;
+use item_tree::{ImportKind, PathKind};
 
 /// The vectors in byte order of their names.
-static VECTORS: [Vector; 2] = [
+static VECTORS: [Vector; 4] = [
     Vector {
         name: "empty",
         files: &[&[]],
@@ -20,6 +22,27 @@ static VECTORS: [Vector; 2] = [
             deps: &[],
         }],
         builtin_types: &[],
+        enums: &[],
+    },
+    // pub struct Q(pub u8, pub(crate) u8);
+    Vector {
+        name: "fields",
+        files: &[&[Line {
+            depth: 0,
+            item: ItemText::Struct {
+                vis: VisText::Public,
+                name: "Q",
+                ctor: CtorText::Fields(&[VisText::Public, VisText::PubCrate]),
+            },
+        }]],
+        crates: &[CrateText {
+            krate: 0,
+            edition: Edition::Edition2021,
+            root_file: 0,
+            deps: &[],
+        }],
+        builtin_types: &[],
+        enums: &[],
     },
     // mod a { pub struct S; } use a::S; use a::T;
     Vector {
@@ -37,7 +60,7 @@ static VECTORS: [Vector; 2] = [
                 item: ItemText::Struct {
                     vis: VisText::Public,
                     name: "S",
-                    ctor: Some(VisText::Public),
+                    ctor: CtorText::Vis(VisText::Public),
                 },
             },
             Line {
@@ -49,6 +72,7 @@ static VECTORS: [Vector; 2] = [
                             kind: PathKind::Plain,
                             segments: &["a", "S"],
                         },
+                        kind: ImportKind::Plain,
                         alias: None,
                     }],
                 },
@@ -62,6 +86,7 @@ static VECTORS: [Vector; 2] = [
                             kind: PathKind::Plain,
                             segments: &["a", "T"],
                         },
+                        kind: ImportKind::Plain,
                         alias: None,
                     }],
                 },
@@ -74,6 +99,77 @@ static VECTORS: [Vector; 2] = [
             deps: &[],
         }],
         builtin_types: &[],
+        enums: &[],
+    },
+    // pub trait Tr {} mod a {} mod b {} pub(in crate::a) use Tr as _; pub(in crate::b) use Tr as _;
+    Vector {
+        name: "underscore",
+        files: &[&[
+            Line {
+                depth: 0,
+                item: ItemText::Plain {
+                    kind: PlainKind::Trait,
+                    vis: VisText::Public,
+                    name: "Tr",
+                },
+            },
+            Line {
+                depth: 0,
+                item: ItemText::Mod {
+                    vis: VisText::PubSelf,
+                    name: "a",
+                },
+            },
+            Line {
+                depth: 0,
+                item: ItemText::Mod {
+                    vis: VisText::PubSelf,
+                    name: "b",
+                },
+            },
+            Line {
+                depth: 0,
+                item: ItemText::Use {
+                    vis: VisText::In(PathText {
+                        kind: PathKind::Crate,
+                        segments: &["a"],
+                    }),
+                    imports: &[ImportText {
+                        path: PathText {
+                            kind: PathKind::Plain,
+                            segments: &["Tr"],
+                        },
+                        kind: ImportKind::Plain,
+                        alias: Some("_"),
+                    }],
+                },
+            },
+            Line {
+                depth: 0,
+                item: ItemText::Use {
+                    vis: VisText::In(PathText {
+                        kind: PathKind::Crate,
+                        segments: &["b"],
+                    }),
+                    imports: &[ImportText {
+                        path: PathText {
+                            kind: PathKind::Plain,
+                            segments: &["Tr"],
+                        },
+                        kind: ImportKind::Plain,
+                        alias: Some("_"),
+                    }],
+                },
+            },
+        ]],
+        crates: &[CrateText {
+            krate: 0,
+            edition: Edition::Edition2021,
+            root_file: 0,
+            deps: &[],
+        }],
+        builtin_types: &[],
+        enums: &[],
     },
 ];
 

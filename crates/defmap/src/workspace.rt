@@ -7,13 +7,13 @@ ghost use Rattle.def_collector.specs.Headline.{Answers};
 ghost use Rattle.defmap.specs.Scripted.{answers_of};
 ghost use Rattle.defmap.specs.Workspace.{file_tree, setting};
 
-use crate::script::{CrateText, DependencyText, Line, Vector};
+use crate::script::{CrateText, DependencyText, Line, VariantsText, Vector};
 use crate::scripted::Scripted;
 use crate::trees::tree_of;
 use def_collector::{Collected, collect_defs};
-use def_ids::Interner;
-use def_map::{CrateData, DefMap, Dependency};
-use item_tree::{Crate, FileId, HirFileId, Seq, TreeId};
+use def_ids::{Interner, VariantId};
+use def_map::{CrateData, DefMap, Dependency, EnumVariant};
+use item_tree::{Crate, FileAstId, FileId, HirFileId, InFile, Seq, TreeId};
 use std::alloc::{AllocError, Global};
 
 /// A session, and a database whose answers are in its names.
@@ -46,6 +46,9 @@ impl Workspace {
             let name = self.session.intern_name(text.name)?;
             self.db.types.builtin.insert(name, text.number)?;
         }
+        for text in vector.enums {
+            self.add_variants(text)?;
+        }
         Ok(())
     }
 
@@ -61,6 +64,24 @@ impl Workspace {
         if let Ok(tree) = tree_of(self.alloc, &mut self.session, lines)? {
             self.db.files.trees.insert(tree_id(file), tree)?;
         }
+        Ok(())
+    }
+
+    /// Adds the variants of an enum, which are numbered from 0.
+    fn add_variants(&mut self, text: &VariantsText) -> Result<(), AllocError> {
+        let mut variants = Vec::new(self.alloc);
+        for (number, (name, value_ctor)) in text.variants.iter().enumerate() {
+            variants.push(EnumVariant {
+                name: self.session.intern_name(name)?,
+                id: VariantId(number),
+                value_ctor: *value_ctor,
+            })?;
+        }
+        let position = InFile {
+            file: HirFileId::File(FileId(text.file)),
+            value: FileAstId(text.item),
+        };
+        self.db.types.variants.insert(position, variants)?;
         Ok(())
     }
 

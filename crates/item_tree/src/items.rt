@@ -27,12 +27,16 @@ pub enum ModContents {
 #[derive(Clone, Copy, PartialEq, Eq, Debug)]
 pub enum ImportKind {
     Plain,
+    /// What stands in types alone, as `use a::{self}` takes it.
+    TypeOnly,
 }
 
 /// The name that an import is given.
 #[derive(Clone, Copy, PartialEq, Eq, Debug)]
 pub enum ImportAlias {
     Alias(Name),
+    /// `as _`: no name.
+    Underscore,
 }
 
 /// One import of a `use`. `idx` is its place among the imports of the `use`, from 0.
@@ -49,6 +53,8 @@ pub struct UseImport {
 pub enum CtorVisibility {
     NoValueNsCtor,
     ValueNsCtorWithVis(RawVisibility),
+    /// The least of these visibilities, which are those of its fields.
+    ValueNsCtorWithMinVis(Seq<RawVisibility>),
 }
 
 /// What the expansion of a macro call is read as.
@@ -70,10 +76,45 @@ pub enum ModItemKind {
         visibility: RawVisibility,
         imports: Seq<UseImport>,
     },
+    ExternBlock {
+        children: Seq<ModItemId>,
+    },
+    Impl {
+        is_trait_impl: bool,
+    },
     Struct {
         name: Name,
         visibility: RawVisibility,
         ctor: CtorVisibility,
+    },
+    Union {
+        name: Name,
+        visibility: RawVisibility,
+    },
+    Enum {
+        name: Name,
+        visibility: RawVisibility,
+    },
+    Function {
+        name: Name,
+        visibility: RawVisibility,
+    },
+    /// A constant; without a name it is written `const _`.
+    Const {
+        name: Option<Name>,
+        visibility: RawVisibility,
+    },
+    Static {
+        name: Name,
+        visibility: RawVisibility,
+    },
+    Trait {
+        name: Name,
+        visibility: RawVisibility,
+    },
+    TypeAlias {
+        name: Name,
+        visibility: RawVisibility,
     },
 }
 
@@ -95,6 +136,7 @@ impl ItemNode {
                 contents: ModContents::Inline(children),
                 ..
             } => children.as_slice(),
+            ModItemKind::ExternBlock { children } => children.as_slice(),
             _ => &[],
         }
     }

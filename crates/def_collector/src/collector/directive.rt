@@ -3,10 +3,10 @@ ghost use Rattle.std.specs.Prelude.{◌≡◌};
 ghost use Rattle.def_collector.specs.Imports as imports;
 ghost use Rattle.def_collector.specs.Collector.{kept_of, ns_set, pending_of};
 
-use def_bindings::{ImportOrExternCrate, Visibility};
+use def_bindings::{ImportOrExternCrate, Namespace, Visibility};
 use def_ids::{ImportId, ModuleId, UseId};
 use def_map::{Item, PerNs, ReachedFixedPoint, ResolvePathResult};
-use item_tree::{FileAstId, ImportAlias, InFile, Name, RawVisibility, UseImport};
+use item_tree::{FileAstId, ImportAlias, ImportKind, InFile, Name, RawVisibility, UseImport};
 
 /// One import of a `use` item that was reached, with the module and the item that it stands in.
 /// It refers to the item tree.
@@ -137,12 +137,27 @@ fn is_public(vis: Visibility) -> bool
     }
 }
 
-/// The name that an import binds: its alias, else the last segment of its path.
+/// Whether an import of this kind keeps what it finds in a namespace.
+pub fn keeps_ns(kind: ImportKind, ns: Namespace) -> bool
+    ensures { result ≡ imports.keeps_ns kind ns }
+{
+    match kind {
+        ImportKind::Plain => true,
+        ImportKind::TypeOnly => match ns {
+            Namespace::Types => true,
+            Namespace::Values | Namespace::Macros => false,
+        },
+    }
+}
+
+/// The name that an import binds: its alias, else the last segment of its path. The inner `None`
+/// is `_`.
 pub fn import_name(import: &UseImport) -> Option<Option<Name>>
     ensures { result ≡ imports.bound_name import.now }
 {
     match import.alias {
         Some(ImportAlias::Alias(name)) => Some(Some(name)),
+        Some(ImportAlias::Underscore) => Some(None),
         None => match import.path.segments.as_slice().last() {
             Some(name) => Some(Some(*name)),
             None => None,

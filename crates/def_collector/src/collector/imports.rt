@@ -9,7 +9,7 @@ ghost use Rattle.def_collector.specs.Steps.{Leads};
 use super::DefCollector;
 use super::directive::{
     ImportDirective, NamespaceSet, PartialDirective, import_name, is_missing, is_ready_again,
-    kept_after, kept_item,
+    keeps_ns, kept_after, kept_item,
 };
 use def_bindings::{Entry, Namespace, Visibility, lesser_or_import};
 use def_ids::Interner;
@@ -247,6 +247,9 @@ impl<'a> DefCollector<'a> {
         let Some(item) = item else {
             return Ok(());
         };
+        if !keeps_ns(directive.import.kind, ns) {
+            return Ok(());
+        }
         let vis = lesser_or_import(&self.def_map.tree, item.vis, import_vis);
         self.put(
             directive.module_id,

@@ -2,18 +2,21 @@
 ghost use Rattle.std.specs.Prelude.{◌≡◌, ◌∷◌, ◌++◌, [], length, map, IfOk, OnOk};
 ghost use Rattle.def_ids.specs.Session.{Grows, session_of};
 ghost use Rattle.def_collector.specs.Collector.{Handled, inner_of, pending_of, performed, queued, site_of, state_of, waiting};
-ghost use Rattle.def_collector.specs.State.{Put};
+ghost use Rattle.def_collector.specs.State.{Put, order};
 ghost use Rattle.def_bindings.specs.declared.bindings.Namespace.TheVariants.{Types};
 ghost use Rattle.def_ids.specs.declared.ids.Def.TheVariants as def_kind;
 ghost use Rattle.def_ids.specs.declared.interner.Interner.{Interner};
 ghost use Rattle.def_map.specs.declared.module_data.ModuleOrigin.TheVariants as origin_kind;
-ghost use Rattle.def_collector.specs.Items.{add_module, ctor_vis, next_module, position_of, put_declared, struct_effect, written_vis};
+ghost use Rattle.def_collector.specs.Items.{add_module, ctor_vis, declared_effect, least_in, least_of, next_module, position_of, put_declared, struct_effect, written_vis};
 
 use super::DefCollector;
 use super::directive::ImportDirective;
-use super::walk::Site;
-use def_bindings::{Entry, Namespace, Visibility, lesser_or_import, put_entry};
-use def_ids::{Def, Interner, Location, ModuleId, StructLoc, UseId, UseLoc};
+use super::walk::{Opened, Site};
+use def_bindings::{Entry, Namespace, VisOrder, Visibility, lesser_or_import, put_entry};
+use def_ids::{
+    ConstLoc, Def, EnumLoc, ExternBlockLoc, FunctionLoc, ImplLoc, Interner, ItemContainerId,
+    Location, ModuleId, StaticLoc, StructLoc, TraitLoc, TypeAliasLoc, UnionLoc, UseId, UseLoc,
+};
 use def_map::{ModuleData, ModuleOrigin, SourceDatabase};
 use item_tree::{
     CtorVisibility, FileAstId, InFile, ItemNode, ModItemKind, Name, RawVisibility, UseImport,
@@ -41,7 +44,7 @@ impl Site {
 }
 
 impl<'a> DefCollector<'a> {
-    /// Handles an item. Answers the module whose items are to be walked next, if it is one. On
+    /// Handles an item. Answers where the items in it are to be walked next, if it holds some. On
     /// `Err` nothing but safety is promised.
     pub fn collect_item<D: SourceDatabase>(
         &mut self,
@@ -49,7 +52,7 @@ impl<'a> DefCollector<'a> {
         session: &mut Interner,
         site: Site,
         node: &'a ItemNode,
-    ) -> Result<Option<ModuleId>, AllocError>
+    ) -> Result<Option<Opened>, AllocError>
         ensures handled { IfOk result (λ opened.
             Handled (D.oracle db.now) (state_of self.old session.old) (state_of self.new session.new)
             (site_of site) node.now (inner_of site opened node.now)) }
@@ -62,7 +65,11 @@ impl<'a> DefCollector<'a> {
                 ..
             } => {
                 let vis = self.resolve_visibility(db, session, site.module_id, visibility);
-                Ok(Some(self.push_child_module(site, node, *name, vis)?))
+                let module_id = self.push_child_module(site, node, *name, vis)?;
+                Ok(Some(Opened {
+                    module_id,
+                    container: ItemContainerId::Module(module_id),
+                }))
             }
             ModItemKind::Use {
                 visibility,
@@ -83,6 +90,28 @@ impl<'a> DefCollector<'a> {
                 queue_imports(waiting, site.module_id, written, imports.as_slice())?;
                 Ok(None)
             }
+            ModItemKind::ExternBlock { .. } => {
+                let id = ExternBlockLoc {
+                    container: site.module_id,
+                    position: site.position(node),
+                }
+                .intern(session)?;
+                self.def_map.define_extern_block(site.module_id.index, id)?;
+                Ok(Some(Opened {
+                    module_id: site.module_id,
+                    container: ItemContainerId::ExternBlock(id),
+                }))
+            }
+            ModItemKind::Impl { is_trait_impl } => {
+                let id = ImplLoc {
+                    container: site.module_id,
+                    position: site.position(node),
+                }
+                .intern(session)?;
+                let module = site.module_id.index;
+                self.def_map.define_impl(module, id, *is_trait_impl)?;
+                Ok(None)
+            }
             ModItemKind::Struct {
                 name,
                 visibility,
@@ -96,6 +125,98 @@ impl<'a> DefCollector<'a> {
                 let vis = self.resolve_visibility(db, session, site.module_id, visibility);
                 let ctor_vis = self.constructor_visibility(db, session, site.module_id, ctor);
                 self.define_struct(site.module_id, *name, Def::Struct(id), vis, ctor_vis)?;
+                Ok(None)
+            }
+            ModItemKind::Union { name, visibility } => {
+                let id = UnionLoc {
+                    container: site.module_id,
+                    position: site.position(node),
+                }
+                .intern(session)?;
+                let vis = self.resolve_visibility(db, session, site.module_id, visibility);
+                self.define(site.module_id, *name, Namespace::Types, Def::Union(id), vis)?;
+                Ok(None)
+            }
+            ModItemKind::Enum { name, visibility } => {
+                let id = EnumLoc {
+                    container: site.module_id,
+                    position: site.position(node),
+                }
+                .intern(session)?;
+                let vis = self.resolve_visibility(db, session, site.module_id, visibility);
+                self.define(site.module_id, *name, Namespace::Types, Def::Enum(id), vis)?;
+                Ok(None)
+            }
+            ModItemKind::Function { name, visibility } => {
+                let id = FunctionLoc {
+                    container: site.container,
+                    position: site.position(node),
+                }
+                .intern(session)?;
+                let vis = self.resolve_visibility(db, session, site.module_id, visibility);
+                self.define(
+                    site.module_id,
+                    *name,
+                    Namespace::Values,
+                    Def::Function(id),
+                    vis,
+                )?;
+                Ok(None)
+            }
+            ModItemKind::Const { name, visibility } => {
+                let id = ConstLoc {
+                    container: site.container,
+                    position: site.position(node),
+                }
+                .intern(session)?;
+                let Some(name) = *name else {
+                    self.def_map.define_unnamed_const(site.module_id.index, id)?;
+                    return Ok(None);
+                };
+                let vis = self.resolve_visibility(db, session, site.module_id, visibility);
+                self.define(site.module_id, name, Namespace::Values, Def::Const(id), vis)?;
+                Ok(None)
+            }
+            ModItemKind::Static { name, visibility } => {
+                let id = StaticLoc {
+                    container: site.container,
+                    position: site.position(node),
+                }
+                .intern(session)?;
+                let vis = self.resolve_visibility(db, session, site.module_id, visibility);
+                self.define(
+                    site.module_id,
+                    *name,
+                    Namespace::Values,
+                    Def::Static(id),
+                    vis,
+                )?;
+                Ok(None)
+            }
+            ModItemKind::Trait { name, visibility } => {
+                let id = TraitLoc {
+                    container: site.module_id,
+                    position: site.position(node),
+                }
+                .intern(session)?;
+                let vis = self.resolve_visibility(db, session, site.module_id, visibility);
+                self.define(site.module_id, *name, Namespace::Types, Def::Trait(id), vis)?;
+                Ok(None)
+            }
+            ModItemKind::TypeAlias { name, visibility } => {
+                let id = TypeAliasLoc {
+                    container: site.container,
+                    position: site.position(node),
+                }
+                .intern(session)?;
+                let vis = self.resolve_visibility(db, session, site.module_id, visibility);
+                self.define(
+                    site.module_id,
+                    *name,
+                    Namespace::Types,
+                    Def::TypeAlias(id),
+                    vis,
+                )?;
                 Ok(None)
             }
         }
@@ -138,7 +259,54 @@ impl<'a> DefCollector<'a> {
             CtorVisibility::ValueNsCtorWithVis(visibility) => {
                 Some(self.resolve_visibility(db, session, module_id, visibility))
             }
+            CtorVisibility::ValueNsCtorWithMinVis(fields) => {
+                self.least_visibility(db, session, module_id, fields.as_slice())
+            }
         }
+    }
+
+    /// The least of the visibilities of a struct's fields, if there are any and each two that meet
+    /// are related.
+    fn least_visibility<D: SourceDatabase>(
+        &self,
+        db: &D,
+        session: &Interner,
+        module_id: ModuleId,
+        fields: &[RawVisibility],
+    ) -> Option<Visibility>
+        ensures { result ≡ (let s = state_of self.now session.now in
+            least_in (order s) (map (λ raw. written_vis (D.oracle db.now) s module_id raw) fields.now)) }
+    {
+        match fields {
+            [] => None,
+            [first, rest @ ..] => {
+                let first = self.resolve_visibility(db, session, module_id, first);
+                self.least_with(db, session, module_id, first, rest)
+            }
+        }
+    }
+
+    /// The least of a visibility and those of fields, if each two that meet are related.
+    fn least_with<D: SourceDatabase>(
+        &self,
+        db: &D,
+        session: &Interner,
+        module_id: ModuleId,
+        first: Visibility,
+        fields: &[RawVisibility],
+    ) -> Option<Visibility>
+        ensures { result ≡ (let s = state_of self.now session.now in
+            least_of (order s) first (map (λ raw. written_vis (D.oracle db.now) s module_id raw) fields.now)) }
+    {
+        let mut least = first;
+        'fields: for field in fields {
+            let vis = self.resolve_visibility(db, session, module_id, field);
+            match self.def_map.tree.min(least, vis) {
+                Some(lesser) => least = lesser,
+                None => return None,
+            }
+        }
+        Some(least)
     }
 
     /// Puts an entry in a module. On `Err` nothing but safety is promised.
@@ -175,6 +343,23 @@ impl<'a> DefCollector<'a> {
         )
     }
 
+    /// Declares a definition in one namespace. On `Err` nothing but safety is promised.
+    fn define(
+        &mut self,
+        module_id: ModuleId,
+        name: Name,
+        ns: Namespace,
+        def: Def,
+        vis: Visibility,
+    ) -> Result<(), AllocError>
+        ensures { OnOk result ((session : Interner) →
+            let effect = declared_effect (state_of self.old session) module_id name ns def vis in
+            state_of self.new session ≡ performed effect.tasks effect.state) }
+    {
+        self.def_map.declare(module_id.index, def)?;
+        self.put_declared(module_id, name, ns, def, vis)
+    }
+
     /// Declares a struct in types, and its constructor in values, which is at most as visible as
     /// the struct. On `Err` nothing but safety is promised.
     fn define_struct(
@@ -189,8 +374,7 @@ impl<'a> DefCollector<'a> {
             let effect = struct_effect (state_of self.old session) module_id name def vis ctor_vis in
             state_of self.new session ≡ performed effect.tasks effect.state) }
     {
-        self.def_map.declare(module_id.index, def)?;
-        self.put_declared(module_id, name, Namespace::Types, def, vis)?;
+        self.define(module_id, name, Namespace::Types, def, vis)?;
         if let Some(ctor_vis) = ctor_vis {
             let vis = lesser_or_import(&self.def_map.tree, ctor_vis, vis);
             self.put_declared(module_id, name, Namespace::Values, def, vis)?;

@@ -1,11 +1,12 @@
 //! The walk of item trees, over an explicit stack of lists.
 ghost use Rattle.std.specs.Prelude.{◌≡◌, ◌<◌, ◌++◌, ◌∷◌, [], All, OnOk};
 ghost use Rattle.def_ids.specs.Session.{Grows, session_of};
-ghost use Rattle.def_collector.specs.Collector.{agenda_of, is_known, state_of, walk_measure};
+ghost use Rattle.def_collector.specs.Collector.{agenda_of, is_known, site_of, state_of, walk_measure};
+ghost use Rattle.def_collector.specs.State.{module_site};
 ghost use Rattle.def_collector.specs.Steps.{Leads};
 
 use super::DefCollector;
-use def_ids::{Interner, ModuleId};
+use def_ids::{Interner, ItemContainerId, ModuleId};
 use def_map::SourceDatabase;
 use item_tree::{ItemTree, ModItemId, TreeId};
 use std::alloc::AllocError;
@@ -14,18 +15,39 @@ use std::alloc::AllocError;
 /// of frames goes first.
 #[derive(Clone, Copy)]
 pub struct Frame<'a> {
-    pub module_id: ModuleId,
-    pub tree_id: TreeId,
+    pub site: Site,
     pub tree: &'a ItemTree,
     pub items: &'a [ModItemId],
     pub next: usize,
 }
 
-/// Where the items of a list stand: their module, and the tree that holds them.
+/// Where the items of a list stand: their module, what contains them (the module, or an extern
+/// block in it), and the tree that holds them.
 #[derive(Clone, Copy)]
 pub struct Site {
     pub module_id: ModuleId,
+    pub container: ItemContainerId,
     pub tree_id: TreeId,
+}
+
+impl Site {
+    /// Where a module's own items stand.
+    pub fn of_module(module_id: ModuleId, tree_id: TreeId) -> Site
+        ensures { site_of result ≡ module_site module_id tree_id }
+    {
+        Site {
+            module_id,
+            container: ItemContainerId::Module(module_id),
+            tree_id,
+        }
+    }
+}
+
+/// The list of the items in an item: the module that they are walked in, and what contains them.
+#[derive(Clone, Copy)]
+pub struct Opened {
+    pub module_id: ModuleId,
+    pub container: ItemContainerId,
 }
 
 impl<'a> DefCollector<'a> {
@@ -72,8 +94,7 @@ impl<'a> DefCollector<'a> {
             return Ok(());
         };
         frames.push(Frame {
-            module_id: frame.module_id,
-            tree_id: frame.tree_id,
+            site: frame.site,
             tree: frame.tree,
             items: frame.items,
             next: frame.next + 1,
@@ -81,14 +102,13 @@ impl<'a> DefCollector<'a> {
         let Some(node) = frame.tree.index(*id) else {
             return Ok(());
         };
-        let site = Site {
-            module_id: frame.module_id,
-            tree_id: frame.tree_id,
-        };
-        if let Some(child) = self.collect_item(db, session, site, node)? {
+        if let Some(opened) = self.collect_item(db, session, frame.site, node)? {
             frames.push(Frame {
-                module_id: child,
-                tree_id: frame.tree_id,
+                site: Site {
+                    module_id: opened.module_id,
+                    container: opened.container,
+                    tree_id: frame.site.tree_id,
+                },
                 tree: frame.tree,
                 items: node.children(),
                 next: 0,

@@ -1,14 +1,14 @@
 //! Blocks over scripted crates.
 #![tactic(auto)]
 
-use crate::script::{CrateText, ImportText, ItemText, Line, PathText, Vector, VisText};
+use crate::script::{CrateText, CtorText, ImportText, ItemText, Line, PathText, Vector, VisText};
 use crate::trees::tree_of;
 use crate::workspace::Workspace;
 use def_bindings::{Binding, ImportOrExternCrate, Visibility};
 use def_collector::{Collected, collect_defs};
 use def_ids::{Def, Edition, ImportId, MapId, ModuleId, StructId, UseId};
 use def_map::{BlockInfo, DefMap, PerNs};
-use item_tree::{BlockId, Crate, FileId, HirFileId, PathKind, TreeId};
+use item_tree::{BlockId, Crate, FileId, HirFileId, ImportKind, PathKind, TreeId};
 use std::alloc::{AllocError, Global};
 use std::test::Fail;
 
@@ -20,11 +20,12 @@ static CRATE: Vector = Vector {
         item: ItemText::Struct {
             vis: VisText::Public,
             name: "S",
-            ctor: Some(VisText::Public),
+            ctor: CtorText::Vis(VisText::Public),
         },
     }]],
     crates: &[],
     builtin_types: &[],
+    enums: &[],
 };
 
 /// use S as T;
@@ -37,6 +38,7 @@ static BLOCK: [Line; 1] = [Line {
                 kind: PathKind::Plain,
                 segments: &["S"],
             },
+            kind: ImportKind::Plain,
             alias: Some("T"),
         }],
     },

@@ -4,10 +4,10 @@
 use crate::command::show;
 use crate::fault::Fault;
 use crate::script::{
-    BuiltinText, CrateText, ImportText, ItemText, Line, PathText, Vector, VisText,
+    BuiltinText, CrateText, CtorText, ImportText, ItemText, Line, PathText, Vector, VisText,
 };
 use def_ids::Edition;
-use item_tree::PathKind;
+use item_tree::{ImportKind, PathKind};
 use std::alloc::Global;
 
 static IN_2015: [CrateText; 1] = [CrateText {
@@ -42,6 +42,7 @@ static TWO_MODULES: [&[Line]; 1] = [&[
                     kind: PathKind::Plain,
                     segments: &["b", "X"],
                 },
+                kind: ImportKind::Plain,
                 alias: None,
             }],
         },
@@ -58,7 +59,7 @@ static TWO_MODULES: [&[Line]; 1] = [&[
         item: ItemText::Struct {
             vis: VisText::Public,
             name: "X",
-            ctor: Some(VisText::Public),
+            ctor: CtorText::Vis(VisText::Public),
         },
     },
 ]];
@@ -81,6 +82,7 @@ static USES_OF_TYPES: [&[Line]; 1] = [&[
                     kind: PathKind::Plain,
                     segments: &["u8"],
                 },
+                kind: ImportKind::Plain,
                 alias: Some("m"),
             }],
         },
@@ -94,6 +96,7 @@ static USES_OF_TYPES: [&[Line]; 1] = [&[
                     kind: PathKind::Plain,
                     segments: &["u16"],
                 },
+                kind: ImportKind::Plain,
                 alias: Some("n"),
             }],
         },
@@ -124,6 +127,7 @@ fn lines_of(
         files,
         crates,
         builtin_types,
+        enums: &[],
     };
     show(alloc, &vector, &mut lines)?;
     Ok(lines)

@@ -52,7 +52,14 @@ fn expect_run(rt: &impl Abort, alloc: Global, words: &[&str], status: u8, out: &
 #[test]
 fn shows_what_there_is(rt: HostRuntime) {
     let alloc = rt.alloc();
-    expect_run(&rt, alloc, &["list"], 0, "empty\nplain\n", "");
+    expect_run(
+        &rt,
+        alloc,
+        &["list"],
+        0,
+        "empty\nfields\nplain\nunderscore\n",
+        "",
+    );
     expect_run(&rt, alloc, &["show", "plain"], 0, PLAIN, "");
     expect_run(&rt, alloc, &["show", "empty"], 0, "module 0 - crate\n", "");
 }

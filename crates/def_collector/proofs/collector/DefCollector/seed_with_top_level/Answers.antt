@@ -18,5 +18,5 @@ returns-clause-run g c =
     let oracle = g.D.SourceDatabase.oracle c.args.db.now in
     on_ok c.walk.result c.walk.ensures.run (λ run.
     subst (λ tasks. Leads oracle tasks (state_of c.args.self.now c.args.session.now) [] (state_of c.walk.new.self c.walk.new.session))
-    (first_some oracle (map_state c.args.self.now.def_map) c.args.tree_id c.first_tree-tree_id.result c.first_tree-tree_id.ensures c.in-Some.tree c.top_level_items.result c.in-Some.ensures c.top_level_items.ensures)
+    (first_some oracle (map_state c.args.self.now.def_map) c.args.tree_id c.first_tree-tree_id.result c.first_tree-tree_id.ensures c.of_module.result c.in-Some.tree c.top_level_items.result c.of_module.ensures c.in-Some.ensures c.top_level_items.ensures)
     run)

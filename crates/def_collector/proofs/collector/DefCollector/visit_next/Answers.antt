@@ -30,28 +30,28 @@ returns-in_ok-push-2-clause-run g c =
     let at = stands_at c.args.frame.items.now c.args.frame.next c.in-Some.id.now c.in-Some.ensures.lookup.3.0 (c.in-Some.ensures.lookup.3.1 c.in-Some.id.now) in
     turn_opened (g.D.SourceDatabase.oracle c.args.db.now) c.args.frames.now.items c.args.frame c.requires.known c.in-Some.id.now at c.push.new.self.items c.in_ok-push.ensures.items
     (state_of c.args.self.now c.args.session.now) (state_of c.collect_item.new.self c.collect_item.new.session) c.in-Some-index.node.now c.in-Some-index.ensures
-    c.in-Some-2.child c.children.result c.children.ensures c.push-in-Some-2.new.self.items c.in_ok-push-2.ensures.items c.in_ok-child.field-0 c.in-Some-2.is c.in_ok-child.ensures.handled
+    c.in-Some-2.opened c.children.result c.children.ensures c.push-in-Some-2.new.self.items c.in_ok-push-2.ensures.items c.in_ok-opened.field-0 c.in-Some-2.is c.in_ok-opened.ensures.handled
 
 pub returns-in_ok-push-2-clause-known : goal.returns-in_ok-push-2-clause-known
 returns-in_ok-push-2-clause-known g c =
     let at = stands_at c.args.frame.items.now c.args.frame.next c.in-Some.id.now c.in-Some.ensures.lookup.3.0 (c.in-Some.ensures.lookup.3.1 c.in-Some.id.now) in
     opened_known (g.D.SourceDatabase.oracle c.args.db.now) c.args.frames.now.items c.args.frame c.requires.known c.in-Some.id.now at c.push.new.self.items c.in_ok-push.ensures.items
     (state_of c.args.self.now c.args.session.now) (state_of c.collect_item.new.self c.collect_item.new.session) c.in-Some-index.node.now c.in-Some-index.ensures
-    c.in-Some-2.child c.children.result c.children.ensures c.push-in-Some-2.new.self.items c.in_ok-push-2.ensures.items
+    c.in-Some-2.opened c.children.result c.children.ensures c.push-in-Some-2.new.self.items c.in_ok-push-2.ensures.items
 
 pub returns-in_ok-push-2-clause-fewer : goal.returns-in_ok-push-2-clause-fewer
 returns-in_ok-push-2-clause-fewer g c =
     let at = stands_at c.args.frame.items.now c.args.frame.next c.in-Some.id.now c.in-Some.ensures.lookup.3.0 (c.in-Some.ensures.lookup.3.1 c.in-Some.id.now) in
     opened_fewer (g.D.SourceDatabase.oracle c.args.db.now) c.args.frames.now.items c.args.frame c.requires.known c.in-Some.id.now at c.push.new.self.items c.in_ok-push.ensures.items
     (state_of c.args.self.now c.args.session.now) (state_of c.collect_item.new.self c.collect_item.new.session) c.in-Some-index.node.now c.in-Some-index.ensures
-    c.in-Some-2.child c.children.result c.children.ensures c.push-in-Some-2.new.self.items c.in_ok-push-2.ensures.items c.args.frame.tree.now.sound
+    c.in-Some-2.opened c.children.result c.children.ensures c.push-in-Some-2.new.self.items c.in_ok-push-2.ensures.items c.args.frame.tree.now.sound
 
 pub returns-in_default-2-clause-run : goal.returns-in_default-2-clause-run
 returns-in_default-2-clause-run g c =
     let at = stands_at c.args.frame.items.now c.args.frame.next c.in-Some.id.now c.in-Some.ensures.lookup.3.0 (c.in-Some.ensures.lookup.3.1 c.in-Some.id.now) in
     turn_closed (g.D.SourceDatabase.oracle c.args.db.now) c.args.frames.now.items c.args.frame c.requires.known c.in-Some.id.now at c.push.new.self.items c.in_ok-push.ensures.items
     (state_of c.args.self.now c.args.session.now) (state_of c.collect_item.new.self c.collect_item.new.session) c.in-Some-index.node.now c.in-Some-index.ensures
-    c.in_ok-child.field-0 c.in_default-2.is c.in_ok-child.ensures.handled
+    c.in_ok-opened.field-0 c.in_default-2.is c.in_ok-opened.ensures.handled
 
 pub returns-in_default-2-clause-known : goal.returns-in_default-2-clause-known
 returns-in_default-2-clause-known g c =
