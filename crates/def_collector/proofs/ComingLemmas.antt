@@ -17,7 +17,8 @@ use Rattle.def_bindings.specs.Order.{Order}
 use Rattle.def_bindings.specs.Puts.{offered, put_entry}
 use Rattle.def_bindings.specs.PutsLaws.{bound_stays-put_entry, bound_after-put_name}
 use Rattle.def_collector.specs.Imports.{bound_name, is_full, keeps_ns}
-use Rattle.def_collector.specs.State.{Event, PutExplicit, Recorded, NsSet, PendingImport, PartialImport, Site, Task, Visit, Put}
+use Rattle.def_parts.specs.Directories.{Directory}
+use Rattle.def_collector.specs.State.{Event, PutExplicit, Recorded, NsSet, PendingImport, PartialImport, Site, Task, Enter, Visit, Put}
 use Rattle.def_collector.specs.Steps.{event_of}
 use Rattle.def_collector.proofs.ListLemmas.{contains_cases}
 
@@ -101,6 +102,14 @@ visit_ahead site id rest more at entry h =
     elim (contains_cases (Visit site id) (Put at entry) rest h) [
       | inl same ↦ absurd (cc same)
       | inr later ↦ Contains-append_right more rest (Put at entry) later
+    ]
+
+-- so does a directory that is stored
+pub enter_ahead : (place : ModuleId) (directory : Directory) (rest : List Task) (at : ModuleId) (entry : Entry Visibility) → Contains (Enter place directory ∷ rest) (Put at entry) → Contains rest (Put at entry)
+enter_ahead place directory rest at entry h =
+    elim (contains_cases (Enter place directory) (Put at entry) rest h) [
+      | inl same ↦ absurd (cc same)
+      | inr later ↦ later
     ]
 
 -- what is put is bound

@@ -15,7 +15,7 @@ use Rattle.def_bindings.specs.PutsLaws.{explicit_stays-put_entry, explicit_after
 use Rattle.def_map.specs.Oracle.{Oracle}
 use Rattle.def_collector.specs.Imports.{ImportStep, answer_now, is_foreign, of_pending, of_partial}
 use Rattle.def_collector.specs.Settled.{IsDeclared}
-use Rattle.def_collector.specs.State.{State, Effect, Event, PutExplicit, Recorded, PendingImport, Moment, Task, Visit, Put, order}
+use Rattle.def_collector.specs.State.{State, Effect, Event, PutExplicit, Recorded, PendingImport, Moment, Task, Enter, Visit, Put, order}
 use Rattle.def_collector.specs.Steps.{Copies, Does, Reaches, Step, performs, copies, rearranges, records, event_of, put_event}
 use Rattle.def_collector.proofs.ListLemmas.{not_empty, split_last}
 use Rattle.def_collector.proofs.RunsLemmas.{kept_along, visits_leaves}
@@ -154,6 +154,7 @@ declares-same events es old new none same all =
 -- Each step keeps what is declared
 
 declares-does : (oracle : Oracle) (events : List Event) (s : State) (task : Task) (effect : Effect) → Does oracle s task effect → Declares events s.content → Declares (events ++ effect.events) effect.state.content
+declares-does oracle events s (Enter at directory) effect does all = declares-same events effect.events s.content effect.state.content (ap (λ (e : Effect). e.events) does) (ap (λ (e : Effect). e.state.content) does) all
 declares-does oracle events s (Visit site id) effect does all = let leaves = visits_leaves oracle s site id effect does in declares-same events effect.events s.content effect.state.content leaves.events leaves.content all
 declares-does oracle events s (Put place entry) effect does all = subst (λ (e : Effect). Declares (events ++ e.events) e.state.content) (sym does) (declares-put (order s) place entry events s.content all)
 

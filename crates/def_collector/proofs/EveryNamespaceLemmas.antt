@@ -22,10 +22,11 @@ use Rattle.def_map.specs.Oracle.{Oracle}
 use Rattle.def_map.specs.PerNs.{in_namespace}
 use Rattle.def_collector.specs.Imports.{ImportStep, NoneReady, answer_now, given_set, is_extended, is_foreign, is_full, is_ready, no_namespaces, of_partial, of_pending}
 use Rattle.def_collector.specs.Settled.{HasEveryNamespace}
-use Rattle.def_collector.specs.State.{State, Effect, Event, Recorded, NsSet, PendingImport, PartialImport, Moment, Task, Visit, Put, Rearranges, Site, order}
+use Rattle.def_collector.specs.State.{State, Effect, only, entered, Event, Recorded, NsSet, PendingImport, PartialImport, Moment, Task, Enter, Visit, Put, Rearranges, Site, order}
 use Rattle.def_collector.specs.Steps.{Copies, Does, Reaches, Step, performs, copies, rearranges, records, put_event}
+use Rattle.def_parts.specs.Directories.{Directory}
 use Rattle.def_collector.proofs.RunsLemmas.{Leaves, kept_along, visits_leaves}
-use Rattle.def_collector.proofs.ComingLemmas.{Covers, HasSet, bound_now, covers-kept, has_ns, keeps_coming, put_keeps, unrecorded, visit_ahead}
+use Rattle.def_collector.proofs.ComingLemmas.{Covers, HasSet, bound_now, covers-kept, enter_ahead, has_ns, keeps_coming, put_keeps, unrecorded, visit_ahead}
 use Rattle.def_collector.proofs.ListLemmas.{contains_cases}
 use Rattle.def_collector.proofs.RecordedLemmas.{covers-recorded, no_each}
 
@@ -43,6 +44,15 @@ module _ (s : State) (effect : Effect) (rest : List Task) (events : List Event) 
       (covers-kept s.partial s.partial s.content s.content (Visit site id ∷ rest) (effect.tasks ++ rest) events events (keeps_coming s.content s.content (Visit site id ∷ rest) (effect.tasks ++ rest) (λ at name ns bound. bound) (λ at entry h. visit_ahead site id rest effect.tasks at entry h))
       (IsPermutation-refl s.partial) (λ e h. h) (λ p h. h) all))))
 
+-- a directory that is stored leaves all that is covered
+covers-enter : (s : State) (at : ModuleId) (directory : Directory) (rest : List Task) (events : List Event) → Covers s.partial s.content (Enter at directory ∷ rest) events
+    → Covers s.partial s.content rest (events ++ [])
+covers-enter s at directory rest events all =
+    subst (λ es. Covers s.partial s.content rest es) (sym (append-nil events))
+    (covers-kept s.partial s.partial s.content s.content (Enter at directory ∷ rest) rest events events
+    (keeps_coming s.content s.content (Enter at directory ∷ rest) rest (λ at name ns bound. bound) (λ place entry h. enter_ahead at directory rest place entry h))
+    (IsPermutation-refl s.partial) (λ e h. h) (λ p h. h) all)
+
 covers-put : (s : State) (place : ModuleId) (entry : Entry Visibility) (rest : List Task) (events : List Event) → Covers s.partial s.content (Put place entry ∷ rest) events
     → Covers s.partial (put_entry (order s) place entry s.content) rest (events ++ put_event place entry)
 covers-put s place entry rest events all =
@@ -55,6 +65,8 @@ covers-put s place entry rest events all =
 
 covers-does : (oracle : Oracle) (s : State) (task : Task) (effect : Effect) (rest : List Task) (events : List Event) → Does oracle s task effect → Covers s.partial s.content (task ∷ rest) events
     → Covers effect.state.partial effect.state.content (effect.tasks ++ rest) (events ++ effect.events)
+covers-does oracle s (Enter at directory) effect rest events does all =
+    subst (λ (e : Effect). Covers e.state.partial e.state.content (e.tasks ++ rest) (events ++ e.events)) (sym does) (covers-enter s at directory rest events all)
 covers-does oracle s (Visit site id) effect rest events does all = covers-visit s effect rest events site id (visits_leaves oracle s site id effect does) all
 covers-does oracle s (Put place entry) effect rest events does all =
     subst (λ (e : Effect). Covers e.state.partial e.state.content (e.tasks ++ rest) (events ++ e.events)) (sym does) (covers-put s place entry rest events all)

@@ -5,7 +5,7 @@ use Rattle.def_collector.specs.Collector.{IsFinished}
 use Rattle.def_collector.specs.Headline.{Answers}
 use Rattle.def_collector.specs.Imports.{NoneReady}
 use Rattle.def_collector.specs.Report.{Answer, NoneFailed}
-use Rattle.def_collector.specs.Start.{first_tasks, seeded_state, start}
+use Rattle.def_collector.specs.Start.{first_tasks, seeded_state, start, started}
 use Rattle.def_collector.specs.State.{Setting, State, Moment}
 use Rattle.def_collector.specs.Steps.{Leads, Reaches, at}
 use Rattle.def_collector.proofs.DeclaredLemmas.{declared_along}
@@ -14,7 +14,7 @@ use Rattle.def_collector.proofs.RunsLemmas.{none_failed_along}
 use Rattle.def_collector.proofs.StaysLemmas.{explicit_stays_along}
 
 -- where a run from the seeded map leads to an end at which nothing is left to do and no import is ready, what is answered of that end is right
-pub answers : (w : Setting) (before after : Session) (answer : Answer) (t : State) → Leads w.oracle (first_tasks w.oracle w.seeded w.tree) (seeded_state w before) [] t → NoneReady w.oracle t → t.session ≡ after → NoneFailed w.seeded
+pub answers : (w : Setting) (before after : Session) (answer : Answer) (t : State) → Leads w.oracle (first_tasks w.oracle w.seeded w.tree) (started w.oracle w.seeded w.tree (seeded_state w before)) [] t → NoneReady w.oracle t → t.session ≡ after → NoneFailed w.seeded
     → IsFinished t answer → Answers w before after answer
 answers w before after answer t leads settled session clean finished =
     record {

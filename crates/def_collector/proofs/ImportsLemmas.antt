@@ -16,7 +16,7 @@ use Rattle.def_map.specs.Oracle.{Oracle}
 use Rattle.def_map.specs.PerNs.{Item}
 use Rattle.def_collector.specs.Collector.{ArePuts, Moves, missing_from, performed, turns_left}
 use Rattle.def_collector.specs.Imports.{answer_now, is_ready, is_ready_again, is_extended, is_foreign, is_full, is_missing, given_set, union, no_namespaces, keeps_ns, kept_after, kept_item, kept_list, import_vis, bound_name, of_pending, of_partial, after_pending, after_partial, named_entries, entry_of}
-use Rattle.def_collector.specs.State.{State, PendingImport, PartialImport, NsSet, Site, Task, Visit, Put, followed_by, order}
+use Rattle.def_collector.specs.State.{State, PendingImport, PartialImport, NsSet, Site, Task, Enter, Visit, Put, followed_by, order}
 use Rattle.def_collector.specs.Steps.{Leads, put_effect}
 use Rattle.def_collector.proofs.StepsLemmas.{leads_import, leads_puts, leads_rearranged, leads_trans}
 
@@ -30,6 +30,7 @@ are_puts-append : (xs ys : List Task) → ArePuts xs → ArePuts ys → ArePuts 
 are_puts-append [] ys p q = q
 are_puts-append (Put at entry ∷ xs) ys p q = are_puts-append xs ys p q
 are_puts-append (Visit site id ∷ xs) ys p q = absurd p
+are_puts-append (Enter at directory ∷ xs) ys p q = absurd p
 
 entry_is_put : (order : Order Visibility) (pending : PendingImport) (vis : Visibility) (name : Option Name) (ns : Namespace) (item : Option Item) → ArePuts (entry_of order pending vis name ns item)
 entry_is_put order pending vis name ns None = tt
@@ -49,11 +50,13 @@ pub performed-imports : (tasks : List Task) (s : State) → (performed tasks s).
 performed-imports [] s = refl
 performed-imports (Put at entry ∷ tasks) s = performed-imports tasks (put_effect s at entry).state
 performed-imports (Visit site id ∷ tasks) s = performed-imports tasks s
+performed-imports (Enter at directory ∷ tasks) s = performed-imports tasks s
 
 pub performed-partial : (tasks : List Task) (s : State) → (performed tasks s).partial ≡ s.partial
 performed-partial [] s = refl
 performed-partial (Put at entry ∷ tasks) s = performed-partial tasks (put_effect s at entry).state
 performed-partial (Visit site id ∷ tasks) s = performed-partial tasks s
+performed-partial (Enter at directory ∷ tasks) s = performed-partial tasks s
 
 performed-turns : (tasks : List Task) (s : State) → turns_left (performed tasks s) ≡ turns_left s
 performed-turns tasks s = rw (performed-imports tasks s, performed-partial tasks s) refl

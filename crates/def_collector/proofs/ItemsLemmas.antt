@@ -1,39 +1,40 @@
 -- States after what an item puts.
-use Rattle.std.proofs.Common.{◌≡◌, ◌<◌, ◌+◌, ℕ, Bool, List, length, map, take, get_or, Option, [], ◌∷◌, ◌++◌, Some, None, refl, sym, ap, subst, ◌∙◌, append-nil, append_assoc}
+use Rattle.std.proofs.Common.{◌≡◌, ◌<◌, ◌+◌, ℕ, List, length, map, take, get_or, Option, [], ◌∷◌, ◌++◌, Some, None, refl, sym, ap, subst, ◌∙◌, append-nil, append_assoc, Bool}
 use Rattle.std.proofs.lemmas.List.{map_more}
 use Rattle.item_tree.specs.declared.ids.FileAstId.{FileAstId}
 use Rattle.item_tree.specs.declared.ids.InFile.{InFile}
 use Rattle.item_tree.specs.declared.items.CtorVisibility.{CtorVisibility}
 use Rattle.item_tree.specs.declared.items.ItemNode.{ItemNode}
 use Rattle.item_tree.specs.declared.items.ModContents.{ModContents}
-use Rattle.item_tree.specs.declared.items.ModItemKind.TheVariants.{Mod, Use, ExternBlock, Impl, Struct, Union, Enum, Function, Const, Static, Trait, TypeAlias}
+use Rattle.item_tree.specs.declared.items.ModItemKind.TheVariants.{Mod, Use, Struct, ExternBlock, Impl, Union, Enum, Function, Const, Static, Trait, TypeAlias}
 use Rattle.item_tree.specs.declared.items.RawVisibility.{RawVisibility}
 use Rattle.item_tree.specs.declared.items.UseImport.{UseImport}
 use Rattle.item_tree.specs.declared.name.Name.{Name}
-use Rattle.item_tree.specs.declared.ids.ModItemId.{ModItemId}
-use Rattle.item_tree.specs.Trees.{children_of, children_of_kind}
 use Rattle.def_ids.specs.declared.ids.Def.{Def}
 use Rattle.def_ids.specs.declared.ids.Def.TheVariants.{Module}
 use Rattle.def_ids.specs.declared.ids.Def.TheVariants as def
-use Rattle.def_ids.specs.declared.ids.ItemContainerId.TheVariants as contained
 use Rattle.def_ids.specs.declared.ids.ModuleId.{ModuleId}
-use Rattle.def_ids.specs.Session.{Session, Grows, ItemKind, FunctionItem, StructItem, UnionItem, EnumItem, ConstItem, StaticItem, TraitItem, TypeAliasItem, ImplItem, UseItem, ExternBlockItem, in_container, in_module}
+use Rattle.def_ids.specs.Session.{Session, Grows, StructItem, UseItem, in_module, ItemKind, FunctionItem, UnionItem, EnumItem, ConstItem, StaticItem, TraitItem, TypeAliasItem, ImplItem, ExternBlockItem, in_container}
 use Rattle.def_ids.specs.SessionLaws.{grows_refl}
-use Rattle.def_bindings.specs.declared.bindings.Namespace.{Namespace}
 use Rattle.def_bindings.specs.declared.bindings.Namespace.TheVariants.{Types, Values}
 use Rattle.def_bindings.specs.declared.visibility.Visibility.{Visibility}
 use Rattle.def_bindings.specs.Puts.{lessened}
 use Rattle.def_map.specs.declared.module_data.ModuleOrigin.{ModuleOrigin}
-use Rattle.def_map.specs.declared.module_data.ModuleOrigin.TheVariants.{Inline}
 use Rattle.def_map.specs.Maps.{pushed, with_module}
 use Rattle.def_map.specs.MapState.{MapState, ModuleState}
 use Rattle.def_map.specs.Oracle.{Oracle}
 use Rattle.def_map.specs.Scopes.{declared_in, empty_module, with_child, with_extern_block, with_impl, with_unnamed_const}
 use Rattle.def_collector.specs.declared.collector.directive.ImportDirective.{ImportDirective}
 use Rattle.def_collector.specs.declared.collector.items.Written.{Written}
-use Rattle.def_collector.specs.Collector.{ArePuts, Handled, pending_of, performed, queued}
-use Rattle.def_collector.specs.Items.{add_module, container_of, ctor_task, ctor_vis, declare, declared_effect, Declares, Handles, loc_of, module_item, next_module, noted_in, pending_imports, position_of, put_declared, struct_effect, walk, written_vis}
-use Rattle.def_collector.specs.State.{State, Effect, PendingImport, Site, followed_by, module_site, only, with_map, order}
+use Rattle.def_collector.specs.Collector.{ArePuts, Handled, IsDone, pending_of, performed, queued}
+use Rattle.def_collector.specs.Items.{add_module, ctor_task, ctor_vis, declare, Handles, loc_of, module_item, next_module, pending_imports, position_of, put_declared, struct_effect, written_vis, container_of, declared_effect, Declares, noted_in, walk}
+use Rattle.def_parts.specs.Directories.{Directory}
+use Rattle.def_collector.specs.State.{State, Effect, PendingImport, Site, Task, only, with_map, order, followed_by, module_site}
+use Rattle.item_tree.specs.declared.ids.ModItemId.{ModItemId}
+use Rattle.item_tree.specs.Trees.{children_of, children_of_kind}
+use Rattle.def_ids.specs.declared.ids.ItemContainerId.TheVariants as contained
+use Rattle.def_bindings.specs.declared.bindings.Namespace.{Namespace}
+use Rattle.def_map.specs.declared.module_data.ModuleOrigin.TheVariants.{Inline}
 
 -- a struct with a constructor
 pub struct_put_both : (s s2 s3 : State) (at : ModuleId) (name : Name) (d : Def) (vis ctor : Visibility) (given : Option Visibility) (v : Visibility) → given ≡ Some ctor
@@ -78,17 +79,12 @@ are_puts-ctor s at name d vis None = tt
 are_puts-ctor s at name d vis (Some ctor) = tt
 
 -- a module was handled
-pub handled_module : (oracle : Oracle) (s t : State) (site : Site) (item : ItemNode) (name : Name) (raw : RawVisibility) (contents : ModContents) (child : ModuleId) (vis : Visibility)
-    → item.kind ≡ Mod name raw contents → child ≡ next_module s → vis ≡ written_vis oracle s site.scope raw
-    → t ≡ performed (put_declared site.scope name Types (Module (next_module s)) vis ∷ []) (add_module s site.scope name vis (Inline item.ast_id site.tree))
-    → Handled oracle s t site item (walk (module_site child site.tree) (children_of item))
-handled_module oracle s t site item name raw contents child vis kind numbered seen after = record {
-  effect = module_item s site item name vis;
-  puts = put_declared site.scope name Types (Module (next_module s)) vis ∷ [];
-  handled = (s.session, grows_refl s.session, subst (λ k. Handles oracle s site item k (module_item s site item name vis)) (sym kind) (ap (module_item s site item name) seen));
-  tasks = ap (λ m. put_declared site.scope name Types (Module (next_module s)) vis ∷ walk (module_site m site.tree) (children_of item)) (sym numbered);
-  are_puts = tt;
-  after = after;
+pub handled_module : (oracle : Oracle) (s t : State) (site : Site) (item : ItemNode) (name : Name) (raw : RawVisibility) (contents : ModContents) (vis : Visibility) (inner : List Task)
+    → item.kind ≡ Mod name raw contents → vis ≡ written_vis oracle s site.scope raw → IsDone (module_item oracle s site item name vis contents) t inner → Handled oracle s t site item inner
+handled_module oracle s t site item name raw contents vis inner kind seen done = record {
+  effect = module_item oracle s site item name vis contents;
+  handled = (s.session, grows_refl s.session, subst (λ k. Handles oracle s site item k (module_item oracle s site item name vis contents)) (sym kind) (ap (λ v. module_item oracle s site item name v contents) seen));
+  done = done;
 }
 
 -- the imports of a `use` item as the collector makes them
@@ -105,11 +101,8 @@ handled_use oracle s t session site item raw imports n position kind grows place
     let number : session.item UseItem n ≡ Some (loc_of site UseItem item) = numbered ∙ ap (λ p. Some (in_module site.scope p)) placed in
     record {
       effect = effect;
-      puts = [];
       handled = (session, grows, subst (λ k. Handles oracle (record s { session = session }) site item k effect) (sym kind) (n, number, refl));
-      tasks = refl;
-      are_puts = tt;
-      after = after ∙ ap (λ p. record s { session = session; imports = s.imports ++ imports_at site.scope p n raw imports }) placed;
+      done = record { puts = []; tasks = refl; are_puts = tt; after = after ∙ ap (λ p. record s { session = session; imports = s.imports ++ imports_at site.scope p n raw imports }) placed };
     }
 
 -- a struct was handled
@@ -126,11 +119,8 @@ handled_struct oracle s t session site item name raw written n position vis ctor
     ∙ ap (struct_effect (record s { session = session }) site.scope name (def.Struct (record { 0 = n })) (written_vis oracle (record s { session = session }) site.scope raw)) built in
     record {
       effect = effect;
-      puts = effect.tasks;
       handled = (session, grows, subst (λ k. Handles oracle (record s { session = session }) site item k effect) (sym kind) (n, number, is));
-      tasks = sym (append-nil effect.tasks);
-      are_puts = are_puts-ctor (record s { session = session }) site.scope name (def.Struct (record { 0 = n })) vis ctor;
-      after = after;
+      done = record { puts = effect.tasks; tasks = sym (append-nil effect.tasks); are_puts = are_puts-ctor (record s { session = session }) site.scope name (def.Struct (record { 0 = n })) vis ctor; after = after };
     }
 
 -- A definition was declared in one namespace
@@ -151,11 +141,8 @@ module _ (oracle : Oracle) (s t : State) (session : Session) (site : Site) (item
       let number : session.item kind n ≡ Some (loc_of site kind item) = numbered ∙ ap (λ p. Some (in_container (container_of site kind) p)) placed in
       record {
         effect = effect;
-        puts = effect.tasks;
         handled = (session, grows, handles effect (n, number, ap (declared_effect grown site.scope name ns (d n)) seen));
-        tasks = refl;
-        are_puts = tt;
-        after = after;
+        done = record { puts = effect.tasks; tasks = refl; are_puts = tt; after = after };
       }
 
   pub handled_union : item.kind ≡ Union name raw → session.item UnionItem n ≡ Some (in_module site.scope position)
@@ -206,11 +193,8 @@ module _ (oracle : Oracle) (s t : State) (session : Session) (site : Site) (item
       let effect : Effect = only (noted_in kept site.scope (with_unnamed_const (record { 0 = n }))) in
       record {
         effect = effect;
-        puts = [];
         handled = (session, grows, subst (λ k. Handles oracle kept site item k effect) (sym kind) (n, numbered ∙ ap (λ p. Some (in_container site.container p)) placed, refl));
-        tasks = refl;
-        are_puts = tt;
-        after = after;
+        done = record { puts = []; tasks = refl; are_puts = tt; after = after };
       }
 
   pub handled_impl : (of_trait : Bool) → item.kind ≡ Impl of_trait → session.item ImplItem n ≡ Some (in_module site.scope position)
@@ -219,26 +203,26 @@ module _ (oracle : Oracle) (s t : State) (session : Session) (site : Site) (item
       let effect : Effect = only (noted_in kept site.scope (with_impl (record { 0 = n }) of_trait)) in
       record {
         effect = effect;
-        puts = [];
         handled = (session, grows, subst (λ k. Handles oracle kept site item k effect) (sym kind) (n, numbered ∙ ap (λ p. Some (in_module site.scope p)) placed, refl));
-        tasks = refl;
-        are_puts = tt;
-        after = after;
+        done = record { puts = []; tasks = refl; are_puts = tt; after = after };
       }
 
   -- an extern block, whose items are walked in the same module
-  pub handled_extern_block : (children : List ModItemId) → item.kind ≡ ExternBlock children → session.item ExternBlockItem n ≡ Some (in_module site.scope position)
-      → t ≡ noted_in kept site.scope (with_extern_block (record { 0 = n }))
-      → Handled oracle s t site item (walk (record site { container = contained.ExternBlock (record { 0 = n }) }) (children_of item))
-  handled_extern_block children kind numbered after =
+  pub handled_extern_block : (children items : List ModItemId) (directory : Directory) → item.kind ≡ ExternBlock children → items ≡ children → directory ≡ site.directory
+      → session.item ExternBlockItem n ≡ Some (in_module site.scope position) → t ≡ noted_in kept site.scope (with_extern_block (record { 0 = n }))
+      → Handled oracle s t site item (walk (record site { container = contained.ExternBlock (record { 0 = n }); directory = directory }) items)
+  handled_extern_block children items directory kind same_items same_directory numbered after =
       let effect : Effect = followed_by (noted_in kept site.scope (with_extern_block (record { 0 = n }))) (walk (record site { container = contained.ExternBlock (record { 0 = n }) }) children) in
       record {
         effect = effect;
-        puts = [];
         handled = (session, grows, subst (λ k. Handles oracle kept site item k effect) (sym kind) (n, numbered ∙ ap (λ p. Some (in_module site.scope p)) placed, refl));
-        tasks = ap (λ k. walk (record site { container = contained.ExternBlock (record { 0 = n }) }) (children_of_kind k)) (sym kind);
-        are_puts = tt;
-        after = after;
+        done = record {
+          puts = [];
+          tasks = ap (λ d. walk (record site { container = contained.ExternBlock (record { 0 = n }); directory = d }) children) (sym same_directory)
+              ∙ ap (λ l. walk (record site { container = contained.ExternBlock (record { 0 = n }); directory = directory }) l) (sym same_items);
+          are_puts = tt;
+          after = after;
+        };
       }
 
 -- one more import of a `use` item waits

@@ -1,4 +1,6 @@
 pub mod StepsLemmas
+pub mod LevelsLemmas
+pub mod WorkLemmas
 pub mod WalkLemmas
 pub mod VisitLemmas
 pub mod WaitingLemmas
@@ -8,6 +10,7 @@ pub mod RecordLemmas
 pub mod TriesLemmas
 pub mod FinishLemmas
 pub mod ItemsLemmas
+pub mod ModulesLemmas
 pub mod ListLemmas
 pub mod RunsLemmas
 pub mod StaysLemmas

@@ -1,11 +1,13 @@
 -- What an import puts, one namespace after the other; and the work that a run begins with.
-use Rattle.std.proofs.Common.{Bor, ◌≡◌, List, [], ◌∷◌, ◌++◌, Option, Some, None, Result, Ok, Err, option_map, refl, sym, ap, ◌∙◌}
-use Rattle.std.specs.Option.{unwrap_or}
+use Rattle.std.proofs.Common.{Bor, ◌≡◌, List, [], ◌∷◌, ◌++◌, Option, Some, None, Result, Ok, Err, option_and_then, option_map, refl, sym, ap, subst, append-nil, is_some, ◌∙◌}
+use Rattle.std.specs.Option.{option_copied, unwrap_or}
 use Rattle.std.specs.Result.{OnOk}
+use Rattle.item_tree.specs.declared.ids.CfgExpr.{CfgExpr}
 use Rattle.item_tree.specs.declared.ids.ModItemId.{ModItemId}
 use Rattle.item_tree.specs.declared.ids.TreeId.{TreeId}
 use Rattle.item_tree.specs.declared.name.Name.{Name}
 use Rattle.item_tree.specs.declared.tree.ItemTree.{ItemTree}
+use Rattle.item_tree.specs.Attrs.{cfg_in}
 use Rattle.def_bindings.specs.declared.bindings.Namespace.{Namespace}
 use Rattle.def_bindings.specs.declared.bindings.Namespace.TheVariants.{Types, Values, Macros}
 use Rattle.def_bindings.specs.declared.visibility.Visibility.{Visibility}
@@ -16,14 +18,14 @@ use Rattle.def_map.specs.Maps.{facts_in}
 use Rattle.def_map.specs.MapState.{MapState}
 use Rattle.def_map.specs.Oracle.{Oracle}
 use Rattle.def_map.specs.PerNs.{Item}
-use Rattle.def_collector.specs.declared.collector.walk.Frame.{Frame}
-use Rattle.def_collector.specs.declared.collector.walk.Site.{Site as SiteInCode}
-use Rattle.def_collector.specs.Collector.{agenda_of, frame_site, left_of, performed, site_of}
+use Rattle.def_parts.specs.Directories.{Directory, root_directory}
+use Rattle.def_collector.specs.Collector.{performed}
 use Rattle.def_collector.specs.Imports.{entry_of, kept_item, named_entries}
-use Rattle.def_collector.specs.Items.{top_items, walk}
-use Rattle.def_collector.specs.State.{State, PendingImport, Site, Task, Visit, Put, module_site, order, root}
-use Rattle.def_collector.specs.Start.{first_site, first_tasks, first_tree}
-use Rattle.def_collector.specs.Steps.{put_effect}
+use Rattle.def_collector.specs.Items.{top_items, tree_cfg, walk}
+use Rattle.def_collector.specs.State.{State, PendingImport, Task, Enter, Visit, Put, order, root, module_site}
+use Rattle.def_collector.specs.Start.{first_reports, first_tasks, first_tree, first_walk, site_at, started}
+use Rattle.def_collector.specs.Steps.{Leads, put_effect}
+use Rattle.def_collector.proofs.StepsLemmas.{leads_refl}
 
 -- what follows from a value's fact
 pub on_ok : {T E P Q : Type 0} (r : Result T E) → OnOk r P → (P → Q) → OnOk r Q
@@ -35,6 +37,7 @@ performed_map : (tasks : List Task) (s : State) → (performed tasks s).map ≡ 
 performed_map [] s = refl
 performed_map (Put at entry ∷ tasks) s = performed_map tasks (put_effect s at entry).state
 performed_map (Visit site id ∷ tasks) s = performed_map tasks s
+performed_map (Enter at directory ∷ tasks) s = performed_map tasks s
 
 -- and the order of visibilities
 performed_order : (tasks : List Task) (s : State) → order (performed tasks s) ≡ order s
@@ -44,6 +47,7 @@ performed_append : (xs ys : List Task) (s : State) → performed (xs ++ ys) s �
 performed_append [] ys s = refl
 performed_append (Put at entry ∷ xs) ys s = performed_append xs ys (put_effect s at entry).state
 performed_append (Visit site id ∷ xs) ys s = performed_append xs ys s
+performed_append (Enter at directory ∷ xs) ys s = performed_append xs ys s
 
 -- three lists of puts, each by the order of its moment
 performed_thrice : (s s1 s2 s3 : State) (a b c : Order Visibility → List Task) → s1 ≡ performed (a (order s)) s → s2 ≡ performed (b (order s1)) s1 → s3 ≡ performed (c (order s2)) s2
@@ -78,29 +82,62 @@ module _ (s s1 s2 s3 : State) (p : PendingImport) (vis seen : Visibility) (answe
 pub recorded_unnamed : (s : State) (p : PendingImport) (vis : Visibility) (answer : ResolvePathResult) (bound : Option (Option Name)) → None ≡ bound → s ≡ performed (named_entries (order s) p vis answer bound) s
 recorded_unnamed s p vis answer bound none = ap (λ x. performed (named_entries (order s) p vis answer x) s) none
 
--- one frame is a walk of its list
-pub agenda_of-one : (frame : Frame) → agenda_of (frame ∷ []) ≡ walk (frame_site frame) (left_of frame)
-unfolding agenda_of
-agenda_of-one frame = refl
-
--- the top items of a tree, if it is there
-abbrev top_of : Option ItemTree → List ModItemId
-top_of tree = unwrap_or (option_map (λ (t : ItemTree). t.top) tree) []
-
 module _ (oracle : Oracle) (m : MapState) (tree first : TreeId) (same : first ≡ first_tree oracle m.id tree) where
-  first_is : first_tasks oracle m tree ≡ walk (module_site (root m) first) (top_of (oracle.item_tree first))
-  first_is = ap (λ (t : TreeId). walk (module_site (root m) t) (top_of (oracle.item_tree t))) (sym same)
+  -- a tree that cfg disables is not walked
+  pub first_disabled : (cfg : CfgExpr) → Some cfg ≡ tree_cfg oracle first → first_tasks oracle m tree ≡ []
+  first_disabled cfg off =
+      ap (λ t. first_walk (site_at m t) (top_items oracle t) (tree_cfg oracle t)) (sym same)
+      ∙ ap (λ c. first_walk (site_at m first) (top_items oracle first) c) (sym off)
 
-  -- a tree that is not there has nothing to walk
-  pub first_none : None ≡ oracle.item_tree first → first_tasks oracle m tree ≡ []
-  first_none missing = first_is ∙ ap (λ o. walk (module_site (root m) first) (top_of o)) (sym missing)
+  -- and is reported, where it is a crate's
+  pub first_reported : (s : State) (cfg : CfgExpr) → Some cfg ≡ tree_cfg oracle first
+      → started oracle m tree s ≡ record s { diagnostics = s.diagnostics ++ first_reports (site_at m first) (is_some m.id.block) (Some cfg) }
+  first_reported s cfg off =
+      ap (λ t. record s { diagnostics = s.diagnostics ++ first_reports (site_at m t) (is_some m.id.block) (tree_cfg oracle t) }) (sym same)
+      ∙ ap (λ c. record s { diagnostics = s.diagnostics ++ first_reports (site_at m first) (is_some m.id.block) c }) (sym off)
 
-  -- one that is there has its top items
-  pub first_some : (site : SiteInCode) (t : Bor ItemTree) (items : Bor (List ModItemId)) → site_of site ≡ module_site (root m) first → Some t.now ≡ oracle.item_tree first → items.now ≡ t.now.top
-      → agenda_of (record { site = site; tree = t; items = items; next = 0 } ∷ []) ≡ first_tasks oracle m tree
-  first_some site t items placed there top =
-      agenda_of-one (record { site = site; tree = t; items = items; next = 0 })
-      ∙ ap (λ where_at. walk where_at items.now) placed
-      ∙ ap (λ list. walk (module_site (root m) first) list) top
-      ∙ ap (λ o. walk (module_site (root m) first) (top_of o)) there
-      ∙ sym first_is
+  -- any other is walked
+  pub first_walked : (ids : List ModItemId) → None ≡ tree_cfg oracle first → ids ≡ top_items oracle first → first_tasks oracle m tree ≡ walk (site_at m first) ids
+  first_walked ids on top =
+      ap (λ t. first_walk (site_at m t) (top_items oracle t) (tree_cfg oracle t)) (sym same)
+      ∙ ap (λ c. first_walk (site_at m first) (top_items oracle first) c) (sym on)
+      ∙ ap (λ l. walk (site_at m first) l) (sym top)
+
+  -- with no report
+  pub first_silent : (s : State) → None ≡ tree_cfg oracle first → started oracle m tree s ≡ s
+  first_silent s on =
+      ap (λ t. record s { diagnostics = s.diagnostics ++ first_reports (site_at m t) (is_some m.id.block) (tree_cfg oracle t) }) (sym same)
+      ∙ ap (λ c. record s { diagnostics = s.diagnostics ++ first_reports (site_at m first) (is_some m.id.block) c }) (sym on)
+      ∙ ap (λ l. record s { diagnostics = l }) (append-nil s.diagnostics)
+
+  -- a run over a tree that cfg disables ends at once
+  pub seeds_disabled : (s t : State) (cfg : CfgExpr) → Some cfg ≡ tree_cfg oracle first → t ≡ record s { diagnostics = s.diagnostics ++ first_reports (site_at m first) (is_some m.id.block) (Some cfg) }
+      → Leads oracle (first_tasks oracle m tree) (started oracle m tree s) [] t
+  seeds_disabled s t cfg off told =
+      subst (λ tasks. Leads oracle tasks (started oracle m tree s) [] t) (sym (first_disabled cfg off))
+      (subst (λ u. Leads oracle [] (started oracle m tree s) [] u) (first_reported s cfg off ∙ sym told) (leads_refl [] (started oracle m tree s)))
+
+  -- a walk from the root's directory is the run over the tree
+  pub seeds_walked : (s t : State) (directory : Directory) (ids : List ModItemId) → directory ≡ root_directory → None ≡ tree_cfg oracle first → ids ≡ top_items oracle first
+      → Leads oracle (walk (module_site (root m) first directory) ids) s [] t → Leads oracle (first_tasks oracle m tree) (started oracle m tree s) [] t
+  seeds_walked s t directory ids at_root on top run =
+      subst (λ u. Leads oracle (first_tasks oracle m tree) u [] t) (sym (first_silent s on))
+      (subst (λ tasks. Leads oracle tasks s [] t) (ap (λ d. walk (module_site (root m) first d) ids) at_root ∙ sym (first_walked ids on top)) run)
+
+-- What is read of a tree that the oracle has, or lacks
+
+-- the condition that disables it
+pub cfg_of : (oracle : Oracle) (id : TreeId) (tree : Option (Bor ItemTree)) → option_copied tree ≡ oracle.item_tree id → option_and_then (λ (t : Bor ItemTree). cfg_in t.now.attrs) tree ≡ tree_cfg oracle id
+cfg_of oracle id tree known = below tree ∙ ap (option_and_then (λ (t : ItemTree). cfg_in t.attrs)) known
+  where
+    below : (o : Option (Bor ItemTree)) → option_and_then (λ (t : Bor ItemTree). cfg_in t.now.attrs) o ≡ option_and_then (λ (t : ItemTree). cfg_in t.attrs) (option_copied o)
+    below None = refl
+    below (Some t) = refl
+
+-- its top items
+pub tops_of : (oracle : Oracle) (id : TreeId) (tree : Option (Bor ItemTree)) → option_copied tree ≡ oracle.item_tree id → unwrap_or (option_map (λ (t : Bor ItemTree). t.now.top) tree) [] ≡ top_items oracle id
+tops_of oracle id tree known = below tree ∙ ap (λ o. unwrap_or (option_map (λ (t : ItemTree). t.top) o) []) known
+  where
+    below : (o : Option (Bor ItemTree)) → unwrap_or (option_map (λ (t : Bor ItemTree). t.now.top) o) [] ≡ unwrap_or (option_map (λ (t : ItemTree). t.top) (option_copied o)) []
+    below None = refl
+    below (Some t) = refl

@@ -1,17 +1,17 @@
 -- What holds along runs, and what a visit leaves as it is.
-use Rattle.std.proofs.Common.{◌≡◌, ℕ, zero, suc, false, List, [], ◌∷◌, length, All, Option, Some, None, refl, sym, ap, ◌∙◌, subst}
+use Rattle.std.proofs.Common.{◌≡◌, ℕ, zero, suc, false, List, [], ◌∷◌, length, All, Option, Some, None, Result, Ok, Err, refl, sym, ap, ◌∙◌, subst}
 use Rattle.std.proofs.lemmas.List.Elements.{All-cons, All-head, All-tail, All-push}
+use Rattle.item_tree.specs.declared.ids.CfgExpr.{CfgExpr}
 use Rattle.item_tree.specs.declared.ids.ModItemId.{ModItemId}
 use Rattle.item_tree.specs.declared.items.ItemNode.{ItemNode}
+use Rattle.item_tree.specs.declared.items.ModContents.{ModContents}
+use Rattle.item_tree.specs.declared.items.ModContents.TheVariants.{Inline, Outline}
 use Rattle.item_tree.specs.declared.items.ModItemKind.{ModItemKind}
-use Rattle.item_tree.specs.declared.items.ModItemKind.TheVariants.{Mod, Use, ExternBlock, Impl, Struct, Union, Enum, Function, Const, Static, Trait, TypeAlias}
-use Rattle.item_tree.specs.declared.items.RawVisibility.{RawVisibility}
+use Rattle.item_tree.specs.declared.items.ModItemKind.TheVariants.{Mod, Use, Struct, ExternBlock, Impl, Union, Enum, Function, Const, Static, Trait, TypeAlias}
 use Rattle.item_tree.specs.declared.name.Name.{Name}
+use Rattle.item_tree.specs.Attrs.{disabled_by}
 use Rattle.def_ids.specs.declared.ids.ModuleId.{ModuleId}
 use Rattle.def_ids.specs.declared.ids.Def.{Def}
-use Rattle.def_ids.specs.Session.{ItemKind, FunctionItem, UnionItem, EnumItem, ConstItem, StaticItem, TraitItem, TypeAliasItem}
-use Rattle.def_bindings.specs.declared.bindings.Namespace.{Namespace}
-use Rattle.def_bindings.specs.declared.bindings.Namespace.TheVariants.{Types, Values}
 use Rattle.def_bindings.specs.declared.visibility.Visibility.{Visibility}
 use Rattle.def_map.specs.declared.module_data.ModuleOrigin.{ModuleOrigin}
 use Rattle.def_map.specs.Maps.{pushed, with_module}
@@ -19,11 +19,17 @@ use Rattle.def_map.specs.MapState.{MapState, ModuleState}
 use Rattle.def_map.specs.Oracle.{Oracle}
 use Rattle.def_map.specs.Scopes.{declared_in, empty_module, with_child, with_extern_block, with_impl, with_unnamed_const}
 use Rattle.def_map.specs.Updates.{update_at}
+use Rattle.def_parts.specs.Directories.{FoundFile}
+use Rattle.def_collector.specs.declared.diagnostics.DefDiagnosticKind.TheVariants.{UnresolvedModule}
 use Rattle.def_collector.specs.Imports.{ImportStep, of_pending, of_partial}
-use Rattle.def_collector.specs.Items.{add_module, Declares, node_at, Handles, VisitsAt, Visits}
+use Rattle.def_collector.specs.Items.{add_module, diagnostic, file_tree, module_effect, module_item, node_at, outline_found, outline_item, tree_cfg, Handles, VisitsAt, VisitsNode, Visits, Declares}
 use Rattle.def_collector.specs.Report.{NoneFailed}
-use Rattle.def_collector.specs.State.{State, Effect, Moment, Site, Task, Visit, Put}
+use Rattle.def_collector.specs.State.{State, Effect, Moment, Site, Task, Enter, Visit, Put, reported}
 use Rattle.def_collector.specs.Steps.{Does, Reaches, Step, here, one, join, performs, copies, rearranges, records}
+use Rattle.item_tree.specs.declared.items.RawVisibility.{RawVisibility}
+use Rattle.def_ids.specs.Session.{ItemKind, FunctionItem, UnionItem, EnumItem, ConstItem, StaticItem, TraitItem, TypeAliasItem}
+use Rattle.def_bindings.specs.declared.bindings.Namespace.{Namespace}
+use Rattle.def_bindings.specs.declared.bindings.Namespace.TheVariants.{Types, Values}
 
 module _ {oracle : Oracle} where
   -- what holds of a moment with itself, of each step, and of two runs in a row where it holds of both, holds of all runs
@@ -74,14 +80,30 @@ pub record Leaves (s : State) (effect : Effect) : Type 0 where
 leaves_known : (s : State) (effect known : Effect) → effect ≡ known → Leaves s known → Leaves s effect
 leaves_known s effect known same leaves = subst (λ x. Leaves s x) (sym same) leaves
 
+-- a module that is added
+module_leaves : (s r : State) (site : Site) (name : Name) (vis : Visibility) (o : ModuleOrigin) (contents : List Task) → r.content ≡ s.content → r.partial ≡ s.partial → r.map ≡ s.map → Leaves s (module_effect r site name vis o contents)
+module_leaves s r site name vis o contents bound kept same =
+    record { content = bound; partial = kept; events = refl; none_failed = λ none. none_failed-add_module r site.scope name vis o (subst NoneFailed (sym same) none) }
+
+found_leaves : (oracle : Oracle) (s : State) (site : Site) (item : ItemNode) (name : Name) (vis : Visibility) (found : FoundFile) (cfg : Option CfgExpr) → Leaves s (outline_found oracle s site item name vis found cfg)
+found_leaves oracle s site item name vis found (Some cfg) = record { content = refl; partial = refl; events = refl; none_failed = λ none. none }
+found_leaves oracle s site item name vis found None = module_leaves s s site name vis _ _ refl refl refl
+
+outline_leaves : (oracle : Oracle) (s : State) (site : Site) (item : ItemNode) (name : Name) (vis : Visibility) (found : Result FoundFile (List (List ℕ))) → Leaves s (outline_item oracle s site item name vis found)
+outline_leaves oracle s site item name vis (Ok found) = found_leaves oracle s site item name vis found (tree_cfg oracle (file_tree found))
+outline_leaves oracle s site item name vis (Err files) = module_leaves s (reported s (diagnostic site item (UnresolvedModule files))) site name vis _ _ refl refl refl
+
+contents_leave : (oracle : Oracle) (s : State) (site : Site) (item : ItemNode) (name : Name) (vis : Visibility) (contents : ModContents) → Leaves s (module_item oracle s site item name vis contents)
+contents_leave oracle s site item name vis (Inline children) = module_leaves s s site name vis _ _ refl refl refl
+contents_leave oracle s site item name vis Outline = outline_leaves oracle s site item name vis _
+
 declares_leaves : (oracle : Oracle) (s : State) (site : Site) (item : ItemNode) (kind : ItemKind) (d : ℕ → Def) (ns : Namespace) (name : Name) (raw : RawVisibility) (effect : Effect)
     → Declares oracle s site item kind d ns name raw effect → Leaves s effect
 declares_leaves oracle s site item kind d ns name raw effect does =
     leaves_known s effect _ does.2 (record { content = refl; partial = refl; events = refl; none_failed = λ none. none_failed-declare s.map site.scope.index _ none })
 
 handles_leaves : (oracle : Oracle) (s : State) (site : Site) (item : ItemNode) (kind : ModItemKind) (effect : Effect) → Handles oracle s site item kind effect → Leaves s effect
-handles_leaves oracle s site item (Mod name raw contents) effect does =
-    leaves_known s effect _ does (record { content = refl; partial = refl; events = refl; none_failed = λ none. none_failed-add_module s site.scope name _ _ none })
+handles_leaves oracle s site item (Mod name raw contents) effect does = leaves_known s effect _ does (contents_leave oracle s site item name _ contents)
 handles_leaves oracle s site item (Use raw imports) effect does =
     leaves_known s effect _ does.2 (record { content = refl; partial = refl; events = refl; none_failed = λ none. none })
 handles_leaves oracle s site item (ExternBlock children) effect does =
@@ -100,11 +122,15 @@ handles_leaves oracle s site item (Static name raw) effect does = declares_leave
 handles_leaves oracle s site item (Trait name raw) effect does = declares_leaves oracle s site item TraitItem _ Types name raw effect does
 handles_leaves oracle s site item (TypeAlias name raw) effect does = declares_leaves oracle s site item TypeAliasItem _ Types name raw effect does
 
-visits_leaves_at : (oracle : Oracle) (s : State) (site : Site) (item : Option ItemNode) (effect : Effect) → VisitsAt oracle s site item effect → Leaves s effect
-visits_leaves_at oracle s site None effect does = leaves_known s effect _ does (record { content = refl; partial = refl; events = refl; none_failed = λ none. none })
-visits_leaves_at oracle s site (Some item) effect does =
+node_leaves : (oracle : Oracle) (s : State) (site : Site) (item : ItemNode) (cfg : Option CfgExpr) (effect : Effect) → VisitsNode oracle s site item cfg effect → Leaves s effect
+node_leaves oracle s site item (Some cfg) effect does = leaves_known s effect _ does (record { content = refl; partial = refl; events = refl; none_failed = λ none. none })
+node_leaves oracle s site item None effect does =
     let leaves = handles_leaves oracle (record s { session = does.0 }) site item item.kind effect does.2 in
     record { content = leaves.content; partial = leaves.partial; events = leaves.events; none_failed = leaves.none_failed }
+
+visits_leaves_at : (oracle : Oracle) (s : State) (site : Site) (item : Option ItemNode) (effect : Effect) → VisitsAt oracle s site item effect → Leaves s effect
+visits_leaves_at oracle s site None effect does = leaves_known s effect _ does (record { content = refl; partial = refl; events = refl; none_failed = λ none. none })
+visits_leaves_at oracle s site (Some item) effect does = node_leaves oracle s site item (disabled_by item.attrs) effect does
 
 -- a visit leaves the table and the partial imports, and marks no name as failed
 pub visits_leaves : (oracle : Oracle) (s : State) (site : Site) (id : ModItemId) (effect : Effect) → Visits oracle s site id effect → Leaves s effect
@@ -117,6 +143,7 @@ import_map oracle s effect (of_pending pending rest recorded waits ready recordi
 import_map oracle s effect (of_partial partial rest recorded waits ready recording is) = ap (λ (e : Effect). e.state.map) is ∙ ap (λ (e : Effect). e.state.map) recording
 
 does_none_failed : (oracle : Oracle) (s : State) (task : Task) (effect : Effect) → Does oracle s task effect → NoneFailed s.map → NoneFailed effect.state.map
+does_none_failed oracle s (Enter at directory) effect does none = subst (λ (e : Effect). NoneFailed e.state.map) (sym does) none
 does_none_failed oracle s (Visit site id) effect does none = (visits_leaves oracle s site id effect does).none_failed none
 does_none_failed oracle s (Put at entry) effect does none = subst (λ (e : Effect). NoneFailed e.state.map) (sym does) none
 

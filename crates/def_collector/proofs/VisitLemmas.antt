@@ -1,22 +1,25 @@
 -- One turn of the walk, from what the code found.
-use Rattle.std.proofs.Common.{Bor, ◌≡◌, ◌<◌, ◌≤◌, ℕ, List, [], ◌∷◌, ◌++◌, length, get_or, All, Option, Some, None, slice_get, option_and_then, refl, sym, ap, subst, ◌∙◌}
+use Rattle.std.proofs.Common.{◌≡◌, ◌<◌, ◌≤◌, ◌+◌, ℕ, List, [], ◌∷◌, ◌++◌, length, get_or, All, Option, Some, None, Bor, option_map, slice_get, option_and_then, arith, refl, sym, ap, subst, ◌∙◌}
 use Rattle.std.proofs.lemmas.List.{drop_all}
 use Rattle.std.proofs.lemmas.List.Elements.{All-append, All-cons, All-head, All-nil, All-same, All-tail}
-use Rattle.std.proofs.lemmas.Option.{slice_get_read, slice_get-get_or}
+use Rattle.std.proofs.lemmas.Option.{slice_get_read}
 use Rattle.item_tree.specs.declared.ids.ModItemId.{ModItemId}
 use Rattle.item_tree.specs.declared.items.ItemNode.{ItemNode}
+use Rattle.item_tree.specs.declared.name.Name.{Name}
 use Rattle.item_tree.specs.declared.tree.ItemTree.{ItemTree}
-use Rattle.item_tree.specs.Trees.{IsSound, children_of, item_at}
-use Rattle.item_tree.specs.TreesLaws.{child_after, child_there}
+use Rattle.item_tree.specs.Trees.{item_at}
+use Rattle.std.specs.Option.{unwrap_or}
+use Rattle.def_ids.specs.declared.interner.Interner.{Interner}
+use Rattle.def_ids.specs.Session.{session_of}
 use Rattle.def_map.specs.Oracle.{Oracle}
 use Rattle.def_collector.specs.declared.collector.walk.Frame.{Frame}
-use Rattle.def_collector.specs.declared.collector.walk.Opened.{Opened}
-use Rattle.def_collector.specs.Collector.{agenda_of, frame_site, Handled, inner_of, is_known, left_of, site_of, walk_measure}
-use Rattle.def_collector.specs.Items.{node_at, walk}
-use Rattle.def_collector.specs.State.{State, Task}
+use Rattle.def_collector.specs.Collector.{AreKnown, agenda_of, frame_site, inner_of, is_known, left_of, task_work, walk_measure, work}
+use Rattle.def_collector.specs.Items.{name_text, node_at, walk}
+use Rattle.def_collector.specs.State.{State, Task, Visit, entered}
 use Rattle.def_collector.specs.Steps.{Leads}
-use Rattle.def_collector.proofs.StepsLemmas.{leads_refl}
-use Rattle.def_collector.proofs.WalkLemmas.{AreLater, after_turn, agenda_of-done, fewer_closed, fewer_opened, opened_frame, visits_closed, visits_nothing, visits_opened}
+use Rattle.def_collector.proofs.StepsLemmas.{leads_enter, leads_refl, leads_trans}
+use Rattle.def_collector.proofs.WalkLemmas.{after_turn, agenda_of-done, agenda_of-next, agenda_of-one, agenda_of-push, frame_tasks, measure_next, measure_pushed}
+use Rattle.def_collector.proofs.WorkLemmas.{walk_work}
 
 -- what holds of a list and one more holds of the list
 pub all_below : {X : Type 0} (P : X → Type 0) (xs : List X) (x : X) → All P (xs ++ x ∷ []) → All P xs
@@ -36,65 +39,92 @@ all_pushed P xs ys x pushed all last = All-same P ys (xs ++ x ∷ []) pushed (Al
 pub all_none : {X : Type 0} (P : X → Type 0) → All P []
 all_none P = All-nil P
 
+-- a list without length is empty
+pub empty_list : {A : Type 0} (xs : List A) → length xs ≡ 0 → xs ≡ []
+empty_list [] h = refl
+empty_list (x ∷ xs) h = absurd (omega arith)
+
 -- what stands at a place of a list
 pub stands_at : {X : Type 0} (xs : List X) (i : ℕ) (x : X) → i < length xs → x ≡ get_or xs i x → Some x ≡ slice_get xs i
 stands_at xs i x within found = sym (slice_get_read xs (length xs) i x refl within found)
 
--- a child comes after its parent
-later_children : (tree : ItemTree) (id : ModItemId) (item : ItemNode) → IsSound tree.items tree.top → slice_get tree.items id.0 ≡ Some item → AreLater tree id item
-later_children tree id item sound there = λ k d within.
-    let at : slice_get (children_of item) k ≡ Some (get_or (children_of item) k d) = slice_get-get_or (children_of item) k d within in
-    (child_after tree.items tree.top id.0 k item (get_or (children_of item) k d) sound there at, child_there tree.items tree.top id.0 k item (get_or (children_of item) k d) sound there at)
+-- what the oracle has at a number is what a known frame's tree has
+pub node_of : (oracle : Oracle) (frame : Frame) (id : ModItemId) (found : Option ItemNode) → is_known oracle frame → found ≡ option_and_then (λ (t : Bor ItemTree). item_at t.now.items id) frame.tree → node_at oracle frame.tree_id id ≡ found
+node_of oracle frame id found known is = ap (λ o. option_and_then (λ t. slice_get t.items id.0) o) known ∙ below frame.tree ∙ sym is
+  where
+    below : (tree : Option (Bor ItemTree)) → option_and_then (λ (t : ItemTree). slice_get t.items id.0) (option_map (λ t. t.now) tree) ≡ option_and_then (λ (t : Bor ItemTree). item_at t.now.items id) tree
+    below None = refl
+    below (Some t) = refl
+
+-- a walk begins: the directory of its list is stored
+pub walk_begins : (oracle : Oracle) (first : Frame) (frames : List Frame) (s t : State) → frames ≡ first ∷ [] → t ≡ entered s first.module_id first.dir → Leads oracle (walk (frame_site first) (left_of first)) s (agenda_of frames) t
+walk_begins oracle first frames s t one stored =
+    subst (λ tasks. Leads oracle (walk (frame_site first) (left_of first)) s tasks t) (sym (ap agenda_of one ∙ agenda_of-one first))
+    (subst (λ u. Leads oracle (walk (frame_site first) (left_of first)) s (frame_tasks first) u) (sym stored) (leads_enter first.module_id first.dir (frame_tasks first) s))
+
+-- less by the texts of a session is less by those of one with the same names
+pub fewer_still : (oracle : Oracle) (first now : Interner) (before between after : List Frame) → before ≡ between → now.names ≡ first.names
+    → walk_measure oracle (name_text (session_of now)) after < walk_measure oracle (name_text (session_of now)) between
+    → walk_measure oracle (name_text (session_of first)) after < walk_measure oracle (name_text (session_of first)) before
+fewer_still oracle first now before between after same names fewer =
+    subst (λ fs. walk_measure oracle (name_text (session_of first)) after < walk_measure oracle (name_text (session_of first)) fs) (sym same)
+    (subst (λ ns. walk_measure oracle (λ name. unwrap_or (slice_get ns name.0) []) after < walk_measure oracle (λ name. unwrap_or (slice_get ns name.0) []) between) names fewer)
 
 module _ (oracle : Oracle) (frames : List Frame) (frame : Frame) where
   -- a frame that has nothing left is no work
   pub turn_done : (s : State) → length frame.items.now ≤ frame.next → Leads oracle (agenda_of (frames ++ frame ∷ [])) s (agenda_of frames) s
   turn_done s past = subst (λ agenda. Leads oracle agenda s (agenda_of frames) s) (sym (agenda_of-done frames frame (drop_all frame.next frame.items.now past))) (leads_refl (agenda_of frames) s)
 
-  -- what the oracle has at a number is what the frame's tree has
-  node_of : (id : ModItemId) (found : Option ItemNode) → is_known oracle frame → found ≡ item_at frame.tree.now.items id → node_at oracle frame.site.tree_id id ≡ found
-  node_of id found known is = ap (λ o. option_and_then (λ t. slice_get t.items id.0) o) known ∙ sym is
+  -- and takes a turn
+  pub done_fewer : (texts : Name → List ℕ) → walk_measure oracle texts frames < walk_measure oracle texts (frames ++ frame ∷ [])
+  done_fewer texts = let more = measure_pushed oracle texts frames frame in omega (arith, more)
 
-  module _ (known : All (is_known oracle) (frames ++ frame ∷ [])) (id : ModItemId) (found : Some id ≡ slice_get frame.items.now frame.next) (next : List Frame) (taken : next ≡ frames ++ after_turn frame ∷ []) where
+  module _ (known : All (is_known oracle) (frames ++ frame ∷ [])) (id : ModItemId) (found : Some id ≡ slice_get frame.items.now frame.next) (next : List Frame) (taken : next ≡ frames ++ after_turn frame ∷ []) (opened : Option Frame) where
     -- all frames go over trees that the oracle has
     pub turn_known : All (is_known oracle) next
     turn_known = all_pushed (is_known oracle) frames next (after_turn frame) taken (all_below (is_known oracle) frames frame known) (all_last (is_known oracle) frames frame known)
 
-    -- a turn leaves less
-    pub turn_fewer : walk_measure next < walk_measure (frames ++ frame ∷ [])
-    turn_fewer = subst (λ fs. walk_measure fs < walk_measure (frames ++ frame ∷ [])) (sym taken) (fewer_closed frames frame id found)
+    -- what the visit leads to
+    before : (s t : State) → ((rest : List Task) → Leads oracle (Visit (frame_site frame) id ∷ rest) s (inner_of opened ++ rest) t) → Leads oracle (agenda_of (frames ++ frame ∷ [])) s (inner_of opened ++ agenda_of next) t
+    before s t run =
+        subst (λ agenda. Leads oracle agenda s (inner_of opened ++ agenda_of next) t) (sym (agenda_of-next frames frame id found))
+        (subst (λ fs. Leads oracle (Visit (frame_site frame) id ∷ agenda_of (frames ++ after_turn frame ∷ [])) s (inner_of opened ++ agenda_of fs) t) (sym taken) (run (agenda_of (frames ++ after_turn frame ∷ []))))
 
-    -- an item that the tree does not have
-    pub turn_nothing : (s : State) → None ≡ item_at frame.tree.now.items id → Leads oracle (agenda_of (frames ++ frame ∷ [])) s (agenda_of next) s
-    turn_nothing s missing =
-        subst (λ fs. Leads oracle (agenda_of (frames ++ frame ∷ [])) s (agenda_of fs) s) (sym taken)
-        (visits_nothing frames frame id found oracle s (node_of id None (all_last (is_known oracle) frames frame known) missing))
+    -- a turn that opens nothing
+    pub turn_closed : (s t : State) → None ≡ opened → ((rest : List Task) → Leads oracle (Visit (frame_site frame) id ∷ rest) s (inner_of opened ++ rest) t) → Leads oracle (agenda_of (frames ++ frame ∷ [])) s (agenda_of next) t
+    turn_closed s t none run = subst (λ o. Leads oracle (agenda_of (frames ++ frame ∷ [])) s (inner_of o ++ agenda_of next) t) (sym none) (before s t run)
 
-    module _ (s t : State) (item : ItemNode) (there : Some item ≡ item_at frame.tree.now.items id) where
-      -- an item that opens nothing
-      pub turn_closed : (opened : Option Opened) → opened ≡ None → Handled oracle s t (frame_site frame) item (inner_of frame.site opened item)
-          → Leads oracle (agenda_of (frames ++ frame ∷ [])) s (agenda_of next) t
-      turn_closed opened none handled =
-          subst (λ fs. Leads oracle (agenda_of (frames ++ frame ∷ [])) s (agenda_of fs) t) (sym taken)
-          (visits_closed frames frame id found oracle s t item (node_of id (Some item) (all_last (is_known oracle) frames frame known) there)
-          (subst (λ o. Handled oracle s t (frame_site frame) item (inner_of frame.site o item)) none handled))
+    -- leaves less
+    pub closed_fewer : (texts : Name → List ℕ) → 1 + work oracle texts (inner_of opened) < task_work oracle texts (Visit (frame_site frame) id) → walk_measure oracle texts next < walk_measure oracle texts (frames ++ frame ∷ [])
+    closed_fewer texts less =
+        let item = measure_next oracle texts frames frame id found in
+        let same : walk_measure oracle texts next ≡ walk_measure oracle texts (frames ++ after_turn frame ∷ []) = ap (walk_measure oracle texts) taken in
+        omega (arith, less, item, same)
 
-      module _ (child : Opened) (items : Bor (List ModItemId)) (children : items.now ≡ children_of item) (last : List Frame) (pushed : last ≡ next ++ opened_frame frame child items ∷ []) where
-        both : last ≡ (frames ++ after_turn frame ∷ []) ++ opened_frame frame child items ∷ []
-        both = pushed ∙ ap (λ fs. fs ++ opened_frame frame child items ∷ []) taken
+    module _ (inner : Frame) (some : Some inner ≡ opened) (last : List Frame) (pushed : last ≡ next ++ inner ∷ []) where
+      pub opened_known : AreKnown oracle opened → All (is_known oracle) last
+      opened_known lies = all_pushed (is_known oracle) next last inner pushed turn_known (subst (AreKnown oracle) (sym some) lies)
 
-        -- an item that opens a module
-        pub turn_opened : (opened : Option Opened) → opened ≡ Some child → Handled oracle s t (frame_site frame) item (inner_of frame.site opened item)
-            → Leads oracle (agenda_of (frames ++ frame ∷ [])) s (agenda_of last) t
-        turn_opened opened some handled =
-            subst (λ fs. Leads oracle (agenda_of (frames ++ frame ∷ [])) s (agenda_of fs) t) (sym both)
-            (visits_opened frames frame id found oracle s t child items item (node_of id (Some item) (all_last (is_known oracle) frames frame known) there) children
-            (subst (λ o. Handled oracle s t (frame_site frame) item (inner_of frame.site o item)) some handled))
+      -- a turn that opens a list, whose directory is stored
+      pub turn_opened : (s t u : State) → ((rest : List Task) → Leads oracle (Visit (frame_site frame) id ∷ rest) s (inner_of opened ++ rest) t) → u ≡ entered t inner.module_id inner.dir → Leads oracle (agenda_of (frames ++ frame ∷ [])) s (agenda_of last) u
+      turn_opened s t u run stored =
+          let opens : Leads oracle (agenda_of (frames ++ frame ∷ [])) s (walk (frame_site inner) (left_of inner) ++ agenda_of next) t =
+          subst (λ o. Leads oracle (agenda_of (frames ++ frame ∷ [])) s (inner_of o ++ agenda_of next) t) (sym some) (before s t run) in
+          let agenda : agenda_of last ≡ frame_tasks inner ++ agenda_of next = ap agenda_of pushed ∙ agenda_of-push next inner in
+          let enters : Leads oracle (walk (frame_site inner) (left_of inner) ++ agenda_of next) t (frame_tasks inner ++ agenda_of next) (entered t inner.module_id inner.dir) =
+          leads_enter inner.module_id inner.dir (frame_tasks inner ++ agenda_of next) t in
+          subst (λ tasks. Leads oracle (agenda_of (frames ++ frame ∷ [])) s tasks u) (sym agenda)
+          (subst (λ x. Leads oracle (agenda_of (frames ++ frame ∷ [])) s (frame_tasks inner ++ agenda_of next) x) (sym stored) (leads_trans opens enters))
 
-        pub opened_known : All (is_known oracle) last
-        opened_known = all_pushed (is_known oracle) next last (opened_frame frame child items) pushed turn_known (all_last (is_known oracle) frames frame known)
+      -- leaves less
+      pub opened_fewer : (texts : Name → List ℕ) → 1 + work oracle texts (inner_of opened) < task_work oracle texts (Visit (frame_site frame) id) → walk_measure oracle texts last < walk_measure oracle texts (frames ++ frame ∷ [])
+      opened_fewer texts less =
+          let item = measure_next oracle texts frames frame id found in
+          let same : walk_measure oracle texts next ≡ walk_measure oracle texts (frames ++ after_turn frame ∷ []) = ap (walk_measure oracle texts) taken in
+          let more : walk_measure oracle texts last ≡ _ = ap (walk_measure oracle texts) pushed ∙ measure_pushed oracle texts next inner in
+          let inside : work oracle texts (inner_of opened) ≡ work oracle texts (frame_tasks inner) = ap (λ o. work oracle texts (inner_of o)) (sym some) ∙ walk_work oracle texts (frame_site inner) (left_of inner) in
+          omega (arith, less, item, same, more, inside)
 
-        pub opened_fewer : IsSound frame.tree.now.items frame.tree.now.top → walk_measure last < walk_measure (frames ++ frame ∷ [])
-        opened_fewer sound =
-            subst (λ fs. walk_measure fs < walk_measure (frames ++ frame ∷ [])) (sym both)
-            (fewer_opened frames frame id found child items item (sym there) children (later_children frame.tree.now id item sound (sym there)))
+-- sessions with the same names have the same texts
+pub texts_same : (a b : Interner) → a.names ≡ b.names → name_text (session_of a) ≡ name_text (session_of b)
+texts_same a b names = ap (λ ns name. unwrap_or (slice_get ns name.0) []) names

@@ -1,12 +1,16 @@
 -- What the collector's parts stand for.
-use Rattle.std.specs.Prelude.{◌≡◌, ◌<◌, ℕ, suc, ◌+◌, ◌-◌, ◌*◌, ◌^◌, Bool, true, false, cond, not, List, [], ◌∷◌, ◌++◌, length, map, filter_map, drop, sum_by, Option, Some, None, option_map, unwrap_or, slice_get, Contains}
+use Rattle.std.specs.Prelude.{◌≡◌, ◌<◌, ℕ, zero, suc, ◌+◌, ◌-◌, ◌*◌, Bool, true, false, cond, not, List, [], ◌∷◌, ◌++◌, length, map, filter_map, drop, sum_by, Option, Some, None, Result, Ok, Err, option_map, unwrap_or, slice_get, Contains}
 use Rattle.item_tree.specs.declared.ids.ModItemId.{ModItemId}
 use Rattle.item_tree.specs.declared.ids.TreeId.{TreeId}
 use Rattle.item_tree.specs.declared.items.ItemNode.{ItemNode}
 use Rattle.item_tree.specs.declared.items.UseImport.{UseImport}
 use Rattle.item_tree.specs.declared.name.Name.{Name}
-use Rattle.item_tree.specs.declared.tree.ItemTree.{ItemTree}
-use Rattle.item_tree.specs.Trees.{children_of}
+use Rattle.item_tree.specs.declared.items.ModContents.TheVariants.{Inline, Outline}
+use Rattle.item_tree.specs.declared.items.ModContents.{ModContents}
+use Rattle.item_tree.specs.declared.items.ModItemKind.TheVariants.{Mod, ExternBlock}
+use Rattle.item_tree.specs.declared.items.ModItemKind.{ModItemKind}
+use Rattle.item_tree.specs.Attrs.{path_attr}
+use Rattle.def_ids.specs.Ids.{is_same_module}
 use Rattle.def_ids.specs.declared.ids.ModuleId.{ModuleId}
 use Rattle.def_ids.specs.declared.interner.Interner.{Interner}
 use Rattle.def_ids.specs.Session.{session_of}
@@ -25,14 +29,18 @@ use Rattle.def_collector.specs.declared.collector.directive.ImportDirective.{Imp
 use Rattle.def_collector.specs.declared.collector.directive.NamespaceSet.{NamespaceSet}
 use Rattle.def_collector.specs.declared.collector.directive.PartialDirective.{PartialDirective}
 use Rattle.def_collector.specs.declared.collector.items.Written.{Written}
+use Rattle.def_collector.specs.declared.collector.mod_dirs.ModDirs.{ModDirs}
+use Rattle.def_collector.specs.declared.collector.modules.FoundFile.{FoundFile as FoundInCode}
 use Rattle.def_collector.specs.declared.collector.walk.Frame.{Frame}
-use Rattle.def_collector.specs.declared.collector.walk.Opened.{Opened}
 use Rattle.def_collector.specs.declared.collector.walk.Site.{Site as SiteInCode}
 use Rattle.def_collector.specs.declared.outcome.Collected.{Collected}
 use Rattle.def_collector.specs.Imports.{answer_now, bound_name, is_ready, is_ready_again}
-use Rattle.def_collector.specs.Items.{HandlesInSession, walk}
+use Rattle.def_parts.specs.Directories.{Directory, FoundFile, descend, files_of, resolve_declaration}
+use Rattle.indexmap.specs.IndexMap.{get}
+use Rattle.std.specs.Option.{option_map_or}
+use Rattle.def_collector.specs.Items.{HandlesInSession, file_tree, node_at, top_items, visits, walk}
 use Rattle.def_collector.specs.Report.{Answer, IsOutcome, NoneFailed, marked, report}
-use Rattle.def_collector.specs.State.{Setting, State, NsSet, PendingImport, PartialImport, Site, Task, Visit, Put, Effect}
+use Rattle.def_collector.specs.State.{Setting, State, NsSet, PendingImport, PartialImport, Site, Task, Enter, Visit, Put, Effect, entered}
 use Rattle.def_collector.specs.Steps.{Leads, put_effect}
 
 -- what a run is given
@@ -70,6 +78,10 @@ partial_of d = record { pending = pending_of d.directive; recorded = ns_set d.re
 unfoldable pub waiting : {A : Type 0} → List (Option A) → List A
 waiting entries = filter_map (λ entry. entry) entries
 
+-- the directory that is stored for each module
+abbrev pub directories_of : ModDirs → ModuleId → Option Directory
+directories_of d = get is_same_module d.dirs
+
 -- the state that the collector is in
 abbrev pub state_of : DefCollector → Interner → State
 state_of c session =
@@ -79,6 +91,7 @@ state_of c session =
       content = bound_by c.table;
       local = local_view c.local_def_map;
       outer = option_map (λ l. local_view l.now) c.crate_local;
+      directories = directories_of c.mod_dirs;
       imports = map pending_of (waiting c.unresolved_imports.items);
       partial = map partial_of (waiting c.indeterminate_imports.items);
       diagnostics = c.diagnostics.items;
@@ -86,7 +99,7 @@ state_of c session =
 
 -- where the items of a list stand
 abbrev pub site_of : SiteInCode → Site
-site_of site = record { scope = site.module_id; container = site.container; tree = site.tree_id }
+site_of site = record { scope = site.module_id; container = site.container; tree = site.tree_id; directory = site.dir.now }
 
 -- Tasks that only put
 
@@ -95,30 +108,27 @@ abbrev pub ArePuts : List Task → Type 0
 ArePuts [] = Unit {0}
 ArePuts (Put at entry ∷ tasks) = ArePuts tasks
 ArePuts (Visit site id ∷ tasks) = ⊥
+ArePuts (Enter at directory ∷ tasks) = ⊥
 
 -- the state once the puts among these tasks are performed
 abbrev pub performed : List Task → State → State
 performed [] s = s
 performed (Put at entry ∷ tasks) s = performed tasks (put_effect s at entry).state
 performed (Visit site id ∷ tasks) s = performed tasks s
+performed (Enter at directory ∷ tasks) s = performed tasks s
 
--- an item was handled, and what it puts was put: its own items are left
-pub record Handled (oracle : Oracle) (s t : State) (site : Site) (item : ItemNode) (inner : List Task) : Type 0 where
-  pub effect : Effect
+-- what a rule leads to was done up to these inner tasks: all others are puts, and were performed
+pub record IsDone (effect : Effect) (t : State) (inner : List Task) : Type 0 where
   pub puts : List Task
-  pub handled : HandlesInSession oracle s site item effect
   pub tasks : effect.tasks ≡ puts ++ inner
   pub are_puts : ArePuts puts
   pub after : t ≡ performed puts effect.state
 
--- where the items in an item stand, of a tree that it is of
-abbrev pub opened_site : SiteInCode → Opened → SiteInCode
-opened_site site opened = record { module_id = opened.module_id; container = opened.container; tree_id = site.tree_id }
-
--- the items in an item that opened a list
-abbrev pub inner_of : SiteInCode → Option Opened → ItemNode → List Task
-inner_of site None item = []
-inner_of site (Some opened) item = walk (site_of (opened_site site opened)) (children_of item)
+-- an item was handled, and what it puts was put: its own items are left
+pub record Handled (oracle : Oracle) (s t : State) (site : Site) (item : ItemNode) (inner : List Task) : Type 0 where
+  pub effect : Effect
+  pub handled : HandlesInSession oracle s site item effect
+  pub done : IsDone effect t inner
 
 -- the imports of a `use` item as they wait
 abbrev pub queued : ModuleId → Written → List UseImport → List PendingImport
@@ -129,36 +139,109 @@ queued at written imports =
 
 -- where a frame's items stand
 abbrev pub frame_site : Frame → Site
-frame_site frame = site_of frame.site
+frame_site frame = record { scope = frame.module_id; container = frame.container; tree = frame.tree_id; directory = frame.dir }
+
+-- a file that was found, as it is shown
+abbrev pub found_in : FoundInCode → FoundFile
+found_in found = (found.file, found.is_mod_rs, found.dir)
 
 -- the items that a frame has left
 abbrev pub left_of : Frame → List ModItemId
 left_of frame = drop frame.next frame.items.now
 
+-- the walk of the list that an item opened, if it opened one
+abbrev pub inner_of : Option Frame → List Task
+inner_of None = []
+inner_of (Some frame) = walk (frame_site frame) (left_of frame)
+
 -- what is to be visited, where the last frame comes first
 unfoldable pub agenda_of : List Frame → List Task
 agenda_of [] = []
-agenda_of (frame ∷ above) = agenda_of above ++ walk (frame_site frame) (left_of frame)
+agenda_of (frame ∷ above) = agenda_of above ++ visits (frame_site frame) (left_of frame)
 
--- a frame goes over a tree that the oracle has
+-- a frame goes over the tree that the oracle has, or over none
 abbrev pub is_known : Oracle → Frame → Type 0
-is_known oracle frame = oracle.item_tree frame.site.tree_id ≡ Some frame.tree.now
+is_known oracle frame = oracle.item_tree frame.tree_id ≡ option_map (λ t. t.now) frame.tree
 
--- more than the number of children of any item of a tree, and one
-abbrev pub base_of : ItemTree → ℕ
-base_of tree = 2 + sum_by (λ node. length (children_of node)) tree.items
+-- so does the list that an item opened
+abbrev pub AreKnown : Oracle → Option Frame → Type 0
+AreKnown oracle None = Unit {0}
+AreKnown oracle (Some frame) = is_known oracle frame
 
--- an item weighs more than all later items together that can stand in it
-abbrev pub weight_of : ItemTree → ModItemId → ℕ
-weight_of tree item = base_of tree ^ suc (length tree.items - item.0)
+-- The work of a walk
 
--- what is left of a frame
-abbrev pub frame_measure : Frame → ℕ
-frame_measure frame = 1 + sum_by (weight_of frame.tree.now) (left_of frame)
+-- a list of items that an item opens, with the tree that holds them and their directory
+pub record Opened : Type 0 where
+  pub tree : TreeId
+  pub directory : Directory
+  pub items : List ModItemId
 
--- what is left of the walk
-abbrev pub walk_measure : List Frame → ℕ
-walk_measure frames = sum_by frame_measure frames
+-- the items of a file that was found
+abbrev pub file_opened : Oracle → Result FoundFile (List (List ℕ)) → Option Opened
+file_opened oracle (Ok found) = Some (record { tree = file_tree found; directory = found.2; items = top_items oracle (file_tree found) })
+file_opened oracle (Err files) = None
+
+-- the list that a module of this name opens
+abbrev pub module_opened : Oracle → List ℕ → TreeId → Directory → ItemNode → ModContents → Option Opened
+module_opened oracle text tree directory item (Inline children) =
+    option_map (λ below. record { tree = tree; directory = below; items = children }) (descend directory text (path_attr item.attrs))
+module_opened oracle text tree directory item Outline =
+    file_opened oracle (resolve_declaration (files_of oracle) tree.file directory text (path_attr item.attrs))
+
+-- the list that an item opens, by its kind
+abbrev pub kind_opened : Oracle → (Name → List ℕ) → TreeId → Directory → ItemNode → ModItemKind → Option Opened
+kind_opened oracle texts tree directory item (Mod name raw contents) = module_opened oracle (texts name) tree directory item contents
+kind_opened oracle texts tree directory item _ = None
+
+-- the list that an item opens, if the item is there
+abbrev pub item_opened : Oracle → (Name → List ℕ) → TreeId → Directory → Option ItemNode → Option Opened
+item_opened oracle texts tree directory None = None
+item_opened oracle texts tree directory (Some item) = kind_opened oracle texts tree directory item item.kind
+
+-- the work of a list that is opened, by the work of each item
+abbrev pub opened_work : (TreeId → Directory → ModItemId → ℕ) → Option Opened → ℕ
+opened_work each None = 0
+opened_work each (Some opened) = sum_by (each opened.tree opened.directory) opened.items
+
+-- the items of an extern block of this kind, which stand in the same directory
+abbrev pub block_items : ModItemKind → List ModItemId
+block_items (ExternBlock children) = children
+block_items _ = []
+
+-- the items of the extern block with this number, if it is one
+abbrev pub block_at : Option ItemNode → List ModItemId
+block_at None = []
+block_at (Some item) = block_items item.kind
+
+-- how many items of a tree stand behind this one, and it
+abbrev pub behind : Oracle → TreeId → ModItemId → ℕ
+behind oracle tree id = option_map_or (λ t. length t.items - id.0) (oracle.item_tree tree) 0
+
+-- the work of visiting an item, by the work of items in deeper directories, where so many items may stand behind it: more than that of all that it opens
+unfoldable pub work_behind : Oracle → (Name → List ℕ) → (TreeId → Directory → ModItemId → ℕ) → ℕ → TreeId → Directory → ModItemId → ℕ
+work_behind oracle texts deeper zero tree directory id = 2
+work_behind oracle texts deeper (suc rest) tree directory id =
+    2 + (opened_work deeper (item_opened oracle texts tree directory (node_at oracle tree id))
+    + sum_by (work_behind oracle texts deeper rest tree directory) (block_at (node_at oracle tree id)))
+
+-- the work of visiting an item, where so many levels of directories may be left
+unfoldable pub item_work : Oracle → (Name → List ℕ) → ℕ → TreeId → Directory → ModItemId → ℕ
+item_work oracle texts zero tree directory id = work_behind oracle texts (λ t d i. 0) (behind oracle tree id) tree directory id
+item_work oracle texts (suc levels) tree directory id = work_behind oracle texts (item_work oracle texts levels) (behind oracle tree id) tree directory id
+
+-- the work of a task: directories lie at most 32 deep
+abbrev pub task_work : Oracle → (Name → List ℕ) → Task → ℕ
+task_work oracle texts (Visit site id) = item_work oracle texts (33 - site.directory.depth) site.tree site.directory id
+task_work oracle texts (Put at entry) = 0
+task_work oracle texts (Enter at directory) = 0
+
+-- the work of a list of tasks
+abbrev pub work : Oracle → (Name → List ℕ) → List Task → ℕ
+work oracle texts tasks = sum_by (task_work oracle texts) tasks
+
+-- what is left of the walk: the work of its tasks, and a turn for the end of each frame
+abbrev pub walk_measure : Oracle → (Name → List ℕ) → List Frame → ℕ
+walk_measure oracle texts frames = work oracle texts (agenda_of frames) + length frames
 
 -- Turns of imports
 

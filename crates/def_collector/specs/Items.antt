@@ -1,18 +1,22 @@
 -- What visiting an item does, by its kind.
-use Rattle.std.specs.Prelude.{◌≡◌, ℕ, List, [], ◌∷◌, ◌++◌, length, map, Option, None, Some, option_and_then, option_map, slice_get, unwrap_or}
+use Rattle.std.specs.Prelude.{◌≡◌, ℕ, List, [], ◌∷◌, ◌++◌, length, map, Option, None, Some, Result, Ok, Err, option_and_then, option_map, slice_get, unwrap_or}
+use Rattle.item_tree.specs.declared.ids.CfgExpr.{CfgExpr}
 use Rattle.item_tree.specs.declared.ids.FileAstId.{FileAstId}
+use Rattle.item_tree.specs.declared.ids.HirFileId.TheVariants.{File}
 use Rattle.item_tree.specs.declared.ids.InFile.{InFile}
 use Rattle.item_tree.specs.declared.ids.ModItemId.{ModItemId}
 use Rattle.item_tree.specs.declared.ids.TreeId.{TreeId}
 use Rattle.item_tree.specs.declared.items.CtorVisibility.{CtorVisibility}
 use Rattle.item_tree.specs.declared.items.CtorVisibility.TheVariants.{NoValueNsCtor, ValueNsCtorWithVis, ValueNsCtorWithMinVis}
 use Rattle.item_tree.specs.declared.items.ItemNode.{ItemNode}
+use Rattle.item_tree.specs.declared.items.ModContents.{ModContents}
+use Rattle.item_tree.specs.declared.items.ModContents.TheVariants.{Inline, Outline}
 use Rattle.item_tree.specs.declared.items.ModItemKind.{ModItemKind}
 use Rattle.item_tree.specs.declared.items.ModItemKind.TheVariants.{Mod, Use, ExternBlock, Impl, Struct, Union, Enum, Function, Const, Static, Trait, TypeAlias}
 use Rattle.item_tree.specs.declared.items.RawVisibility.{RawVisibility}
 use Rattle.item_tree.specs.declared.items.UseImport.{UseImport}
 use Rattle.item_tree.specs.declared.name.Name.{Name}
-use Rattle.item_tree.specs.Trees.{children_of}
+use Rattle.item_tree.specs.Attrs.{cfg_in, disabled_by, path_attr}
 use Rattle.def_ids.specs.declared.ids.Def.{Def}
 use Rattle.def_ids.specs.declared.ids.Def.TheVariants as def
 use Rattle.def_ids.specs.declared.ids.ItemContainerId.{ItemContainerId}
@@ -33,7 +37,11 @@ use Rattle.def_map.specs.MapState.{ModuleState}
 use Rattle.def_map.specs.Scopes.{declared_in, empty_module, with_child, with_extern_block, with_impl, with_unnamed_const}
 use Rattle.def_map.specs.Oracle.{Oracle}
 use Rattle.def_map.specs.Paths.{resolve_visibility}
-use Rattle.def_collector.specs.State.{State, Effect, only, followed_by, with_map, Site, module_site, Task, Visit, Put, PendingImport, world, order}
+use Rattle.def_parts.specs.Directories.{Directory, FoundFile, descend, files_of, resolve_declaration}
+use Rattle.def_collector.specs.declared.diagnostics.DefDiagnostic.{DefDiagnostic}
+use Rattle.def_collector.specs.declared.diagnostics.DefDiagnosticKind.{DefDiagnosticKind}
+use Rattle.def_collector.specs.declared.diagnostics.DefDiagnosticKind.TheVariants.{UnconfiguredCode, UnresolvedModule}
+use Rattle.def_collector.specs.State.{State, Effect, only, followed_by, reported, with_map, Site, module_site, Task, Enter, Visit, Put, PendingImport, world, order}
 
 -- an item of a tree; a tree that is not there has none
 abbrev pub node_at : Oracle → TreeId → ModItemId → Option ItemNode
@@ -43,13 +51,25 @@ node_at oracle tree id = option_and_then (λ t. slice_get t.items id.0) (oracle.
 abbrev pub top_items : Oracle → TreeId → List ModItemId
 top_items oracle tree = unwrap_or (option_map (λ t. t.top) (oracle.item_tree tree)) []
 
--- a walk of a list: each item is visited in order
+-- the condition that disables a whole tree
+abbrev pub tree_cfg : Oracle → TreeId → Option CfgExpr
+tree_cfg oracle tree = option_and_then (λ t. cfg_in t.attrs) (oracle.item_tree tree)
+
+-- each item of a list is visited in order
+abbrev pub visits : Site → List ModItemId → List Task
+visits site ids = map (λ id. Visit site id) ids
+
+-- a walk of a list: the directory is stored, and then each item is visited
 abbrev pub walk : Site → List ModItemId → List Task
-walk site ids = map (λ id. Visit site id) ids
+walk site ids = Enter site.scope site.directory ∷ visits site ids
 
 -- an item's position
 abbrev pub position_of : Site → ItemNode → InFile FileAstId
 position_of site item = record { file = site.tree.file; value = item.ast_id }
+
+-- a diagnostic on an item
+abbrev pub diagnostic : Site → ItemNode → DefDiagnosticKind → DefDiagnostic
+diagnostic site item kind = record { «module» = site.scope; ast_id = position_of site item; kind = kind }
 
 -- what contains an item: functions, constants, statics and type aliases stand in the container of their list, all others in the module
 abbrev pub container_of : Site → ItemKind → ItemContainerId
@@ -99,11 +119,49 @@ add_module s at name vis o =
     at.index
     (declared_in (def.Module (next_module s))))
 
--- a module is added and put in types, and then its items are walked
-abbrev pub module_item : State → Site → ItemNode → Name → Visibility → Effect
-module_item s site item name vis =
-    followed_by (add_module s site.scope name vis (origin.Inline item.ast_id site.tree))
-    (put_declared site.scope name Types (def.Module (next_module s)) vis ∷ walk (module_site (next_module s) site.tree) (children_of item))
+-- a module is added and put in types, and then its contents are walked
+abbrev pub module_effect : State → Site → Name → Visibility → ModuleOrigin → List Task → Effect
+module_effect s site name vis o contents =
+    followed_by (add_module s site.scope name vis o) (put_declared site.scope name Types (def.Module (next_module s)) vis ∷ contents)
+
+-- where the contents of the next module stand
+abbrev pub inner_site : State → TreeId → Directory → Site
+inner_site s tree directory = module_site (next_module s) tree directory
+
+-- an inline module's contents; a module that lies too deep keeps none
+abbrev pub inline_contents : State → Site → List ModItemId → Option Directory → List Task
+inline_contents s site children None = []
+inline_contents s site children (Some directory) = walk (inner_site s site.tree directory) children
+
+-- a name's text; an unknown name has none
+abbrev pub name_text : Session → Name → List ℕ
+name_text session name = unwrap_or (session.text name) []
+
+-- the tree of a file that was found
+abbrev pub file_tree : FoundFile → TreeId
+file_tree found = record { file = File found.0; block = None }
+
+-- an outline module whose file is found: where the file is enabled, the module is declared and the file walked; where it is not, this is reported and nothing declared
+abbrev pub outline_found : Oracle → State → Site → ItemNode → Name → Visibility → FoundFile → Option CfgExpr → Effect
+outline_found oracle s site item name vis found (Some cfg) = only (reported s (diagnostic site item (UnconfiguredCode cfg)))
+outline_found oracle s site item name vis found None =
+    module_effect s site name vis (origin.File item.ast_id site.tree found.0 found.1)
+    (walk (inner_site s (file_tree found) found.2) (top_items oracle (file_tree found)))
+
+-- an outline module whose file is not found is declared empty, and reported with the files that were looked for
+abbrev pub outline_item : Oracle → State → Site → ItemNode → Name → Visibility → Result FoundFile (List (List ℕ)) → Effect
+outline_item oracle s site item name vis (Ok found) = outline_found oracle s site item name vis found (tree_cfg oracle (file_tree found))
+outline_item oracle s site item name vis (Err files) =
+    module_effect (reported s (diagnostic site item (UnresolvedModule files))) site name vis (origin.Inline item.ast_id site.tree) []
+
+-- a module, with its items in braces or in a file of its own
+abbrev pub module_item : Oracle → State → Site → ItemNode → Name → Visibility → ModContents → Effect
+module_item oracle s site item name vis (Inline children) =
+    module_effect s site name vis (origin.Inline item.ast_id site.tree)
+    (inline_contents s site children (descend site.directory (name_text s.session name) (path_attr item.attrs)))
+module_item oracle s site item name vis Outline =
+    outline_item oracle s site item name vis
+    (resolve_declaration (files_of oracle) site.tree.file site.directory (name_text s.session name) (path_attr item.attrs))
 
 -- the imports of a `use` as they pend
 abbrev pub pending_imports : Site → ItemNode → UseId → RawVisibility → List UseImport → List PendingImport
@@ -151,7 +209,7 @@ noted_in s at change = with_map s (with_module s.map at.index change)
 
 -- an item is handled, by its kind
 abbrev pub Handles : Oracle → State → Site → ItemNode → ModItemKind → Effect → Type 0
-Handles oracle s site item (Mod name raw contents) effect = effect ≡ module_item s site item name (written_vis oracle s site.scope raw)
+Handles oracle s site item (Mod name raw contents) effect = effect ≡ module_item oracle s site item name (written_vis oracle s site.scope raw) contents
 Handles oracle s site item (Use raw imports) effect =
     (n : ℕ) × IsNumber s UseItem site item n × (effect ≡ only (record s { imports = s.imports ++ pending_imports site item (record { 0 = n }) raw imports }))
 Handles oracle s site item (ExternBlock children) effect =
@@ -177,10 +235,15 @@ abbrev pub HandlesInSession : Oracle → State → Site → ItemNode → Effect 
 HandlesInSession oracle s site item effect =
     (session : Session) × Grows s.session session × Handles oracle (record s { session = session }) site item item.kind effect
 
+-- an item that cfg disables is reported, and nothing else; any other is handled
+abbrev pub VisitsNode : Oracle → State → Site → ItemNode → Option CfgExpr → Effect → Type 0
+VisitsNode oracle s site item (Some cfg) effect = effect ≡ only (reported s (diagnostic site item (UnconfiguredCode cfg)))
+VisitsNode oracle s site item None effect = HandlesInSession oracle s site item effect
+
 -- an item that the tree does not have is nothing
 abbrev pub VisitsAt : Oracle → State → Site → Option ItemNode → Effect → Type 0
 VisitsAt oracle s site None effect = effect ≡ only s
-VisitsAt oracle s site (Some item) effect = HandlesInSession oracle s site item effect
+VisitsAt oracle s site (Some item) effect = VisitsNode oracle s site item (disabled_by item.attrs) effect
 
 -- an item is visited
 abbrev pub Visits : Oracle → State → Site → ModItemId → Effect → Type 0

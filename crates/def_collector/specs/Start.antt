@@ -1,6 +1,8 @@
 -- The start of a run.
-use Rattle.std.specs.Prelude.{List, [], cond, Option, None, Some, is_some}
+use Rattle.std.specs.Prelude.{Bool, true, false, List, [], ◌∷◌, ◌++◌, cond, Option, None, Some, is_some}
+use Rattle.item_tree.specs.declared.ids.CfgExpr.{CfgExpr}
 use Rattle.item_tree.specs.declared.ids.HirFileId.TheVariants.{File}
+use Rattle.item_tree.specs.declared.ids.ModItemId.{ModItemId}
 use Rattle.item_tree.specs.declared.ids.TreeId.{TreeId}
 use Rattle.def_ids.specs.declared.ids.MapId.{MapId}
 use Rattle.def_ids.specs.Session.{Session}
@@ -9,8 +11,11 @@ use Rattle.def_map.specs.declared.source_database.CrateData.{CrateData}
 use Rattle.def_map.specs.MapState.{MapState}
 use Rattle.def_map.specs.MapView.{empty_local}
 use Rattle.def_map.specs.Oracle.{Oracle}
+use Rattle.def_parts.specs.Directories.{root_directory}
+use Rattle.def_collector.specs.declared.diagnostics.DefDiagnostic.{DefDiagnostic}
+use Rattle.def_collector.specs.declared.diagnostics.DefDiagnosticKind.TheVariants.{UnconfiguredCode}
 use Rattle.def_collector.specs.State.{Setting, State, Site, Task, Moment, root, module_site}
-use Rattle.def_collector.specs.Items.{walk, top_items}
+use Rattle.def_collector.specs.Items.{walk, top_items, tree_cfg}
 
 -- a run's state before anything
 abbrev pub seeded_state : Setting → Session → State
@@ -21,6 +26,7 @@ seeded_state w session =
       content = empty;
       local = empty_local;
       outer = w.crate_local;
+      directories = λ at. None;
       imports = [];
       partial = [];
       diagnostics = [];
@@ -35,14 +41,40 @@ root_tree tree (Some known) = record { file = File known.root_file; block = None
 abbrev pub first_tree : Oracle → MapId → TreeId → TreeId
 first_tree oracle id tree = cond (is_some id.block) tree (root_tree tree (oracle.crate_data id.krate))
 
+-- where the top items of a tree stand: in the map's root, and its directory
+abbrev pub site_at : MapState → TreeId → Site
+site_at m tree = module_site (root m) tree root_directory
+
 -- where the first items stand
 abbrev pub first_site : Oracle → MapState → TreeId → Site
-first_site oracle m tree = module_site (root m) (first_tree oracle m.id tree)
+first_site oracle m tree = site_at m (first_tree oracle m.id tree)
 
--- the walk of the top items
+-- the first list is walked, unless cfg disables its tree
+abbrev pub first_walk : Site → List ModItemId → Option CfgExpr → List Task
+first_walk site ids None = walk site ids
+first_walk site ids (Some cfg) = []
+
+-- the walk of the top items of the root file or the block
 abbrev pub first_tasks : Oracle → MapState → TreeId → List Task
-first_tasks oracle m tree = walk (first_site oracle m tree) (top_items oracle (first_tree oracle m.id tree))
+first_tasks oracle m tree =
+    first_walk (first_site oracle m tree) (top_items oracle (first_tree oracle m.id tree)) (tree_cfg oracle (first_tree oracle m.id tree))
+
+-- a root file that cfg disables, at its first number
+abbrev pub root_disabled : Site → CfgExpr → DefDiagnostic
+root_disabled site cfg = record { «module» = site.scope; ast_id = record { file = site.tree.file; value = record { 0 = 0 } }; kind = UnconfiguredCode cfg }
+
+-- what is reported before the walk: a crate's root file that cfg disables; of a block nothing
+abbrev pub first_reports : Site → Bool → Option CfgExpr → List DefDiagnostic
+first_reports site in_block None = []
+first_reports site true (Some cfg) = []
+first_reports site false (Some cfg) = root_disabled site cfg ∷ []
+
+-- the state with what is reported before the walk
+abbrev pub started : Oracle → MapState → TreeId → State → State
+started oracle m tree s =
+    record s { diagnostics = s.diagnostics ++ first_reports (first_site oracle m tree) (is_some m.id.block) (tree_cfg oracle (first_tree oracle m.id tree)) }
 
 -- the moment that a run begins with: the top items are to be walked
 abbrev pub start : Setting → Session → Moment
-start w session = record { tasks = first_tasks w.oracle w.seeded w.tree; state = seeded_state w session; events = [] }
+start w session =
+    record { tasks = first_tasks w.oracle w.seeded w.tree; state = started w.oracle w.seeded w.tree (seeded_state w session); events = [] }

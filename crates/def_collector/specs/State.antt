@@ -1,5 +1,5 @@
 -- The state of a run, and what a run is given.
-use Rattle.std.specs.Prelude.{◌≡◌, Bool, List, [], ◌∷◌, ◌++◌, Option, unwrap_or, IsPermutation}
+use Rattle.std.specs.Prelude.{◌≡◌, Bool, List, [], ◌∷◌, ◌++◌, Option, Some, unwrap_or, IsPermutation}
 use Rattle.item_tree.specs.declared.ids.FileAstId.{FileAstId}
 use Rattle.item_tree.specs.declared.ids.InFile.{InFile}
 use Rattle.item_tree.specs.declared.ids.ModItemId.{ModItemId}
@@ -11,6 +11,7 @@ use Rattle.def_ids.specs.declared.ids.ItemContainerId.{ItemContainerId}
 use Rattle.def_ids.specs.declared.ids.ItemContainerId.TheVariants.{Module}
 use Rattle.def_ids.specs.declared.ids.ModuleId.{ModuleId}
 use Rattle.def_ids.specs.declared.ids.UseId.{UseId}
+use Rattle.def_ids.specs.Ids.{is_same_module}
 use Rattle.def_ids.specs.Session.{Session}
 use Rattle.def_bindings.specs.declared.bindings.Binding.{Binding}
 use Rattle.def_bindings.specs.declared.bindings.Entry.{Entry}
@@ -24,6 +25,8 @@ use Rattle.def_map.specs.MapView.{MapView, LocalView}
 use Rattle.def_map.specs.Maps.{facts_in}
 use Rattle.def_map.specs.Oracle.{Oracle}
 use Rattle.def_map.specs.Sources.{World}
+use Rattle.def_map.specs.Updates.{set_where}
+use Rattle.def_parts.specs.Directories.{Directory}
 use Rattle.def_collector.specs.declared.diagnostics.DefDiagnostic.{DefDiagnostic}
 
 -- what a run is given: the oracle, the seeded map, the tree, and for a block the names of crates that its crate knows
@@ -61,23 +64,28 @@ pub record State : Type 0 where
   pub local : LocalView
   -- for a block, those that its crate knows, which stand in their place
   pub outer : Option LocalView
+  -- the directory of each module that a walk began in
+  pub directories : ModuleId → Option Directory
   pub imports : List PendingImport
   pub partial : List PartialImport
   pub diagnostics : List DefDiagnostic
 
--- where the items of a list stand: their module, what contains them, and the tree that holds them
+-- where the items of a list stand: their module, what contains them, the tree that holds them, and the directory of their modules' files
 pub record Site : Type 0 where
   pub scope : ModuleId
   -- the module, or an extern block in it
   pub container : ItemContainerId
   pub tree : TreeId
+  pub directory : Directory
 
 -- where a module's own items stand
-abbrev pub module_site : ModuleId → TreeId → Site
-module_site m tree = record { scope = m; container = Module m; tree = tree }
+abbrev pub module_site : ModuleId → TreeId → Directory → Site
+module_site m tree directory = record { scope = m; container = Module m; tree = tree; directory = directory }
 
 -- work that is done in order
 pub data Task : Type 0 where
+  -- a walk begins: the module's directory is stored
+  Enter : ModuleId → Directory → Task
   -- an item is visited
   Visit : Site → ModItemId → Task
   -- an entry is put into a module
@@ -129,6 +137,14 @@ with_content s content = record s { content = content }
 -- the state with another map
 abbrev pub with_map : State → MapState → State
 with_map s m = record s { map = m }
+
+-- the state with this directory for a module, in the place of an earlier one
+abbrev pub entered : State → ModuleId → Directory → State
+entered s at directory = record s { directories = set_where (is_same_module at) (Some directory) s.directories }
+
+-- the state with one more diagnostic
+abbrev pub reported : State → DefDiagnostic → State
+reported s diagnostic = record s { diagnostics = s.diagnostics ++ diagnostic ∷ [] }
 
 -- the order of visibilities so far
 abbrev pub order : State → Order Visibility

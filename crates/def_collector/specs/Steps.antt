@@ -10,7 +10,7 @@ use Rattle.def_bindings.specs.declared.visibility.Visibility.{Visibility}
 use Rattle.def_bindings.specs.Content.{Content}
 use Rattle.def_bindings.specs.Puts.{copied, glob_of, offered, put_entry}
 use Rattle.def_map.specs.Oracle.{Oracle}
-use Rattle.def_collector.specs.State.{State, Effect, Task, Visit, Put, Event, PutExplicit, Moment, after, with_state, with_content, order, Rearranges}
+use Rattle.def_collector.specs.State.{State, Effect, Task, Enter, Visit, Put, Event, PutExplicit, Moment, after, entered, only, with_state, with_content, order, Rearranges}
 use Rattle.def_collector.specs.Imports.{ImportStep}
 use Rattle.def_collector.specs.Items.{Visits}
 
@@ -29,6 +29,7 @@ put_effect s at entry = record { state = with_content s (put_entry (order s) at 
 
 -- a task is performed
 abbrev pub Does : Oracle → State → Task → Effect → Type 0
+Does oracle s (Enter at directory) effect = effect ≡ only (entered s at directory)
 Does oracle s (Visit site id) effect = Visits oracle s site id effect
 Does oracle s (Put at entry) effect = effect ≡ put_effect s at entry
 

@@ -1,5 +1,6 @@
 //! The collector: it walks item trees, and records imports until none resolves any further.
-ghost use Rattle.std.specs.Prelude.{◌≡◌, [], is_some, option_map, unwrap_or, IfOk, OnOk};
+ghost use Rattle.std.specs.Prelude.{◌≡◌, ◌++◌, [], Some, is_some, option_map, unwrap_or, IfOk, OnOk};
+ghost use Rattle.def_ids.specs.declared.interner.Interner.{Interner};
 ghost use Rattle.def_ids.specs.Session.{Grows, session_of};
 ghost use Rattle.def_map.specs.DefMaps as whole;
 ghost use Rattle.def_map.specs.Fresh.{IsFresh};
@@ -8,23 +9,28 @@ ghost use Rattle.def_map.specs.Maps.{map_state};
 ghost use Rattle.def_collector.specs.Collector.{setting_of, shown, state_of};
 ghost use Rattle.def_collector.specs.Headline.{Answers};
 ghost use Rattle.def_collector.specs.Imports.{NoneReady};
-ghost use Rattle.def_collector.specs.Start.{first_tasks, first_tree};
+ghost use Rattle.def_collector.specs.Start.{first_reports, first_tasks, first_tree, site_at, started};
 ghost use Rattle.def_collector.specs.Steps.{Leads};
 
 mod directive;
 mod finish;
 mod imports;
 mod items;
+mod mod_dirs;
+mod modules;
 mod walk;
 
-use crate::diagnostics::DefDiagnostic;
+use crate::diagnostics::{DefDiagnostic, DefDiagnosticKind};
 use crate::outcome::Collected;
-use def_ids::{Interner, MapId, ModuleId};
+use def_ids::{Interner, ItemContainerId, MapId, ModuleId};
 use def_map::{DefMap, LocalDefMap, MapData, SourceDatabase, Table};
+use def_parts::ModDir;
 use directive::{ImportDirective, PartialDirective};
-use item_tree::{HirFileId, TreeId};
+use item_tree::{CfgExpr, FileAstId, HirFileId, InFile, TreeId};
+use mod_dirs::ModDirs;
+use modules::{disabled_by, top_items};
 use std::alloc::{AllocError, Global};
-use walk::{Frame, Site};
+use walk::Frame;
 
 /// Walks the tree of items and collects definitions into a map.
 #[derive(Drop)]
@@ -35,6 +41,7 @@ pub struct DefCollector<'a> {
     local_def_map: LocalDefMap,
     /// The names of crates that a block's crate knows.
     crate_local: Option<&'a LocalDefMap>,
+    mod_dirs: ModDirs,
     /// Imports that no pass could resolve so far. One that was recorded leaves `None`.
     unresolved_imports: Vec<Option<ImportDirective<'a>>>,
     /// Imports that were recorded, and that may give more namespaces. One that left leaves `None`.
@@ -74,6 +81,7 @@ pub fn collect_defs<D: SourceDatabase>(
         table,
         local_def_map: LocalDefMap::new(alloc),
         crate_local,
+        mod_dirs: ModDirs::new(alloc),
         unresolved_imports: Vec::new(alloc),
         indeterminate_imports: Vec::new(alloc),
         diagnostics: Vec::new(alloc),
@@ -103,7 +111,8 @@ impl<'a> DefCollector<'a> {
     ) -> Result<(), AllocError>
         ensures run { OnOk result (Leads (D.oracle db.now)
             (first_tasks (D.oracle db.now) (map_state self.old.def_map) tree_id)
-            (state_of self.old session.old) [] (state_of self.new session.new)) }
+            (started (D.oracle db.now) (map_state self.old.def_map) tree_id (state_of self.old session.old))
+            [] (state_of self.new session.new)) }
         ensures settled { OnOk result (NoneReady (D.oracle db.now) (state_of self.new session.new)) }
         ensures session { Grows (session_of session.old) (session_of session.new) }
     {
@@ -121,24 +130,53 @@ impl<'a> DefCollector<'a> {
     ) -> Result<(), AllocError>
         ensures run { OnOk result (Leads (D.oracle db.now)
             (first_tasks (D.oracle db.now) (map_state self.old.def_map) tree_id)
-            (state_of self.old session.old) [] (state_of self.new session.new)) }
+            (started (D.oracle db.now) (map_state self.old.def_map) tree_id (state_of self.old session.old))
+            [] (state_of self.new session.new)) }
         ensures session { Grows (session_of session.old) (session_of session.new) }
     {
         let map = self.def_map.tree.map;
         let tree_id = first_tree(db, map, tree_id);
-        let Some(tree) = db.item_tree(tree_id) else {
-            return Ok(());
-        };
+        let tree = db.item_tree(tree_id);
+        if let Some(cfg) = disabled_by(tree) {
+            return self.report_disabled(tree_id, cfg);
+        }
         self.walk(
             db,
             session,
             Frame {
-                site: Site::of_module(ModuleId { map, index: 0 }, tree_id),
+                module_id: ModuleId { map, index: 0 },
+                container: ItemContainerId::Module(ModuleId { map, index: 0 }),
+                tree_id,
                 tree,
-                items: tree.top_level_items(),
+                items: top_items(tree),
                 next: 0,
+                dir: ModDir::root(self.alloc),
             },
         )
+    }
+
+    /// Reports a crate's root file that cfg disables. Of a block nothing is reported. On `Err`
+    /// nothing but safety is promised.
+    fn report_disabled(&mut self, tree_id: TreeId, cfg: CfgExpr) -> Result<(), AllocError>
+        ensures { OnOk result ((session : Interner) →
+            let s = state_of self.old session in
+            state_of self.new session
+            ≡ record s { diagnostics = s.diagnostics ++ first_reports (site_at s.map tree_id) (is_some s.map.id.block) (Some cfg) }) }
+    {
+        let map = self.def_map.tree.map;
+        let in_block = map.block.is_some();
+        if in_block {
+            return Ok(());
+        }
+        self.diagnostics.push(DefDiagnostic {
+            module: ModuleId { map, index: 0 },
+            ast_id: InFile {
+                file: tree_id.file,
+                value: FileAstId(0),
+            },
+            kind: DefDiagnosticKind::UnconfiguredCode { cfg },
+        })?;
+        Ok(())
     }
 
     /// Records imports until none is ready. On `Err` nothing but safety is promised.

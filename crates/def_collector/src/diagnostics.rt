@@ -1,17 +1,21 @@
 //! What a run reports.
 
 use def_ids::ModuleId;
-use item_tree::{FileAstId, InFile, Seq};
+use item_tree::{CfgExpr, FileAstId, InFile, Seq, Text};
 
 /// What a diagnostic says.
-#[derive(Clone, Copy, PartialEq, Eq, Debug)]
+#[derive(Clone, PartialEq, Eq, Debug, Drop)]
 pub enum DefDiagnosticKind {
+    /// A module whose file was not found: the files that were looked for.
+    UnresolvedModule { candidates: Seq<Text> },
     /// An import that did not resolve: its number in its `use` item.
     UnresolvedImport { index: u32 },
+    /// An item or a file that is not compiled: the condition that is not met.
+    UnconfiguredCode { cfg: CfgExpr },
 }
 
 /// A diagnostic: the module and the item that it speaks of, and what it says.
-#[derive(Clone, Copy, PartialEq, Eq, Debug)]
+#[derive(Clone, PartialEq, Eq, Debug, Drop)]
 pub struct DefDiagnostic {
     pub module: ModuleId,
     pub ast_id: InFile<FileAstId>,

@@ -5,7 +5,7 @@ use def_bindings::{ImportOrExternCrate, Visibility};
 use def_collector::{Collected, DefDiagnostic, DefDiagnosticKind, LeftImport};
 use def_ids::{Def, Interner, MacroId, TraitId};
 use def_map::{DefMap, Item, ItemScope, PerNs};
-use item_tree::{Crate, HirFileId, ModPath, Name, PathKind};
+use item_tree::{Crate, HirFileId, ModPath, Name, PathKind, Text};
 use std::alloc::{AllocError, Global};
 use std::{fmt, io};
 
@@ -192,7 +192,15 @@ impl<'a, 'b, W: io::Write> Printer<'a, 'b, W> {
         let module = diagnostic.module.index;
         let file = FileText(diagnostic.ast_id.file);
         let item = diagnostic.ast_id.value.0;
-        match diagnostic.kind {
+        match &diagnostic.kind {
+            DefDiagnosticKind::UnresolvedModule { candidates } => {
+                write!(self.out, "diag unresolved-module {module} {file}:{item} ")?;
+                self.candidates(candidates.as_slice())?;
+            }
+            DefDiagnosticKind::UnconfiguredCode { cfg } => {
+                let cfg = cfg.0;
+                writeln!(self.out, "diag unconfigured {module} {file}:{item} {cfg}")?;
+            }
             DefDiagnosticKind::UnresolvedImport { index } => {
                 writeln!(
                     self.out,
@@ -200,6 +208,21 @@ impl<'a, 'b, W: io::Write> Printer<'a, 'b, W> {
                 )?;
             }
         }
+        Ok(())
+    }
+
+    /// The files that were looked for.
+    fn candidates(&mut self, candidates: &[Text]) -> Result<(), Fault> {
+        let mut is_due = false;
+        for candidate in candidates {
+            if is_due {
+                write!(self.out, ",")?;
+            }
+            let candidate = candidate.as_str();
+            write!(self.out, "{candidate}")?;
+            is_due = true;
+        }
+        writeln!(self.out)?;
         Ok(())
     }
 

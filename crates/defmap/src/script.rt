@@ -53,6 +53,25 @@ pub enum ItemText {
         vis: VisText,
         imports: &'static [ImportText],
     },
+    /// A module in a file of its own, with the text of its `#[path]`.
+    ModFile {
+        vis: VisText,
+        name: &'static str,
+        path: Option<&'static str>,
+    },
+    /// An item that cfg disables.
+    Disabled {
+        cfg: usize,
+        item: &'static ItemText,
+    },
+    /// No item: cfg disables the file.
+    FileDisabled {
+        cfg: usize,
+    },
+    /// No item: the path by which the files of the vector lead to this one.
+    FilePath {
+        path: &'static str,
+    },
     ExternBlock,
     Impl {
         is_trait_impl: bool,

@@ -2,6 +2,7 @@
 
 mod blocks;
 mod directories;
+mod files;
 mod globs;
 mod kinds;
 mod paths;

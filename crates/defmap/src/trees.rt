@@ -3,8 +3,9 @@
 use crate::script::{CtorText, ImportText, ItemText, Line, PathText, PlainKind, VisText};
 use def_ids::Interner;
 use item_tree::{
-    Attrs, AttrsOrCfg, CtorVisibility, FileAstId, ImportAlias, ItemNode, ItemTree, ModContents,
-    ModItemId, ModItemKind, ModPath, Name, RawVisibility, Seq, TreeFault, UseImport,
+    Attr, AttrInput, Attrs, AttrsOrCfg, CfgExpr, CtorVisibility, FileAstId, ImportAlias, ItemNode,
+    ItemTree, ModContents, ModItemId, ModItemKind, ModPath, Name, PathKind, RawVisibility, Seq,
+    SyntaxContext, Text, TreeFault, UseImport, sym,
 };
 use std::alloc::{AllocError, Global};
 
@@ -102,48 +103,119 @@ fn plain_item(kind: PlainKind, name: Name, visibility: RawVisibility) -> ModItem
     }
 }
 
-/// What an item is. A module and an extern block have no contents yet.
+/// What an item is, if the line is one. A module and an extern block have no contents yet.
 fn item_kind(
     alloc: Global,
     session: &mut Interner,
     text: &ItemText,
-) -> Result<ModItemKind, AllocError> {
+) -> Result<Option<ModItemKind>, AllocError> {
     match text {
-        ItemText::Mod { vis, name } => Ok(ModItemKind::Mod {
+        ItemText::Mod { vis, name } => Ok(Some(ModItemKind::Mod {
             name: session.intern_name(name)?,
             visibility: visibility(alloc, session, vis)?,
             contents: ModContents::Inline(Seq::from_vec(Vec::new(alloc))),
-        }),
+        })),
+        ItemText::ModFile { vis, name, path: _ } => Ok(Some(ModItemKind::Mod {
+            name: session.intern_name(name)?,
+            visibility: visibility(alloc, session, vis)?,
+            contents: ModContents::Outline,
+        })),
+        ItemText::Disabled { .. } | ItemText::FileDisabled { .. } | ItemText::FilePath { .. } => Ok(
+            None,
+        ),
         ItemText::Use {
             vis,
             imports: texts,
-        } => Ok(ModItemKind::Use {
+        } => Ok(Some(ModItemKind::Use {
             visibility: visibility(alloc, session, vis)?,
             imports: imports(alloc, session, texts)?,
-        }),
-        ItemText::ExternBlock => Ok(ModItemKind::ExternBlock {
+        })),
+        ItemText::ExternBlock => Ok(Some(ModItemKind::ExternBlock {
             children: Seq::from_vec(Vec::new(alloc)),
-        }),
-        ItemText::Impl { is_trait_impl } => Ok(ModItemKind::Impl {
+        })),
+        ItemText::Impl { is_trait_impl } => Ok(Some(ModItemKind::Impl {
             is_trait_impl: *is_trait_impl,
-        }),
+        })),
         ItemText::Plain { kind, vis, name } => {
             let name = session.intern_name(name)?;
-            Ok(plain_item(*kind, name, visibility(alloc, session, vis)?))
+            let visibility = visibility(alloc, session, vis)?;
+            Ok(Some(plain_item(*kind, name, visibility)))
         }
-        ItemText::Const { vis, name } => Ok(ModItemKind::Const {
+        ItemText::Const { vis, name } => Ok(Some(ModItemKind::Const {
             name: match name {
                 Some(name) => Some(session.intern_name(name)?),
                 None => None,
             },
             visibility: visibility(alloc, session, vis)?,
-        }),
-        ItemText::Struct { vis, name, ctor } => Ok(ModItemKind::Struct {
+        })),
+        ItemText::Struct { vis, name, ctor } => Ok(Some(ModItemKind::Struct {
             name: session.intern_name(name)?,
             visibility: visibility(alloc, session, vis)?,
             ctor: constructor(alloc, session, ctor)?,
-        }),
+        })),
     }
+}
+
+/// An item without the condition that disables it, and that condition.
+fn without_cfg(text: &'static ItemText) -> (&'static ItemText, Option<CfgExpr>) {
+    match text {
+        ItemText::Disabled { cfg, item } => (*item, Some(CfgExpr(*cfg))),
+        _ => (text, None),
+    }
+}
+
+/// The attributes of an item.
+fn attributes(
+    alloc: Global,
+    text: &ItemText,
+    cfg: Option<CfgExpr>,
+) -> Result<AttrsOrCfg, AllocError> {
+    let mut list = Seq::from_vec(Vec::new(alloc));
+    if let ItemText::ModFile {
+        path: Some(path),
+        ..
+    } = text
+    {
+        let mut segments = Seq::from_vec(Vec::new(alloc));
+        segments.push(sym::PATH)?;
+        list.push(Attr {
+            path: ModPath {
+                kind: PathKind::Plain,
+                segments,
+            },
+            input: Some(AttrInput::Str(Text::from_str(alloc, path)?)),
+            ctxt: SyntaxContext(0),
+            paths: None,
+        })?;
+    }
+    Ok(with_cfg(Attrs { list }, cfg))
+}
+
+fn with_cfg(attrs: Attrs, cfg: Option<CfgExpr>) -> AttrsOrCfg {
+    match cfg {
+        Some(cfg) => AttrsOrCfg::CfgDisabled(cfg, attrs),
+        None => AttrsOrCfg::Enabled(attrs),
+    }
+}
+
+/// The condition that disables a whole file, if one of its lines says so.
+fn file_cfg(lines: &[Line]) -> Option<CfgExpr> {
+    for line in lines {
+        if let ItemText::FileDisabled { cfg } = &line.item {
+            return Some(CfgExpr(*cfg));
+        }
+    }
+    None
+}
+
+/// The path by which other files lead to one, if one of its lines says so.
+pub fn file_path(lines: &[Line]) -> Option<&'static str> {
+    for line in lines {
+        if let ItemText::FilePath { path } = &line.item {
+            return Some(path);
+        }
+    }
+    None
 }
 
 /// Puts an item into another one. One that holds no items takes none.
@@ -166,11 +238,11 @@ pub fn no_attrs(alloc: Global) -> AttrsOrCfg {
     })
 }
 
-/// The tree of a file: each line is an item, whose number is that of the line, from 0.
+/// The tree of a file: each line that is an item has the next number, from 0.
 pub fn tree_of(
     alloc: Global,
     session: &mut Interner,
-    lines: &[Line],
+    lines: &'static [Line],
 ) -> Result<Result<ItemTree, TreeFault>, AllocError> {
     let mut items: Vec<ItemNode> = Vec::new(alloc);
     let mut top = Vec::new(alloc);
@@ -178,6 +250,10 @@ pub fn tree_of(
     let mut open: Vec<usize> = Vec::new(alloc);
     for line in lines {
         let number = items.len();
+        let (text, cfg) = without_cfg(&line.item);
+        let Some(kind) = item_kind(alloc, session, text)? else {
+            continue;
+        };
         open.truncate(line.depth);
         match open.last() {
             Some(parent) => {
@@ -188,12 +264,17 @@ pub fn tree_of(
             None => top.push(ModItemId(number))?,
         }
         open.push(number)?;
-        let kind = item_kind(alloc, session, &line.item)?;
         items.push(ItemNode {
             ast_id: FileAstId(number),
-            attrs: None,
+            attrs: Some(attributes(alloc, text, cfg)?),
             kind,
         })?;
     }
-    Ok(ItemTree::new(items, top, no_attrs(alloc)))
+    let attrs = with_cfg(
+        Attrs {
+            list: Seq::from_vec(Vec::new(alloc)),
+        },
+        file_cfg(lines),
+    );
+    Ok(ItemTree::new(items, top, attrs))
 }

@@ -11,7 +11,43 @@ use def_ids::Edition;
 use item_tree::{ImportKind, PathKind};
 
 /// The vectors in byte order of their names.
-static VECTORS: [Vector; 4] = [
+static VECTORS: [Vector; 5] = [
+    // #[path = "foo.rs"] mod foo; in the root file and in foo.rs itself
+    Vector {
+        name: "circular",
+        files: &[
+            &[Line {
+                depth: 0,
+                item: ItemText::ModFile {
+                    vis: VisText::PubSelf,
+                    name: "foo",
+                    path: Some("foo.rs"),
+                },
+            }],
+            &[
+                Line {
+                    depth: 0,
+                    item: ItemText::FilePath { path: "foo.rs" },
+                },
+                Line {
+                    depth: 0,
+                    item: ItemText::ModFile {
+                        vis: VisText::PubSelf,
+                        name: "foo",
+                        path: Some("foo.rs"),
+                    },
+                },
+            ],
+        ],
+        crates: &[CrateText {
+            krate: 0,
+            edition: Edition::Edition2021,
+            root_file: 0,
+            deps: &[],
+        }],
+        builtin_types: &[],
+        enums: &[],
+    },
     Vector {
         name: "empty",
         files: &[&[]],

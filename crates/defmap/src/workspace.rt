@@ -9,10 +9,11 @@ ghost use Rattle.defmap.specs.Workspace.{file_tree, setting};
 
 use crate::script::{CrateText, DependencyText, Line, VariantsText, Vector};
 use crate::scripted::Scripted;
-use crate::trees::tree_of;
+use crate::trees::{file_path, tree_of};
 use def_collector::{Collected, collect_defs};
 use def_ids::{Interner, VariantId};
 use def_map::{CrateData, DefMap, Dependency, EnumVariant};
+use indexmap::IndexMap;
 use item_tree::{Crate, FileAstId, FileId, HirFileId, InFile, Seq, TreeId};
 use std::alloc::{AllocError, Global};
 
@@ -38,6 +39,7 @@ impl Workspace {
     fn fill(&mut self, vector: &Vector) -> Result<(), AllocError> {
         for (number, lines) in vector.files.iter().enumerate() {
             self.add_file(FileId(number), lines)?;
+            self.add_paths(FileId(number), vector.files)?;
         }
         for krate in vector.crates {
             self.add_crate(krate)?;
@@ -59,8 +61,24 @@ impl Workspace {
         Ok(workspace)
     }
 
+    /// Adds the paths that lead from a file to those that have one.
+    fn add_paths(
+        &mut self,
+        from: FileId,
+        files: &'static [&'static [Line]],
+    ) -> Result<(), AllocError> {
+        let mut paths = IndexMap::new(self.alloc);
+        for (number, lines) in files.iter().enumerate() {
+            if let Some(path) = file_path(lines) {
+                paths.insert(String::from_str(self.alloc, path)?, FileId(number))?;
+            }
+        }
+        self.db.files.paths.insert(from, paths)?;
+        Ok(())
+    }
+
     /// Adds a file. One whose lines make no tree is not there.
-    fn add_file(&mut self, file: FileId, lines: &[Line]) -> Result<(), AllocError> {
+    fn add_file(&mut self, file: FileId, lines: &'static [Line]) -> Result<(), AllocError> {
         if let Ok(tree) = tree_of(self.alloc, &mut self.session, lines)? {
             self.db.files.trees.insert(tree_id(file), tree)?;
         }

@@ -3,7 +3,7 @@ use Rattle.std.proofs.Common.{◌≡◌, ℕ, ◌<◌, ◌≤◌, ◌⊎◌, Lis
 use Rattle.std.specs.Prelude.{true, false, None}
 use Rattle.item_tree.specs.declared.ids.ModItemId.{ModItemId}
 use Rattle.item_tree.specs.declared.items.ItemNode.{ItemNode}
-use Rattle.item_tree.specs.declared.items.ModContents.TheVariants.{Inline}
+use Rattle.item_tree.specs.declared.items.ModContents.TheVariants.{Inline, Outline}
 use Rattle.item_tree.specs.declared.items.ModItemKind.TheVariants.{Mod, Struct}
 use Rattle.item_tree.specs.declared.items.RawVisibility.TheVariants.{PubSelf}
 use Rattle.item_tree.specs.declared.items.CtorVisibility.TheVariants.{NoValueNsCtor}
@@ -26,6 +26,10 @@ leaf = record { ast_id = record { 0 = 0 }; attrs = None; kind = Struct self_name
 
 items_of_a_module : children_of (module_of (id 1 ∷ id 2 ∷ [])) ≡ id 1 ∷ id 2 ∷ []
 items_of_a_module = refl
+
+-- a module in a file of its own holds none of this tree's items
+items_of_another_file : children_of (record { ast_id = record { 0 = 0 }; attrs = None; kind = Mod self_name PubSelf Outline }) ≡ []
+items_of_another_file = refl
 
 items_of_a_struct : children_of leaf ≡ []
 items_of_a_struct = refl

@@ -11,6 +11,7 @@ use Rattle.item_tree.specs.declared.ids.AttrId.{AttrId}
 use Rattle.item_tree.specs.declared.ids.CfgExpr.{CfgExpr}
 use Rattle.item_tree.specs.declared.name.Name.{Name}
 use Rattle.item_tree.specs.declared.tt.TtElement.{TtElement}
+use Rattle.item_tree.specs.KnownNames.{path_name}
 use Rattle.item_tree.specs.Lists.{is_there, first_of_list}
 use Rattle.item_tree.specs.Paths.{as_ident, is_ident}
 
@@ -86,3 +87,7 @@ attrs_of (Some attrs) = (attrs_in attrs).list
 -- the condition that disables an item
 abbrev pub disabled_by : Option AttrsOrCfg → Option CfgExpr
 disabled_by attrs = option_and_then cfg_in attrs
+
+-- the text of an item's `#[path]`, if it has one
+abbrev pub path_attr : Option AttrsOrCfg → Option (List ℕ)
+path_attr attrs = string_value path_name (attrs_of attrs)

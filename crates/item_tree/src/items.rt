@@ -1,12 +1,14 @@
 //! Items.
-ghost use Rattle.std.specs.Prelude.{◌≡◌};
+ghost use Rattle.std.specs.Prelude.{◌≡◌, option_map};
 ghost use Rattle.item_tree.specs.Trees.{children_of};
+ghost use Rattle.item_tree.specs.Attrs.{disabled_by, path_attr};
 
 use crate::attrs::AttrsOrCfg;
-use crate::ids::{FileAstId, ModItemId};
+use crate::ids::{CfgExpr, FileAstId, ModItemId};
 use crate::list::Seq;
 use crate::mod_path::ModPath;
 use crate::name::Name;
+use crate::sym;
 
 /// A visibility as it is written. None written is `PubSelf`.
 #[derive(Clone, PartialEq, Eq, Debug, Drop)]
@@ -21,6 +23,8 @@ pub enum RawVisibility {
 #[derive(Debug, Drop)]
 pub enum ModContents {
     Inline(Seq<ModItemId>),
+    /// The items are those of a file of its own.
+    Outline,
 }
 
 /// What an import takes.
@@ -138,6 +142,26 @@ impl ItemNode {
             } => children.as_slice(),
             ModItemKind::ExternBlock { children } => children.as_slice(),
             _ => &[],
+        }
+    }
+
+    /// The condition that is not met, where the item is not compiled.
+    pub fn disabled_by(&self) -> Option<CfgExpr>
+        ensures { result ≡ disabled_by self.now.attrs }
+    {
+        match &self.attrs {
+            Some(attrs) => attrs.disabled_by(),
+            None => None,
+        }
+    }
+
+    /// The text of the item's `#[path]`, if it has one.
+    pub fn path_attr(&self) -> Option<&str>
+        ensures { option_map (λ t. t.now) result ≡ path_attr self.now.attrs }
+    {
+        match &self.attrs {
+            Some(attrs) => attrs.attrs().by_key(sym::PATH).string_value(),
+            None => None,
         }
     }
 }

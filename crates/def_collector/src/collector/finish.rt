@@ -33,6 +33,7 @@ impl<'a> DefCollector<'a> {
             table,
             local_def_map,
             crate_local: _,
+            mod_dirs: _,
             unresolved_imports,
             indeterminate_imports: _,
             diagnostics,

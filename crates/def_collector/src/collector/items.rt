@@ -1,23 +1,21 @@
 //! What each kind of item does.
 ghost use Rattle.std.specs.Prelude.{◌≡◌, ◌∷◌, ◌++◌, [], length, map, IfOk, OnOk};
 ghost use Rattle.def_ids.specs.Session.{Grows, session_of};
-ghost use Rattle.def_collector.specs.Collector.{Handled, inner_of, pending_of, performed, queued, site_of, state_of, waiting};
+ghost use Rattle.def_collector.specs.Collector.{AreKnown, Handled, inner_of, pending_of, performed, queued, site_of, state_of, waiting};
 ghost use Rattle.def_collector.specs.State.{Put, order};
-ghost use Rattle.def_bindings.specs.declared.bindings.Namespace.TheVariants.{Types};
-ghost use Rattle.def_ids.specs.declared.ids.Def.TheVariants as def_kind;
 ghost use Rattle.def_ids.specs.declared.interner.Interner.{Interner};
-ghost use Rattle.def_map.specs.declared.module_data.ModuleOrigin.TheVariants as origin_kind;
-ghost use Rattle.def_collector.specs.Items.{add_module, ctor_vis, declared_effect, least_in, least_of, next_module, position_of, put_declared, struct_effect, written_vis};
+ghost use Rattle.def_collector.specs.Items.{ctor_vis, declared_effect, least_in, least_of, position_of, put_declared, struct_effect, written_vis};
 
 use super::DefCollector;
 use super::directive::ImportDirective;
-use super::walk::{Opened, Site};
+use super::modules::ModuleItem;
+use super::walk::{Frame, Site};
 use def_bindings::{Entry, Namespace, VisOrder, Visibility, lesser_or_import, put_entry};
 use def_ids::{
     ConstLoc, Def, EnumLoc, ExternBlockLoc, FunctionLoc, ImplLoc, Interner, ItemContainerId,
     Location, ModuleId, StaticLoc, StructLoc, TraitLoc, TypeAliasLoc, UnionLoc, UseId, UseLoc,
 };
-use def_map::{ModuleData, ModuleOrigin, SourceDatabase};
+use def_map::SourceDatabase;
 use item_tree::{
     CtorVisibility, FileAstId, InFile, ItemNode, ModItemKind, Name, RawVisibility, UseImport,
 };
@@ -31,10 +29,10 @@ struct Written<'a> {
     vis: &'a RawVisibility,
 }
 
-impl Site {
+impl Site<'_> {
     /// The position of one of its items.
-    fn position(self, node: &ItemNode) -> InFile<FileAstId>
-        ensures { result ≡ position_of (site_of self) node.now }
+    pub fn position(self, node: &ItemNode) -> InFile<FileAstId>
+        ensures { result ≡ position_of (site_of self.entry) node.now }
     {
         InFile {
             file: self.tree_id.file,
@@ -44,32 +42,36 @@ impl Site {
 }
 
 impl<'a> DefCollector<'a> {
-    /// Handles an item. Answers where the items in it are to be walked next, if it holds some. On
+    /// Handles an item. Answers the list of items that are to be walked next, if it opens one. On
     /// `Err` nothing but safety is promised.
     pub fn collect_item<D: SourceDatabase>(
         &mut self,
-        db: &D,
+        db: &'a D,
         session: &mut Interner,
-        site: Site,
+        site: Site<'_>,
         node: &'a ItemNode,
-    ) -> Result<Option<Opened>, AllocError>
+    ) -> Result<Option<Frame<'a>>, AllocError>
         ensures handled { IfOk result (λ opened.
             Handled (D.oracle db.now) (state_of self.old session.old) (state_of self.new session.new)
-            (site_of site) node.now (inner_of site opened node.now)) }
+            (site_of site.entry) node.now (inner_of opened)) }
+        ensures known { IfOk result (λ opened. AreKnown (D.oracle db.now) opened) }
         ensures session { Grows (session_of session.old) (session_of session.new) }
+        ensures names { session.new.names ≡ session.old.names }
     {
         match &node.kind {
             ModItemKind::Mod {
                 name,
                 visibility,
-                ..
+                contents,
             } => {
                 let vis = self.resolve_visibility(db, session, site.module_id, visibility);
-                let module_id = self.push_child_module(site, node, *name, vis)?;
-                Ok(Some(Opened {
-                    module_id,
-                    container: ItemContainerId::Module(module_id),
-                }))
+                let item = ModuleItem {
+                    site,
+                    node,
+                    name: *name,
+                    vis,
+                };
+                self.collect_module(db, session, item, contents)
             }
             ModItemKind::Use {
                 visibility,
@@ -90,16 +92,21 @@ impl<'a> DefCollector<'a> {
                 queue_imports(waiting, site.module_id, written, imports.as_slice())?;
                 Ok(None)
             }
-            ModItemKind::ExternBlock { .. } => {
+            ModItemKind::ExternBlock { children } => {
                 let id = ExternBlockLoc {
                     container: site.module_id,
                     position: site.position(node),
                 }
                 .intern(session)?;
                 self.def_map.define_extern_block(site.module_id.index, id)?;
-                Ok(Some(Opened {
+                Ok(Some(Frame {
                     module_id: site.module_id,
                     container: ItemContainerId::ExternBlock(id),
+                    tree_id: site.tree_id,
+                    tree: db.item_tree(site.tree_id),
+                    items: children.as_slice(),
+                    next: 0,
+                    dir: site.dir.clone()?,
                 }))
             }
             ModItemKind::Impl { is_trait_impl } => {
@@ -320,7 +327,7 @@ impl<'a> DefCollector<'a> {
     }
 
     /// Puts a declared name. On `Err` nothing but safety is promised.
-    fn put_declared(
+    pub fn put_declared(
         &mut self,
         module_id: ModuleId,
         name: Name,
@@ -380,45 +387,6 @@ impl<'a> DefCollector<'a> {
             self.put_declared(module_id, name, Namespace::Values, def, vis)?;
         }
         Ok(())
-    }
-
-    /// Adds a fresh module as a child, and declares it in types. Answers the module. On `Err`
-    /// nothing but safety is promised.
-    fn push_child_module(
-        &mut self,
-        site: Site,
-        node: &ItemNode,
-        name: Name,
-        vis: Visibility,
-    ) -> Result<ModuleId, AllocError>
-        ensures child { IfOk result (λ child. (session : Interner) → child ≡ next_module (state_of self.old session)) }
-        ensures added { OnOk result ((session : Interner) →
-            let s = state_of self.old session in
-            let origin = origin_kind.Inline node.now.ast_id site.tree_id in
-            state_of self.new session
-            ≡ performed (put_declared site.module_id name Types (def_kind.Module (next_module s)) vis ∷ [])
-            (add_module s site.module_id name vis origin)) }
-    {
-        let origin = ModuleOrigin::Inline {
-            definition: node.ast_id,
-            tree: site.tree_id,
-        };
-        let parent = site.module_id.index;
-        let data = ModuleData::new(self.alloc, Some(name), origin, vis);
-        let child = ModuleId {
-            map: self.def_map.tree.map,
-            index: self.def_map.push_module(parent, data)?,
-        };
-        self.def_map.set_child(parent, name, child.index)?;
-        self.def_map.declare(parent, Def::Module(child))?;
-        self.put_declared(
-            site.module_id,
-            name,
-            Namespace::Types,
-            Def::Module(child),
-            vis,
-        )?;
-        Ok(child)
     }
 }
 

@@ -44,6 +44,22 @@ static BLOCK: [Line; 1] = [Line {
     },
 }];
 
+/// A struct, in a block that cfg disables.
+static DISABLED_BLOCK: [Line; 2] = [
+    Line {
+        depth: 0,
+        item: ItemText::FileDisabled { cfg: 1 },
+    },
+    Line {
+        depth: 0,
+        item: ItemText::Struct {
+            vis: VisText::Public,
+            name: "T",
+            ctor: CtorText::None,
+        },
+    },
+];
+
 const TREE: TreeId = TreeId {
     file: HirFileId::File(FileId(0)),
     block: Some(BlockId(0)),
@@ -58,18 +74,18 @@ const BLOCK_ROOT: ModuleId = ModuleId {
 };
 
 /// Collects the crate, and adds the block's tree.
-fn prepare(workspace: &mut Workspace) -> Result<(), AllocError> {
+fn prepare(workspace: &mut Workspace, block: &'static [Line]) -> Result<(), AllocError> {
     workspace.collect_dependency(&CrateText {
         krate: 0,
         edition: Edition::Edition2021,
         root_file: 0,
         deps: &[],
     })?;
-    add_block(workspace)
+    add_block(workspace, block)
 }
 
-fn add_block(workspace: &mut Workspace) -> Result<(), AllocError> {
-    if let Ok(tree) = tree_of(workspace.alloc, &mut workspace.session, BLOCK.as_slice())? {
+fn add_block(workspace: &mut Workspace, block: &'static [Line]) -> Result<(), AllocError> {
+    if let Ok(tree) = tree_of(workspace.alloc, &mut workspace.session, block)? {
         workspace.db.files.trees.insert(TREE, tree)?;
     }
     Ok(())
@@ -123,7 +139,7 @@ fn meaning_within(
 fn meanings(workspace: &mut Workspace) -> Result<(Option<PerNs>, Option<PerNs>), AllocError> {
     let alloc = workspace.alloc;
     let root = ModuleId::crate_root(Crate(0));
-    prepare(workspace)?;
+    prepare(workspace, BLOCK.as_slice())?;
     let once = meaning_within(workspace, vec![in alloc; root]?)?;
     let twice = meaning_within(workspace, vec![in alloc; root, root]?)?;
     Ok((once, twice))
@@ -151,5 +167,28 @@ fn a_block_sees_the_module_that_it_stands_in(rt: HostRuntime) -> Result<(), Fail
     assert!(rt; found.values == binding);
     assert!(rt; found.macros.is_none());
     assert!(rt; twice.is_none());
+    Ok(())
+}
+
+/// What T means in a block that cfg disables, and how many diagnostics there are.
+fn disabled(workspace: &mut Workspace) -> Result<Option<(bool, usize)>, AllocError> {
+    prepare(workspace, DISABLED_BLOCK.as_slice())?;
+    let name = workspace.session.intern_name("T")?;
+    let containing = vec![in workspace.alloc; ModuleId::crate_root(Crate(0))]?;
+    let Some(info) = block_in(workspace, containing)? else {
+        return Ok(None);
+    };
+    let collected = collect(workspace, info)?;
+    match collected.def_map.scope(0) {
+        Some(scope) => Ok(Some((scope.get(name).types.is_none(), collected.diagnostics.len()))),
+        None => Ok(None),
+    }
+}
+
+#[test]
+fn a_disabled_block_is_empty_and_silent(rt: HostRuntime) -> Result<(), Fail> {
+    let mut workspace = Workspace::new(rt.alloc(), &CRATE)?;
+    let found = disabled(&mut workspace)?;
+    assert!(rt; found == Some((true, 0)));
     Ok(())
 }

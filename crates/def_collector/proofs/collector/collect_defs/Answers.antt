@@ -12,7 +12,7 @@ pub returns-clause-answers : goal.returns-clause-answers
 returns-clause-answers g c =
     if_ok c.finish.result c.finish.ensures (λ collected ends.
     collected_answers (setting_of (g.D.SourceDatabase.oracle c.args.db.now) c.args.def_map c.args.tree_id (option_map (λ l. local_view l.now) c.args.crate_local))
-    (session_of c.args.session.now) (session_of c.collect.new.session) _ _ _ _ _ _
-    c.into_parts-data.ensures.state (c.into_parts-data.ensures.content ∙ c.requires.fresh.bindings) c.new.ensures
-    (no_imports c.new-2.result.items c.new-2.ensures.items) (no_partial c.new-3.result.items c.new-3.ensures.items) c.new-4.ensures.items
+    (session_of c.args.session.now) (session_of c.collect.new.session) _ _ _ _ _ _ _
+    c.into_parts-data.ensures.state (c.into_parts-data.ensures.content ∙ c.requires.fresh.bindings) c.new.ensures c.new-2.ensures
+    (no_imports c.new-3.result.items c.new-3.ensures.items) (no_partial c.new-4.result.items c.new-4.ensures.items) c.new-5.ensures.items
     (state_of c.collect.new.self c.collect.new.session) (shown collected) (whole.content_of c.args.def_map) c.requires.fresh c.in_ok-collect.ensures.run c.in_ok-collect.ensures.settled refl (ends c.collect.new.session))

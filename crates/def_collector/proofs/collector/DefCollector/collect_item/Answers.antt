@@ -1,17 +1,18 @@
 use Rattle.std.proofs.Common.{ap, refl, ◌∙◌}
 use Rattle.std.specs.Prelude.{◌++◌}
 use Rattle.def_ids.specs.Session.{session_of}
-use Rattle.def_collector.specs.Collector.{site_of, state_of}
+use Rattle.def_collector.specs.Collector.{inner_of, site_of, state_of}
 use Rattle.def_collector.specs.State.{State, with_map}
-use Rattle.item_tree.specs.declared.items.ModItemKind.TheVariants.{Const}
-use Rattle.def_collector.proofs.ItemsLemmas.{handled_const, handled_enum, handled_extern_block, handled_function, handled_impl, handled_module, handled_static, handled_struct, handled_trait, handled_type_alias, handled_union, handled_unnamed_const, handled_use, imports_at}
+use Rattle.def_collector.proofs.CollectLemmas.{if_ok}
+use Rattle.def_collector.proofs.ItemsLemmas.{handled_module, handled_struct, handled_use, imports_at, handled_const, handled_enum, handled_extern_block, handled_function, handled_impl, handled_static, handled_trait, handled_type_alias, handled_union, handled_unnamed_const}
 use Rattle.def_collector.proofs.collector.DefCollector.collect_item.Goals as goal
+use Rattle.item_tree.specs.declared.items.ModItemKind.TheVariants.{Const}
 
-pub returns-in_ok-module_id-in-Mod-clause-handled : goal.returns-in_ok-module_id-in-Mod-clause-handled
-returns-in_ok-module_id-in-Mod-clause-handled g c =
+pub returns-in-Mod-clause-handled : goal.returns-in-Mod-clause-handled
+returns-in-Mod-clause-handled g c =
     let before : State = state_of c.args.self.now c.args.session.now in
-    handled_module (g.D.SourceDatabase.oracle c.args.db.now) before _ (site_of c.args.site) c.args.node.now _ _ _ c.in_ok-module_id-in-Mod.module_id c.resolve_visibility-vis.result
-    c.in-Mod.is (c.in_ok-module_id-in-Mod.ensures.child c.args.session.now) c.resolve_visibility-vis.ensures (c.in_ok-module_id-in-Mod.ensures.added c.args.session.now)
+    if_ok c.collect_module.result c.collect_module.ensures.done (λ opened done.
+    handled_module (g.D.SourceDatabase.oracle c.args.db.now) before _ (site_of c.args.site) c.args.node.now _ _ _ c.resolve_visibility-vis.result (inner_of opened) c.in-Mod.is c.resolve_visibility-vis.ensures done)
 
 pub returns-in_ok-queue_imports-in-Use-clause-handled : goal.returns-in_ok-queue_imports-in-Use-clause-handled
 returns-in_ok-queue_imports-in-Use-clause-handled g c =
@@ -92,10 +93,10 @@ returns-in_ok-define_impl-in-Impl-clause-handled g c =
     c.in-Impl.is c.in_ok-id-in-Impl.ensures.shown
     (ap (with_map (record before { session = session_of c.intern-in-Impl.new.session })) c.in_ok-define_impl-in-Impl.ensures)
 
-pub returns-in_ok-define_extern_block-in-ExternBlock-clause-handled : goal.returns-in_ok-define_extern_block-in-ExternBlock-clause-handled
-returns-in_ok-define_extern_block-in-ExternBlock-clause-handled g c =
+pub returns-in_ok-clone-in-ExternBlock-clause-handled : goal.returns-in_ok-clone-in-ExternBlock-clause-handled
+returns-in_ok-clone-in-ExternBlock-clause-handled g c =
     let before : State = state_of c.args.self.now c.args.session.now in
     handled_extern_block (g.D.SourceDatabase.oracle c.args.db.now) before _ (session_of c.intern-in-ExternBlock.new.session) (site_of c.args.site) c.args.node.now c.in_ok-id-in-ExternBlock.id.0 c.position.result
-    c.in_ok-id-in-ExternBlock.ensures.grows c.position.ensures _
-    c.in-ExternBlock.is c.in_ok-id-in-ExternBlock.ensures.shown
+    c.in_ok-id-in-ExternBlock.ensures.grows c.position.ensures _ c.as_slice-in-ExternBlock.result.now c.in_ok-clone-in-ExternBlock.field-0
+    c.in-ExternBlock.is c.as_slice-in-ExternBlock.ensures c.in_ok-clone-in-ExternBlock.ensures c.in_ok-id-in-ExternBlock.ensures.shown
     (ap (with_map (record before { session = session_of c.intern-in-ExternBlock.new.session })) c.in_ok-define_extern_block-in-ExternBlock.ensures)

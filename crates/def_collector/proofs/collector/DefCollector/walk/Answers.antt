@@ -1,11 +1,12 @@
-use Rattle.std.proofs.Common.{ap, subst, sym, ◌∙◌, ◌++◌, ◌∷◌, []}
+use Rattle.std.proofs.Common.{ap, refl, subst, sym, ◌∙◌, ◌++◌, ◌∷◌, []}
 use Rattle.def_ids.specs.Session.{session_of}
 use Rattle.def_ids.specs.SessionLaws.{grows_refl, grows_trans}
-use Rattle.def_collector.specs.Collector.{agenda_of, is_known, state_of}
+use Rattle.def_collector.specs.Collector.{agenda_of, frame_site, is_known, left_of, state_of}
+use Rattle.def_collector.specs.Items.{walk}
 use Rattle.def_collector.specs.Steps.{Leads}
-use Rattle.def_collector.proofs.StepsLemmas.{leads_refl, leads_trans}
-use Rattle.def_collector.proofs.VisitLemmas.{all_none, all_pushed}
-use Rattle.def_collector.proofs.WalkLemmas.{agenda_of-none, empty_list}
+use Rattle.def_collector.proofs.StepsLemmas.{leads_trans}
+use Rattle.def_collector.proofs.VisitLemmas.{all_none, all_pushed, empty_list, fewer_still, walk_begins}
+use Rattle.def_collector.proofs.WalkLemmas.{agenda_of-none}
 use Rattle.def_collector.proofs.collector.DefCollector.walk.Goals as goal
 
 pub frames-init : goal.frames-init
@@ -13,10 +14,10 @@ frames-init g c =
     let oracle = g.D.SourceDatabase.oracle c.args.db.now in
     let one = c.in_ok-push.ensures.items ∙ ap (λ fs. fs ++ c.args.first ∷ []) c.new-frames.ensures.items in
     record {
-      run = subst (λ fs. Leads oracle (agenda_of (c.args.first ∷ [])) (state_of c.args.self.now c.args.session.now) (agenda_of fs) (state_of c.args.self.now c.args.session.now)) (sym one)
-          (leads_refl (agenda_of (c.args.first ∷ [])) (state_of c.args.self.now c.args.session.now));
+      run = walk_begins oracle c.args.first c.push.new.self.items (state_of c.args.self.now c.args.session.now) (state_of c.enter.new.self c.args.session.now) one (c.in_ok-enter.ensures c.args.session.now);
       known = all_pushed (is_known oracle) [] c.push.new.self.items c.args.first one (all_none (is_known oracle)) c.requires;
       grows = grows_refl (session_of c.args.session.now);
+      names = refl;
     }
 
 pub frames-preserved : goal.frames-preserved
@@ -27,10 +28,15 @@ frames-preserved g c =
           (subst (λ fs. Leads oracle (agenda_of fs) (state_of c.frames.self c.frames.session) (agenda_of c.visit_next.new.frames.items) (state_of c.visit_next.new.self c.visit_next.new.session)) (sym c.in-Some.ensures.items) c.in_ok-visit_next.ensures.run);
       known = c.in_ok-visit_next.ensures.known;
       grows = grows_trans (session_of c.args.session.now) (session_of c.frames.session) (session_of c.visit_next.new.session) c.frames.invariant.grows c.visit_next.ensures.session;
+      names = c.visit_next.ensures.names ∙ c.frames.invariant.names;
     }
+
+pub frames-smaller : goal.frames-smaller
+frames-smaller g c =
+    fewer_still (g.D.SourceDatabase.oracle c.args.db.now) c.args.session.now c.frames.session _ _ _ c.in-Some.ensures.items c.frames.invariant.names c.in_ok-visit_next.ensures.fewer
 
 pub returns-clause-run : goal.returns-clause-run
 returns-clause-run g c =
     let oracle = g.D.SourceDatabase.oracle c.args.db.now in
-    subst (λ tasks. Leads oracle (agenda_of (c.args.first ∷ [])) (state_of c.args.self.now c.args.session.now) tasks (state_of c.frames.self c.frames.session))
+    subst (λ tasks. Leads oracle (walk (frame_site c.args.first) (left_of c.args.first)) (state_of c.args.self.now c.args.session.now) tasks (state_of c.frames.self c.frames.session))
     (ap (λ fs. agenda_of fs) (empty_list c.frames.frames.items (sym c.frames.frames.ok.0 ∙ c.in_default.ensures.cases.0)) ∙ agenda_of-none) c.frames.invariant.run

@@ -1,6 +1,7 @@
-use Rattle.std.proofs.Common.{◌∷◌, [], All}
+use Rattle.std.proofs.Common.{◌≡◌, All}
 use Rattle.def_ids.specs.Session.{Grows, session_of}
-use Rattle.def_collector.specs.Collector.{agenda_of, is_known, state_of, walk_measure}
+use Rattle.def_collector.specs.Collector.{agenda_of, frame_site, is_known, left_of, state_of, walk_measure}
+use Rattle.def_collector.specs.Items.{name_text, walk}
 use Rattle.def_collector.specs.Steps.{Leads}
 use Rattle.def_collector.proofs.collector.DefCollector.walk.Given as goal
 
@@ -8,10 +9,11 @@ abbrev pub invariant-frames : goal.invariant-frames
 invariant-frames g l =
     let oracle = g.D.SourceDatabase.oracle l.db in
     record {
-      run : Leads oracle (agenda_of (l.fn.first ∷ [])) (state_of l.initial.self l.initial.session) (agenda_of l.frames.items) (state_of l.self l.session);
+      run : Leads oracle (walk (frame_site l.fn.first) (left_of l.fn.first)) (state_of l.fn.self l.fn.session) (agenda_of l.frames.items) (state_of l.self l.session);
       known : All (is_known oracle) l.frames.items;
-      grows : Grows (session_of l.initial.session) (session_of l.session);
+      grows : Grows (session_of l.fn.session) (session_of l.session);
+      names : l.session.names ≡ l.fn.session.names;
     }
 
 abbrev pub decreases-frames : goal.decreases-frames
-decreases-frames g l = walk_measure l.frames.items
+decreases-frames g l = walk_measure (g.D.SourceDatabase.oracle l.db) (name_text (session_of l.fn.session)) l.frames.items
