@@ -14,6 +14,7 @@ use Rattle.def_collector.specs.declared.collector.directive.ImportDirective.{Imp
 use Rattle.def_collector.specs.declared.collector.directive.PartialDirective.{PartialDirective}
 use Rattle.def_collector.specs.declared.diagnostics.DefDiagnostic.{DefDiagnostic}
 use Rattle.def_collector.specs.Collector.{IsFinished, partial_of, pending_of, waiting}
+use Rattle.def_collector.specs.Globs.{Targets}
 use Rattle.def_collector.specs.Headline.{Answers}
 use Rattle.def_collector.specs.Imports.{NoneReady}
 use Rattle.def_collector.specs.Report.{Answer, NoneFailed}
@@ -46,14 +47,14 @@ no_imports entries none = ap (λ es. map pending_of (waiting es)) none ∙ ap (m
 pub no_partial : (entries : List (Option PartialDirective)) → entries ≡ [] → map partial_of (waiting entries) ≡ []
 no_partial entries none = ap (λ es. map partial_of (waiting es)) none ∙ ap (map partial_of) (waiting-nil PartialDirective)
 
-module _ (w : Setting) (before after : Session) (m : MapState) (content : Content Visibility) (local : LocalView) (imports : List PendingImport) (partial : List PartialImport) (diagnostics : List DefDiagnostic) where
+module _ (w : Setting) (before after : Session) (m : MapState) (content : Content Visibility) (targets : Targets) (local : LocalView) (imports : List PendingImport) (partial : List PartialImport) (diagnostics : List DefDiagnostic) where
   -- the state that the code begins with
   abbrev pub begun : State
-  begun = record { session = before; map = m; content = content; local = local; outer = w.crate_local; imports = imports; partial = partial; diagnostics = diagnostics }
+  begun = record { session = before; map = m; content = content; targets = targets; local = local; outer = w.crate_local; imports = imports; partial = partial; diagnostics = diagnostics }
 
-  module _ (same : m ≡ w.seeded) (bound : content ≡ empty) (known : local ≡ empty_local) (unresolved : imports ≡ []) (indeterminate : partial ≡ []) (said : diagnostics ≡ []) where
+  module _ (same : m ≡ w.seeded) (bound : content ≡ empty) (none : targets ≡ (λ glob. None)) (known : local ≡ empty_local) (unresolved : imports ≡ []) (indeterminate : partial ≡ []) (said : diagnostics ≡ []) where
     begins : begun ≡ seeded_state w before
-    begins = λ i. record { session = before; map = same i; content = bound i; local = known i; outer = w.crate_local; imports = unresolved i; partial = indeterminate i; diagnostics = said i }
+    begins = λ i. record { session = before; map = same i; content = bound i; targets = none i; local = known i; outer = w.crate_local; imports = unresolved i; partial = indeterminate i; diagnostics = said i }
 
     -- what was collected and finished answers
     pub collected_answers : (t : State) (answer : Answer) (given : Content Visibility) → IsFresh w.seeded given → Leads w.oracle (first_tasks w.oracle m w.tree) begun [] t → NoneReady w.oracle t → t.session ≡ after → IsFinished t answer

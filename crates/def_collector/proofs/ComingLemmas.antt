@@ -6,6 +6,7 @@ use Rattle.item_tree.specs.declared.ids.ModItemId.{ModItemId}
 use Rattle.item_tree.specs.declared.name.Name.{Name}
 use Rattle.def_ids.specs.declared.ids.GlobId.{GlobId}
 use Rattle.def_ids.specs.declared.ids.ModuleId.{ModuleId}
+use Rattle.def_bindings.specs.declared.bindings.EdgeTo.{EdgeTo}
 use Rattle.def_bindings.specs.declared.bindings.Entry.{Entry}
 use Rattle.def_bindings.specs.declared.bindings.Namespace.{Namespace}
 use Rattle.def_bindings.specs.declared.bindings.Namespace.TheVariants.{Types, Values, Macros}
@@ -17,7 +18,7 @@ use Rattle.def_bindings.specs.Order.{Order}
 use Rattle.def_bindings.specs.Puts.{offered, put_entry}
 use Rattle.def_bindings.specs.PutsLaws.{bound_stays-put_entry, bound_after-put_name}
 use Rattle.def_collector.specs.Imports.{bound_name, is_full, keeps_ns}
-use Rattle.def_collector.specs.State.{Event, PutExplicit, Recorded, NsSet, PendingImport, PartialImport, Site, Task, Visit, Put}
+use Rattle.def_collector.specs.State.{Event, PutExplicit, Recorded, NsSet, PendingImport, PartialImport, Site, Task, Visit, Put, AddEdge}
 use Rattle.def_collector.specs.Steps.{event_of}
 use Rattle.def_collector.proofs.ListLemmas.{contains_cases}
 
@@ -101,6 +102,14 @@ visit_ahead site id rest more at entry h =
     elim (contains_cases (Visit site id) (Put at entry) rest h) [
       | inl same ↦ absurd (cc same)
       | inr later ↦ Contains-append_right more rest (Put at entry) later
+    ]
+
+-- an added edge leaves what is ahead
+pub edge_ahead : (source : ModuleId) (edge : EdgeTo Visibility) (rest : List Task) (at : ModuleId) (entry : Entry Visibility) → Contains (AddEdge source edge ∷ rest) (Put at entry) → Contains rest (Put at entry)
+edge_ahead source edge rest at entry h =
+    elim (contains_cases (AddEdge source edge) (Put at entry) rest h) [
+      | inl same ↦ absurd (cc same)
+      | inr later ↦ later
     ]
 
 -- what is put is bound

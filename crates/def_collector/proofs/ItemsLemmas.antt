@@ -17,6 +17,7 @@ use Rattle.def_ids.specs.declared.ids.Def.TheVariants as def
 use Rattle.def_ids.specs.declared.ids.ModuleId.{ModuleId}
 use Rattle.def_ids.specs.Session.{Session, Grows, StructItem, UseItem, in_module}
 use Rattle.def_ids.specs.SessionLaws.{grows_refl}
+use Rattle.def_bindings.specs.declared.bindings.Entry.{Entry}
 use Rattle.def_bindings.specs.declared.bindings.Namespace.TheVariants.{Types, Values}
 use Rattle.def_bindings.specs.declared.visibility.Visibility.{Visibility}
 use Rattle.def_bindings.specs.Puts.{lessened}
@@ -28,35 +29,42 @@ use Rattle.def_map.specs.Oracle.{Oracle}
 use Rattle.def_map.specs.Scopes.{declared_in, empty_module, with_child}
 use Rattle.def_collector.specs.declared.collector.directive.ImportDirective.{ImportDirective}
 use Rattle.def_collector.specs.declared.collector.items.Written.{Written}
-use Rattle.def_collector.specs.Collector.{ArePuts, Handled, pending_of, performed, queued}
-use Rattle.def_collector.specs.Items.{add_module, ctor_task, ctor_vis, declare, Handles, loc_of, module_item, next_module, pending_imports, position_of, put_declared, struct_effect, walk, written_vis}
+use Rattle.def_collector.specs.Collector.{Handled, Performs, Updated, pending_of, queued}
+use Rattle.def_collector.specs.Items.{add_module, ctor_vis, declare, declared_entry, Handles, loc_of, module_item, next_module, pending_imports, position_of, put_declared, struct_effect, walk, written_vis}
 use Rattle.def_collector.specs.State.{State, Effect, PendingImport, Site, only, with_map, order}
+use Rattle.def_collector.specs.Steps.{Leads}
+use Rattle.def_collector.proofs.StepsLemmas.{leads_refl, performs_updated}
 
--- a struct without a constructor
-pub struct_put : (s s1 s2 : State) (at : ModuleId) (name : Name) (d : Def) (vis : Visibility) → s1 ≡ declare s at d → s2 ≡ performed (put_declared at name Types d vis ∷ []) s1
-    → s2 ≡ performed (struct_effect s at name d vis None).tasks (struct_effect s at name d vis None).state
-struct_put s s1 s2 at name d vis declared put = put ∙ ap (performed (put_declared at name Types d vis ∷ [])) declared
+module _ (oracle : Oracle) (s s1 t : State) (at : ModuleId) (name : Name) (d : Def) (vis : Visibility) (given : Option Visibility) where
+  -- the entries of a struct were put
+  abbrev StructPut : Option Visibility → Type 0
+  StructPut ctor = Performs oracle (struct_effect s at name d vis ctor).tasks (struct_effect s at name d vis ctor).state t
 
--- a struct with a constructor
-pub struct_put_both : (s s1 s2 s3 : State) (at : ModuleId) (name : Name) (d : Def) (vis ctor : Visibility) (given : Option Visibility) (v : Visibility) → given ≡ Some ctor
-    → s1 ≡ declare s at d → s2 ≡ performed (put_declared at name Types d vis ∷ []) s1
-    → v ≡ lessened (order s2) ctor vis → s3 ≡ performed (put_declared at name Values d v ∷ []) s2
-    → s3 ≡ performed (struct_effect s at name d vis given).tasks (struct_effect s at name d vis given).state
-struct_put_both s s1 s2 s3 at name d vis ctor given v has declared first lesser second =
-    let e : s2 ≡ performed (put_declared at name Types d vis ∷ []) (declare s at d) = first ∙ ap (performed (put_declared at name Types d vis ∷ [])) declared in
-    let same : v ≡ lessened (order s) ctor vis = lesser ∙ ap (λ x. lessened (order x) ctor vis) e in
-    second
-    ∙ ap (λ x. performed (put_declared at name Values d x ∷ []) s2) same
-    ∙ ap (λ x. performed (put_declared at name Values d (lessened (order s) ctor vis) ∷ []) x) e
-    ∙ ap (λ x. performed (struct_effect s at name d vis x).tasks (struct_effect s at name d vis x).state) (sym has)
+  -- a struct without a constructor
+  pub struct_put : (types : Entry Visibility) → given ≡ None → s1 ≡ declare s at d → types ≡ declared_entry name Types d vis → Updated at (types ∷ []) s1 t → StructPut given
+  struct_put types none declared first put =
+      subst StructPut (sym none)
+      (performs_updated at (declared_entry name Types d vis ∷ []) (declare s at d) t (subst (λ u. Updated at (declared_entry name Types d vis ∷ []) u t) declared (subst (λ e. Updated at (e ∷ []) s1 t) first put)))
+
+  -- a struct with a constructor
+  pub struct_put_both : (ctor v : Visibility) (types values : Entry Visibility) → given ≡ Some ctor → s1 ≡ declare s at d → v ≡ lessened (order s1) ctor vis
+      → types ≡ declared_entry name Types d vis → values ≡ declared_entry name Values d v → Updated at (types ∷ values ∷ []) s1 t → StructPut given
+  struct_put_both ctor v types values has declared lesser first second put =
+      let same : v ≡ lessened (order s) ctor vis = lesser ∙ ap (λ u. lessened (order u) ctor vis) declared in
+      let both : Updated at (declared_entry name Types d vis ∷ declared_entry name Values d v ∷ []) s1 t =
+      subst (λ e. Updated at (declared_entry name Types d vis ∷ e ∷ []) s1 t) second (subst (λ e. Updated at (e ∷ values ∷ []) s1 t) first put) in
+      subst StructPut (sym has)
+      (performs_updated at (declared_entry name Types d vis ∷ declared_entry name Values d (lessened (order s) ctor vis) ∷ []) (declare s at d) t
+      (subst (λ x. Updated at (declared_entry name Types d vis ∷ declared_entry name Values d x ∷ []) (declare s at d) t) same
+      (subst (λ u. Updated at (declared_entry name Types d vis ∷ declared_entry name Values d v ∷ []) u t) declared both)))
 
 -- a module as a child
 pub module_put : (s t u : State) (at : ModuleId) (name : Name) (vis : Visibility) (o : ModuleOrigin) (m : ModuleState) (index : ℕ) (pushed_map led declared : MapState)
     → m ≡ empty_module (Some name) o vis → index ≡ length s.map.modules → pushed_map ≡ pushed s.map at.index m → led ≡ with_module pushed_map at.index (with_child name index)
     → declared ≡ with_module led at.index (declared_in (Module (record { map = s.map.id; index = index })))
     → t ≡ with_map s declared
-    → u ≡ performed (put_declared at name Types (Module (record { map = s.map.id; index = index })) vis ∷ []) t
-    → u ≡ performed (put_declared at name Types (Module (next_module s)) vis ∷ []) (add_module s at name vis o)
+    → Updated at (declared_entry name Types (Module (record { map = s.map.id; index = index })) vis ∷ []) t u
+    → Updated at (declared_entry name Types (Module (next_module s)) vis ∷ []) (add_module s at name vis o) u
 module_put s t u at name vis o m index pushed_map led declared fresh numbered added child recorded became put =
     let a : pushed_map ≡ pushed s.map at.index (empty_module (Some name) o vis) = added ∙ ap (pushed s.map at.index) fresh in
     let b : led ≡ with_module (pushed s.map at.index (empty_module (Some name) o vis)) at.index (with_child name (length s.map.modules)) =
@@ -65,28 +73,22 @@ module_put s t u at name vis o m index pushed_map led declared fresh numbered ad
     recorded ∙ ap (λ x. with_module x at.index (declared_in (Module (record { map = s.map.id; index = index })))) b
     ∙ ap (λ i. with_module (with_module (pushed s.map at.index (empty_module (Some name) o vis)) at.index (with_child name (length s.map.modules))) at.index (declared_in (Module (record { map = s.map.id; index = i })))) numbered in
     let d : t ≡ add_module s at name vis o = became ∙ ap (with_map s) c in
-    put
-    ∙ ap (λ i. performed (put_declared at name Types (Module (record { map = s.map.id; index = i })) vis ∷ []) t) numbered
-    ∙ ap (performed (put_declared at name Types (Module (next_module s)) vis ∷ [])) d
+    subst (λ i. Updated at (declared_entry name Types (Module (record { map = s.map.id; index = i })) vis ∷ []) (add_module s at name vis o) u) numbered
+    (subst (λ x. Updated at (declared_entry name Types (Module (record { map = s.map.id; index = index })) vis ∷ []) x u) d put)
 
 -- What handling an item leads to
-
-are_puts-ctor : (s : State) (at : ModuleId) (name : Name) (d : Def) (vis : Visibility) (ctor : Option Visibility) → ArePuts (ctor_task s at name d vis ctor)
-are_puts-ctor s at name d vis None = tt
-are_puts-ctor s at name d vis (Some ctor) = tt
 
 -- a module was handled
 pub handled_module : (oracle : Oracle) (s t : State) (site : Site) (item : ItemNode) (name : Name) (raw : RawVisibility) (contents : ModContents) (child : ModuleId) (vis : Visibility)
     → item.kind ≡ Mod name raw contents → child ≡ next_module s → vis ≡ written_vis oracle s site.scope raw
-    → t ≡ performed (put_declared site.scope name Types (Module (next_module s)) vis ∷ []) (add_module s site.scope name vis (Inline item.ast_id site.tree))
+    → Updated site.scope (declared_entry name Types (Module (next_module s)) vis ∷ []) (add_module s site.scope name vis (Inline item.ast_id site.tree)) t
     → Handled oracle s t site item (walk (record { scope = child; tree = site.tree }) (children_of item))
 handled_module oracle s t site item name raw contents child vis kind numbered seen after = record {
   effect = module_item s site item name vis;
   puts = put_declared site.scope name Types (Module (next_module s)) vis ∷ [];
   handled = (s.session, grows_refl s.session, subst (λ k. Handles oracle s site item k (module_item s site item name vis)) (sym kind) (ap (module_item s site item name) seen));
   tasks = ap (λ m. put_declared site.scope name Types (Module (next_module s)) vis ∷ walk (record { scope = m; tree = site.tree }) (children_of item)) (sym numbered);
-  are_puts = tt;
-  after = after;
+  performs = performs_updated site.scope (declared_entry name Types (Module (next_module s)) vis ∷ []) (add_module s site.scope name vis (Inline item.ast_id site.tree)) t after;
 }
 
 -- the imports of a `use` item as the collector makes them
@@ -106,15 +108,16 @@ handled_use oracle s t session site item raw imports n position kind grows place
       puts = [];
       handled = (session, grows, subst (λ k. Handles oracle (record s { session = session }) site item k effect) (sym kind) (n, number, refl));
       tasks = refl;
-      are_puts = tt;
-      after = after ∙ ap (λ p. record s { session = session; imports = s.imports ++ imports_at site.scope p n raw imports }) placed;
+      performs = λ rest.
+          subst (λ u. Leads oracle rest effect.state rest u) (sym (after ∙ ap (λ p. record s { session = session; imports = s.imports ++ imports_at site.scope p n raw imports }) placed))
+          (leads_refl rest effect.state);
     }
 
 -- a struct was handled
 pub handled_struct : (oracle : Oracle) (s t : State) (session : Session) (site : Site) (item : ItemNode) (name : Name) (raw : RawVisibility) (written : CtorVisibility) (n : ℕ) (position : InFile FileAstId) (vis : Visibility) (ctor : Option Visibility)
     → item.kind ≡ Struct name raw written → Grows s.session session → position ≡ position_of site item → session.item StructItem n ≡ Some (in_module site.scope position)
     → vis ≡ written_vis oracle (record s { session = session }) site.scope raw → ctor ≡ ctor_vis oracle (record s { session = session }) site.scope written
-    → t ≡ performed (struct_effect (record s { session = session }) site.scope name (def.Struct (record { 0 = n })) vis ctor).tasks (struct_effect (record s { session = session }) site.scope name (def.Struct (record { 0 = n })) vis ctor).state
+    → (let effect = struct_effect (record s { session = session }) site.scope name (def.Struct (record { 0 = n })) vis ctor in Performs oracle effect.tasks effect.state t)
     → Handled oracle s t site item []
 handled_struct oracle s t session site item name raw written n position vis ctor kind grows placed numbered seen built after =
     let effect : Effect = struct_effect (record s { session = session }) site.scope name (def.Struct (record { 0 = n })) vis ctor in
@@ -127,8 +130,7 @@ handled_struct oracle s t session site item name raw written n position vis ctor
       puts = effect.tasks;
       handled = (session, grows, subst (λ k. Handles oracle (record s { session = session }) site item k effect) (sym kind) (n, number, is));
       tasks = sym (append-nil effect.tasks);
-      are_puts = are_puts-ctor (record s { session = session }) site.scope name (def.Struct (record { 0 = n })) vis ctor;
-      after = after;
+      performs = after;
     }
 
 -- one more import of a `use` item waits

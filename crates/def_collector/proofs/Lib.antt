@@ -17,3 +17,4 @@ pub mod RecordedLemmas
 pub mod EveryNamespaceLemmas
 pub mod HeadlineLemmas
 pub mod CollectLemmas
+pub mod GlobsLemmas

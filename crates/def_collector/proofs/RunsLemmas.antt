@@ -18,7 +18,7 @@ use Rattle.def_map.specs.Updates.{update_at}
 use Rattle.def_collector.specs.Imports.{ImportStep, of_pending, of_partial}
 use Rattle.def_collector.specs.Items.{add_module, node_at, Handles, VisitsAt, Visits}
 use Rattle.def_collector.specs.Report.{NoneFailed}
-use Rattle.def_collector.specs.State.{State, Effect, Moment, Site, Task, Visit, Put}
+use Rattle.def_collector.specs.State.{State, Effect, Moment, Site, Task, Visit, Put, AddEdge}
 use Rattle.def_collector.specs.Steps.{Does, Reaches, Step, here, one, join, performs, copies, rearranges, records}
 
 module _ {oracle : Oracle} where
@@ -97,6 +97,7 @@ import_map oracle s effect (of_partial partial rest recorded waits ready recordi
 does_none_failed : (oracle : Oracle) (s : State) (task : Task) (effect : Effect) → Does oracle s task effect → NoneFailed s.map → NoneFailed effect.state.map
 does_none_failed oracle s (Visit site id) effect does none = (visits_leaves oracle s site id effect does).none_failed none
 does_none_failed oracle s (Put at entry) effect does none = subst (λ (e : Effect). NoneFailed e.state.map) (sym does) none
+does_none_failed oracle s (AddEdge source edge) effect does none = subst (λ (e : Effect). NoneFailed e.state.map) (sym does) none
 
 step_none_failed : {oracle : Oracle} (a b : Moment) → Step oracle a b → NoneFailed a.state.map → NoneFailed b.state.map
 step_none_failed {oracle} a b (performs task rest effect first does is) none = subst (λ (m : Moment). NoneFailed m.state.map) (sym is) (does_none_failed oracle a.state task effect does none)

@@ -1,5 +1,6 @@
 -- What the collector's parts stand for.
 use Rattle.std.specs.Prelude.{◌≡◌, ◌<◌, ℕ, suc, ◌+◌, ◌-◌, ◌*◌, ◌^◌, Bool, true, false, cond, not, List, [], ◌∷◌, ◌++◌, length, map, filter_map, drop, sum_by, Option, Some, None, option_map, unwrap_or, slice_get, Contains}
+use Rattle.indexmap.specs.IndexMap.{get}
 use Rattle.item_tree.specs.declared.ids.ModItemId.{ModItemId}
 use Rattle.item_tree.specs.declared.ids.TreeId.{TreeId}
 use Rattle.item_tree.specs.declared.items.ItemNode.{ItemNode}
@@ -8,7 +9,11 @@ use Rattle.item_tree.specs.declared.name.Name.{Name}
 use Rattle.item_tree.specs.declared.tree.ItemTree.{ItemTree}
 use Rattle.item_tree.specs.Trees.{children_of}
 use Rattle.def_ids.specs.declared.ids.ModuleId.{ModuleId}
+use Rattle.def_bindings.specs.declared.bindings.EdgeTo.{EdgeTo}
+use Rattle.def_bindings.specs.declared.bindings.Entry.{Entry}
+use Rattle.def_bindings.specs.declared.visibility.Visibility.{Visibility}
 use Rattle.def_ids.specs.declared.interner.Interner.{Interner}
+use Rattle.def_ids.specs.Equality.{glob_eq}
 use Rattle.def_ids.specs.Session.{session_of}
 use Rattle.def_map.specs.declared.local_def_map.LocalDefMap.{LocalDefMap}
 use Rattle.def_map.specs.declared.def_map.DefMap.{DefMap}
@@ -28,11 +33,13 @@ use Rattle.def_collector.specs.declared.collector.items.Written.{Written}
 use Rattle.def_collector.specs.declared.collector.walk.Frame.{Frame}
 use Rattle.def_collector.specs.declared.collector.walk.Site.{Site as SiteInCode}
 use Rattle.def_collector.specs.declared.outcome.Collected.{Collected}
+use Rattle.def_collector.specs.declared.outcome.Edge.{Edge}
 use Rattle.def_collector.specs.Imports.{answer_now, bound_name, is_ready, is_ready_again}
+use Rattle.def_collector.specs.Globs.{Travels}
 use Rattle.def_collector.specs.Items.{HandlesInSession, walk}
-use Rattle.def_collector.specs.Report.{Answer, IsOutcome, NoneFailed, marked, report}
-use Rattle.def_collector.specs.State.{Setting, State, NsSet, PendingImport, PartialImport, Site, Task, Visit, Put, Effect}
-use Rattle.def_collector.specs.Steps.{Leads, put_effect}
+use Rattle.def_collector.specs.Report.{Answer, IsOutcome, NoneFailed, listed_edge, marked, report}
+use Rattle.def_collector.specs.State.{Setting, State, NsSet, PendingImport, PartialImport, Site, Task, Effect, order, with_content}
+use Rattle.def_collector.specs.Steps.{Leads}
 
 -- what a run is given
 abbrev pub setting_of : Oracle → DefMap → TreeId → Option LocalView → Setting
@@ -76,6 +83,7 @@ state_of c session =
       session = session_of session;
       map = map_state c.def_map;
       content = bound_by c.table;
+      targets = get glob_eq c.targets;
       local = local_view c.local_def_map;
       outer = option_map (λ l. local_view l.now) c.crate_local;
       imports = map pending_of (waiting c.unresolved_imports.items);
@@ -87,19 +95,14 @@ state_of c session =
 abbrev pub site_of : SiteInCode → Site
 site_of site = record { scope = site.module_id; tree = site.tree_id }
 
--- Tasks that only put
+-- these tasks are performed, whatever is to be done behind them
+abbrev pub Performs : Oracle → List Task → State → State → Type 0
+Performs oracle tasks s t = (rest : List Task) → Leads oracle (tasks ++ rest) s rest t
 
--- each of these tasks is a put
-abbrev pub ArePuts : List Task → Type 0
-ArePuts [] = Unit {0}
-ArePuts (Put at entry ∷ tasks) = ArePuts tasks
-ArePuts (Visit site id ∷ tasks) = ⊥
-
--- the state once the puts among these tasks are performed
-abbrev pub performed : List Task → State → State
-performed [] s = s
-performed (Put at entry ∷ tasks) s = performed tasks (put_effect s at entry).state
-performed (Visit site id ∷ tasks) s = performed tasks s
+-- a list was put in a module, what changed has travelled along the edges, and nothing else changed
+pub record Updated (at : ModuleId) (list : List (Entry Visibility)) (s t : State) : Type 0 where
+  pub travels : Travels (order s) at list s.content t.content
+  pub rest : t ≡ with_content s t.content
 
 -- an item was handled, and what it puts was put: its own items are left
 pub record Handled (oracle : Oracle) (s t : State) (site : Site) (item : ItemNode) (inner : List Task) : Type 0 where
@@ -107,8 +110,7 @@ pub record Handled (oracle : Oracle) (s t : State) (site : Site) (item : ItemNod
   pub puts : List Task
   pub handled : HandlesInSession oracle s site item effect
   pub tasks : effect.tasks ≡ puts ++ inner
-  pub are_puts : ArePuts puts
-  pub after : t ≡ performed puts effect.state
+  pub performs : Performs oracle puts effect.state t
 
 -- the items of the module that an item opened
 abbrev pub inner_of : SiteInCode → Option ModuleId → ItemNode → List Task
@@ -180,6 +182,10 @@ IsUnreadyAgain oracle s entries index =
     (d : PartialDirective) → slice_get entries index ≡ Some (Some d) → is_ready_again (ns_set d.recorded) (answer_now oracle s (pending_of d.directive)) ≡ false
 
 -- The end
+
+-- an edge of a table with its source, as it is answered
+abbrev pub shown_edge : ModuleId × EdgeTo Visibility → Edge
+shown_edge e = listed_edge e.0 e.1
 
 -- the import that an entry holds, if it is still there
 abbrev pub left_in : Option ImportDirective → List PendingImport

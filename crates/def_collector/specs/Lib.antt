@@ -1,3 +1,4 @@
+pub mod Globs
 pub mod State
 pub mod Imports
 pub mod Items

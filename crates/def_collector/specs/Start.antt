@@ -19,6 +19,7 @@ seeded_state w session =
       session = session;
       map = w.seeded;
       content = empty;
+      targets = λ glob. None;
       local = empty_local;
       outer = w.crate_local;
       imports = [];

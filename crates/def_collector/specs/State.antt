@@ -1,5 +1,5 @@
 -- The state of a run, and what a run is given.
-use Rattle.std.specs.Prelude.{◌≡◌, Bool, List, [], ◌∷◌, ◌++◌, Option, unwrap_or, IsPermutation}
+use Rattle.std.specs.Prelude.{◌≡◌, Bool, List, [], ◌∷◌, ◌++◌, map, Option, unwrap_or, IsPermutation}
 use Rattle.item_tree.specs.declared.ids.FileAstId.{FileAstId}
 use Rattle.item_tree.specs.declared.ids.InFile.{InFile}
 use Rattle.item_tree.specs.declared.ids.ModItemId.{ModItemId}
@@ -11,6 +11,7 @@ use Rattle.def_ids.specs.declared.ids.ModuleId.{ModuleId}
 use Rattle.def_ids.specs.declared.ids.UseId.{UseId}
 use Rattle.def_ids.specs.Session.{Session}
 use Rattle.def_bindings.specs.declared.bindings.Binding.{Binding}
+use Rattle.def_bindings.specs.declared.bindings.EdgeTo.{EdgeTo}
 use Rattle.def_bindings.specs.declared.bindings.Entry.{Entry}
 use Rattle.def_bindings.specs.declared.bindings.Namespace.{Namespace}
 use Rattle.def_bindings.specs.declared.visibility.Visibility.{Visibility}
@@ -23,6 +24,7 @@ use Rattle.def_map.specs.Maps.{facts_in}
 use Rattle.def_map.specs.Oracle.{Oracle}
 use Rattle.def_map.specs.Sources.{World}
 use Rattle.def_collector.specs.declared.diagnostics.DefDiagnostic.{DefDiagnostic}
+use Rattle.def_collector.specs.Globs.{Targets}
 
 -- what a run is given: the oracle, the seeded map, the tree, and for a block the names of crates that its crate knows
 pub record Setting : Type 0 where
@@ -55,6 +57,8 @@ pub record State : Type 0 where
   pub session : Session
   pub map : MapState
   pub content : Content Visibility
+  -- what each glob was recorded with
+  pub targets : Targets
   -- the names of crates that the map's own paths may begin with
   pub local : LocalView
   -- for a block, those that its crate knows, which stand in their place
@@ -74,6 +78,12 @@ pub data Task : Type 0 where
   Visit : Site → ModItemId → Task
   -- an entry is put into a module
   Put : ModuleId → Entry Visibility → Task
+  -- an edge is added to a module
+  AddEdge : ModuleId → EdgeTo Visibility → Task
+
+-- each entry of a list is put into a module
+abbrev pub put_each : ModuleId → List (Entry Visibility) → List Task
+put_each at list = map (λ entry. Put at entry) list
 
 -- what happened in a run
 pub data Event : Type 0 where

@@ -10,7 +10,8 @@ use Rattle.def_bindings.specs.declared.visibility.Visibility.{Visibility}
 use Rattle.def_bindings.specs.Content.{Content}
 use Rattle.def_bindings.specs.Puts.{copied, glob_of, offered, put_entry}
 use Rattle.def_map.specs.Oracle.{Oracle}
-use Rattle.def_collector.specs.State.{State, Effect, Task, Visit, Put, Event, PutExplicit, Moment, after, with_state, with_content, order, Rearranges}
+use Rattle.def_parts.specs.Globs.{with_recorded}
+use Rattle.def_collector.specs.State.{State, Effect, only, Task, Visit, Put, AddEdge, Event, PutExplicit, Moment, after, with_state, with_content, order, Rearranges}
 use Rattle.def_collector.specs.Imports.{ImportStep}
 use Rattle.def_collector.specs.Items.{Visits}
 
@@ -31,6 +32,7 @@ put_effect s at entry = record { state = with_content s (put_entry (order s) at 
 abbrev pub Does : Oracle → State → Task → Effect → Type 0
 Does oracle s (Visit site id) effect = Visits oracle s site id effect
 Does oracle s (Put at entry) effect = effect ≡ put_effect s at entry
+Does oracle s (AddEdge source edge) effect = effect ≡ only (with_content s (with_recorded (order s) s.content source edge))
 
 -- one slot is copied along an edge of a glob: what its source binds now, if the importer sees it
 pub record Copies (s : State) (content : Content Visibility) : Type 0 where

@@ -13,16 +13,19 @@ ghost use Rattle.def_collector.specs.Steps.{Leads};
 
 mod directive;
 mod finish;
+mod globs;
 mod imports;
 mod items;
 mod walk;
 
 use crate::diagnostics::DefDiagnostic;
 use crate::outcome::Collected;
-use def_ids::{Interner, MapId, ModuleId};
+use def_ids::{Def, GlobId, Interner, MapId, ModuleId};
 use def_map::{DefMap, LocalDefMap, MapData, SourceDatabase, Table};
+use def_parts::Globs;
 use directive::{ImportDirective, PartialDirective};
-use item_tree::{HirFileId, TreeId};
+use indexmap::IndexMap;
+use item_tree::{HirFileId, Seq, TreeId};
 use std::alloc::{AllocError, Global};
 use walk::Frame;
 
@@ -31,7 +34,10 @@ use walk::Frame;
 pub struct DefCollector<'a> {
     alloc: Global,
     def_map: MapData,
-    table: Table,
+    /// The bindings, which travel along the edges of globs.
+    table: Globs<Table>,
+    /// What each glob was recorded with.
+    targets: IndexMap<GlobId, Seq<Def>>,
     local_def_map: LocalDefMap,
     /// The names of crates that a block's crate knows.
     crate_local: Option<&'a LocalDefMap>,
@@ -71,7 +77,8 @@ pub fn collect_defs<D: SourceDatabase>(
     let mut collector = DefCollector {
         alloc,
         def_map: data,
-        table,
+        table: Globs::new(alloc, table),
+        targets: IndexMap::new(alloc),
         local_def_map: LocalDefMap::new(alloc),
         crate_local,
         unresolved_imports: Vec::new(alloc),

@@ -4,7 +4,7 @@ use Rattle.std.specs.List.{list_any}
 
 -- the names of the vectors, in byte order
 abbrev pub vector_names : List (List ℕ)
-vector_names = codes "empty" ∷ codes "plain" ∷ []
+vector_names = codes "cycle" ∷ codes "empty" ∷ codes "glob" ∷ codes "list" ∷ codes "plain" ∷ codes "private" ∷ []
 
 -- whether there is a vector of this name
 unfoldable pub is_vector : List ℕ → Bool

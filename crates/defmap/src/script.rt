@@ -1,7 +1,7 @@
 //! How scripted crates are written down: as constant data, in the order of their text.
 
 use def_ids::Edition;
-use item_tree::PathKind;
+use item_tree::{ImportKind, PathKind};
 
 /// A path.
 pub struct PathText {
@@ -17,9 +17,10 @@ pub enum VisText {
     In(PathText),
 }
 
-/// One import of a `use`, with its alias.
+/// One import of a `use`: what it takes, and its alias.
 pub struct ImportText {
     pub path: PathText,
+    pub kind: ImportKind,
     pub alias: Option<&'static str>,
 }
 

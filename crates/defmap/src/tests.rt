@@ -2,6 +2,7 @@
 
 mod blocks;
 mod directories;
+mod glob_imports;
 mod globs;
 mod paths;
 mod proc_macros;

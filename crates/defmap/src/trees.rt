@@ -3,8 +3,8 @@
 use crate::script::{ImportText, ItemText, Line, PathText, VisText};
 use def_ids::Interner;
 use item_tree::{
-    Attrs, AttrsOrCfg, CtorVisibility, FileAstId, ImportAlias, ImportKind, ItemNode, ItemTree,
-    ModContents, ModItemId, ModItemKind, ModPath, RawVisibility, Seq, TreeFault, UseImport,
+    Attrs, AttrsOrCfg, CtorVisibility, FileAstId, ImportAlias, ItemNode, ItemTree, ModContents,
+    ModItemId, ModItemKind, ModPath, RawVisibility, Seq, TreeFault, UseImport,
 };
 use std::alloc::{AllocError, Global};
 
@@ -51,7 +51,7 @@ fn import(
     Ok(UseImport {
         idx,
         path,
-        kind: ImportKind::Plain,
+        kind: text.kind,
         alias,
     })
 }

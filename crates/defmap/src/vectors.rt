@@ -6,13 +6,212 @@ ghost use Rattle.defmap.specs.Command.{is_vector, vector_names};
 
 use crate::script::{CrateText, ImportText, ItemText, Line, PathText, Vector, VisText};
 use def_ids::Edition;
-use item_tree::PathKind;
+use item_tree::{ImportKind, PathKind};
 
 /// The vectors in byte order of their names.
-static VECTORS: [Vector; 2] = [
+static VECTORS: [Vector; 6] = [
+    // mod a { pub use crate::b::*; pub struct X; } mod b { pub use crate::a::*; pub struct Y; }
+    Vector {
+        name: "cycle",
+        files: &[&[
+            Line {
+                depth: 0,
+                item: ItemText::Mod {
+                    vis: VisText::PubSelf,
+                    name: "a",
+                },
+            },
+            Line {
+                depth: 1,
+                item: ItemText::Use {
+                    vis: VisText::Public,
+                    imports: &[ImportText {
+                        path: PathText {
+                            kind: PathKind::Crate,
+                            segments: &["b"],
+                        },
+                        kind: ImportKind::Glob,
+                        alias: None,
+                    }],
+                },
+            },
+            Line {
+                depth: 1,
+                item: ItemText::Struct {
+                    vis: VisText::Public,
+                    name: "X",
+                    ctor: Some(VisText::Public),
+                },
+            },
+            Line {
+                depth: 0,
+                item: ItemText::Mod {
+                    vis: VisText::PubSelf,
+                    name: "b",
+                },
+            },
+            Line {
+                depth: 1,
+                item: ItemText::Use {
+                    vis: VisText::Public,
+                    imports: &[ImportText {
+                        path: PathText {
+                            kind: PathKind::Crate,
+                            segments: &["a"],
+                        },
+                        kind: ImportKind::Glob,
+                        alias: None,
+                    }],
+                },
+            },
+            Line {
+                depth: 1,
+                item: ItemText::Struct {
+                    vis: VisText::Public,
+                    name: "Y",
+                    ctor: Some(VisText::Public),
+                },
+            },
+        ]],
+        crates: &[CrateText {
+            krate: 0,
+            edition: Edition::Edition2021,
+            root_file: 0,
+            deps: &[],
+        }],
+        builtin_types: &[],
+    },
     Vector {
         name: "empty",
         files: &[&[]],
+        crates: &[CrateText {
+            krate: 0,
+            edition: Edition::Edition2021,
+            root_file: 0,
+            deps: &[],
+        }],
+        builtin_types: &[],
+    },
+    // mod a { pub struct S; } use a::*;
+    Vector {
+        name: "glob",
+        files: &[&[
+            Line {
+                depth: 0,
+                item: ItemText::Mod {
+                    vis: VisText::PubSelf,
+                    name: "a",
+                },
+            },
+            Line {
+                depth: 1,
+                item: ItemText::Struct {
+                    vis: VisText::Public,
+                    name: "S",
+                    ctor: Some(VisText::Public),
+                },
+            },
+            Line {
+                depth: 0,
+                item: ItemText::Use {
+                    vis: VisText::PubSelf,
+                    imports: &[ImportText {
+                        path: PathText {
+                            kind: PathKind::Plain,
+                            segments: &["a"],
+                        },
+                        kind: ImportKind::Glob,
+                        alias: None,
+                    }],
+                },
+            },
+        ]],
+        crates: &[CrateText {
+            krate: 0,
+            edition: Edition::Edition2021,
+            root_file: 0,
+            deps: &[],
+        }],
+        builtin_types: &[],
+    },
+    // mod p { pub use crate::m::*; } mod t { pub struct A; pub struct B; } mod m { pub struct A; pub use crate::t::*; }
+    Vector {
+        name: "list",
+        files: &[&[
+            Line {
+                depth: 0,
+                item: ItemText::Mod {
+                    vis: VisText::PubSelf,
+                    name: "p",
+                },
+            },
+            Line {
+                depth: 1,
+                item: ItemText::Use {
+                    vis: VisText::Public,
+                    imports: &[ImportText {
+                        path: PathText {
+                            kind: PathKind::Crate,
+                            segments: &["m"],
+                        },
+                        kind: ImportKind::Glob,
+                        alias: None,
+                    }],
+                },
+            },
+            Line {
+                depth: 0,
+                item: ItemText::Mod {
+                    vis: VisText::PubSelf,
+                    name: "t",
+                },
+            },
+            Line {
+                depth: 1,
+                item: ItemText::Struct {
+                    vis: VisText::Public,
+                    name: "A",
+                    ctor: Some(VisText::Public),
+                },
+            },
+            Line {
+                depth: 1,
+                item: ItemText::Struct {
+                    vis: VisText::Public,
+                    name: "B",
+                    ctor: Some(VisText::Public),
+                },
+            },
+            Line {
+                depth: 0,
+                item: ItemText::Mod {
+                    vis: VisText::PubSelf,
+                    name: "m",
+                },
+            },
+            Line {
+                depth: 1,
+                item: ItemText::Struct {
+                    vis: VisText::Public,
+                    name: "A",
+                    ctor: Some(VisText::Public),
+                },
+            },
+            Line {
+                depth: 1,
+                item: ItemText::Use {
+                    vis: VisText::Public,
+                    imports: &[ImportText {
+                        path: PathText {
+                            kind: PathKind::Crate,
+                            segments: &["t"],
+                        },
+                        kind: ImportKind::Glob,
+                        alias: None,
+                    }],
+                },
+            },
+        ]],
         crates: &[CrateText {
             krate: 0,
             edition: Edition::Edition2021,
@@ -49,6 +248,7 @@ static VECTORS: [Vector; 2] = [
                             kind: PathKind::Plain,
                             segments: &["a", "S"],
                         },
+                        kind: ImportKind::Plain,
                         alias: None,
                     }],
                 },
@@ -62,6 +262,49 @@ static VECTORS: [Vector; 2] = [
                             kind: PathKind::Plain,
                             segments: &["a", "T"],
                         },
+                        kind: ImportKind::Plain,
+                        alias: None,
+                    }],
+                },
+            },
+        ]],
+        crates: &[CrateText {
+            krate: 0,
+            edition: Edition::Edition2021,
+            root_file: 0,
+            deps: &[],
+        }],
+        builtin_types: &[],
+    },
+    // mod a { pub struct T(u8); } use a::*;
+    Vector {
+        name: "private",
+        files: &[&[
+            Line {
+                depth: 0,
+                item: ItemText::Mod {
+                    vis: VisText::PubSelf,
+                    name: "a",
+                },
+            },
+            Line {
+                depth: 1,
+                item: ItemText::Struct {
+                    vis: VisText::Public,
+                    name: "T",
+                    ctor: Some(VisText::PubSelf),
+                },
+            },
+            Line {
+                depth: 0,
+                item: ItemText::Use {
+                    vis: VisText::PubSelf,
+                    imports: &[ImportText {
+                        path: PathText {
+                            kind: PathKind::Plain,
+                            segments: &["a"],
+                        },
+                        kind: ImportKind::Glob,
                         alias: None,
                     }],
                 },

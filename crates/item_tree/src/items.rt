@@ -27,6 +27,8 @@ pub enum ModContents {
 #[derive(Clone, Copy, PartialEq, Eq, Debug)]
 pub enum ImportKind {
     Plain,
+    /// All names of what its path means.
+    Glob,
 }
 
 /// The name that an import is given.

@@ -2,11 +2,12 @@
 ghost use Rattle.std.specs.Prelude.{◌≡◌};
 ghost use Rattle.def_collector.specs.Imports as imports;
 ghost use Rattle.def_collector.specs.Collector.{kept_of, ns_set, pending_of};
+ghost use Rattle.def_collector.specs.Globs.{is_public};
 
 use def_bindings::{ImportOrExternCrate, Visibility};
-use def_ids::{ImportId, ModuleId, UseId};
+use def_ids::{GlobId, ImportId, ModuleId, UseId};
 use def_map::{Item, PerNs, ReachedFixedPoint, ResolvePathResult};
-use item_tree::{FileAstId, ImportAlias, InFile, Name, RawVisibility, UseImport};
+use item_tree::{FileAstId, ImportAlias, ImportKind, InFile, Name, RawVisibility, UseImport};
 
 /// One import of a `use` item that was reached, with the module and the item that it stands in.
 /// It refers to the item tree.
@@ -128,8 +129,9 @@ pub fn kept_item(answer: &ResolvePathResult, item: Option<Item>) -> Option<Item>
     }
 }
 
-fn is_public(vis: Visibility) -> bool
-    ensures { result ≡ imports.is_public vis }
+/// Whether something is public.
+pub fn is_public(vis: Visibility) -> bool
+    ensures { result ≡ is_public vis }
 {
     match vis {
         Visibility::Public => true,
@@ -137,9 +139,20 @@ fn is_public(vis: Visibility) -> bool
     }
 }
 
-/// The name that an import binds: its alias, else the last segment of its path.
+/// The name that an import binds: its alias, else the last segment of its path. A glob binds none of
+/// its own.
 pub fn import_name(import: &UseImport) -> Option<Option<Name>>
     ensures { result ≡ imports.bound_name import.now }
+{
+    match import.kind {
+        ImportKind::Plain => plain_name(import),
+        ImportKind::Glob => None,
+    }
+}
+
+/// The alias of an import, else the last segment of its path.
+fn plain_name(import: &UseImport) -> Option<Option<Name>>
+    ensures { result ≡ imports.name_or import.now.alias import.now.path.segments }
 {
     match import.alias {
         Some(ImportAlias::Alias(name)) => Some(Some(name)),
@@ -151,6 +164,17 @@ pub fn import_name(import: &UseImport) -> Option<Option<Name>>
 }
 
 impl ImportDirective<'_> {
+    /// Its number, as a glob.
+    pub fn glob_id(&self) -> GlobId
+        ensures { result ≡ imports.glob_id (pending_of self.now) }
+    {
+        let idx = self.import.idx;
+        GlobId {
+            use_id: self.use_id,
+            idx,
+        }
+    }
+
     /// What its bindings are brought by.
     pub fn origin(&self) -> ImportOrExternCrate
         ensures { result ≡ imports.origin_of (pending_of self.now) }

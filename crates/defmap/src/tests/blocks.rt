@@ -37,6 +37,7 @@ static BLOCK: [Line; 1] = [Line {
                 kind: PathKind::Plain,
                 segments: &["S"],
             },
+            kind: ImportKind::Plain,
             alias: Some("T"),
         }],
     },

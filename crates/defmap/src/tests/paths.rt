@@ -7,7 +7,7 @@ use crate::script::{
     BuiltinText, CrateText, ImportText, ItemText, Line, PathText, Vector, VisText,
 };
 use def_ids::Edition;
-use item_tree::PathKind;
+use item_tree::{ImportKind, PathKind};
 use std::alloc::Global;
 
 static IN_2015: [CrateText; 1] = [CrateText {
@@ -42,6 +42,7 @@ static TWO_MODULES: [&[Line]; 1] = [&[
                     kind: PathKind::Plain,
                     segments: &["b", "X"],
                 },
+                kind: ImportKind::Plain,
                 alias: None,
             }],
         },
@@ -81,6 +82,7 @@ static USES_OF_TYPES: [&[Line]; 1] = [&[
                     kind: PathKind::Plain,
                     segments: &["u8"],
                 },
+                kind: ImportKind::Plain,
                 alias: Some("m"),
             }],
         },
@@ -94,6 +96,7 @@ static USES_OF_TYPES: [&[Line]; 1] = [&[
                     kind: PathKind::Plain,
                     segments: &["u16"],
                 },
+                kind: ImportKind::Plain,
                 alias: Some("n"),
             }],
         },

@@ -52,7 +52,14 @@ fn expect_run(rt: &impl Abort, alloc: Global, words: &[&str], status: u8, out: &
 #[test]
 fn shows_what_there_is(rt: HostRuntime) {
     let alloc = rt.alloc();
-    expect_run(&rt, alloc, &["list"], 0, "empty\nplain\n", "");
+    expect_run(
+        &rt,
+        alloc,
+        &["list"],
+        0,
+        "cycle\nempty\nglob\nlist\nplain\nprivate\n",
+        "",
+    );
     expect_run(&rt, alloc, &["show", "plain"], 0, PLAIN, "");
     expect_run(&rt, alloc, &["show", "empty"], 0, "module 0 - crate\n", "");
 }
@@ -97,7 +104,7 @@ fn a_refused_write_ends_a_run(rt: HostRuntime) {
     }
     assert_eq!(rt; said.len(), 0);
     assert_eq!(rt; narrow_status(alloc, &["show", "plain"], PLAIN.len(), 0), 0);
-    assert_eq!(rt; narrow_status(alloc, &["list"], 11, 0), 1);
+    assert_eq!(rt; narrow_status(alloc, &["list"], 35, 0), 1);
     assert_eq!(rt; narrow_status(alloc, &["show", "nothing"], 0, 0), 2);
     assert_eq!(rt; narrow_status(alloc, &[], 0, 0), 2);
 }

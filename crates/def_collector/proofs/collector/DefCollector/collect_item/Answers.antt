@@ -24,4 +24,4 @@ returns-in_ok-define_struct-in-Struct-clause-handled g c =
     let before : State = state_of c.args.self.now c.args.session.now in
     handled_struct (g.D.SourceDatabase.oracle c.args.db.now) before _ (session_of c.intern-in-Struct.new.session) (site_of c.args.site) c.args.node.now _ _ _ c.in_ok-id-in-Struct.id.0 c.position.result c.resolve_visibility-vis-in-Struct.result c.constructor_visibility-ctor_vis.result
     c.in-Struct.is c.in_ok-id-in-Struct.ensures.grows c.position.ensures c.in_ok-id-in-Struct.ensures.shown c.resolve_visibility-vis-in-Struct.ensures c.constructor_visibility-ctor_vis.ensures
-    (c.in_ok-define_struct-in-Struct.ensures c.intern-in-Struct.new.session)
+    (c.in_ok-define_struct-in-Struct.ensures (g.D.SourceDatabase.oracle c.args.db.now) c.intern-in-Struct.new.session)
