@@ -8,7 +8,7 @@ use def_bindings::{Binding, ImportOrExternCrate, Visibility};
 use def_collector::{Collected, collect_defs};
 use def_ids::{Def, Edition, ImportId, MapId, ModuleId, StructId, UseId};
 use def_map::{BlockInfo, DefMap, PerNs};
-use item_tree::{BlockId, Crate, FileId, HirFileId, PathKind, TreeId};
+use item_tree::{BlockId, Crate, FileId, HirFileId, ImportKind, PathKind, TreeId};
 use std::alloc::{AllocError, Global};
 use std::test::Fail;
 
