@@ -1,6 +1,8 @@
 -- Places that are equal or apart.
 use Rattle.std.proofs.Common.{◌≡◌, Bool, true, false, not, ◌&&◌, ◌||◌, cond, Option, Some, None, List, [], ◌∷◌, ◌++◌, refl, sym, ap, subst, ◌∙◌, inl, inr}
-use Rattle.std.specs.Prelude.{is_some, map}
+use Rattle.std.specs.Prelude.{ℕ, is_some, map, option_map, slice_get}
+use Rattle.std.proofs.lemmas.Option.{slice_get-map}
+use Rattle.def_bindings.specs.declared.place.Placed.{Placed}
 use Rattle.std.specs.Map.{keys_of}
 use Rattle.indexmap.specs.IndexMap.{insert_entry}
 use Rattle.def_bindings.specs.Link.{edge_of, link_of}
@@ -283,3 +285,16 @@ content-edges c f g e = λ i. record c { edges = e i }
 
 pub content-unnamed : {V : Type 0} (c : Content V) (f g : ModuleId → List (TraitId × V)) → f ≡ g → record c { unnamed = f } ≡ record c { unnamed = g }
 content-unnamed c f g e = λ i. record c { unnamed = e i }
+
+-- a source and an edge from their parts
+abbrev as_edge : {V : Type 0} → ModuleId × ModuleId × Link V → ModuleId × EdgeTo V
+as_edge t = (t.0, edge_of (t.1, t.2))
+
+as_edges : {V : Type 0} (x : Option (Placed ModuleId × Link V)) → option_map as_edge (option_map (λ e. (e.0.at, e.0.key, e.1)) x) ≡ option_map (λ e. (e.0.at, edge_of (e.0.key, e.1))) x
+as_edges None = refl
+as_edges (Some e) = refl
+
+-- an edge by its number among all
+pub edge_numbered : {V : Type 0} (es : List (Placed ModuleId × Link V)) (n : ℕ) (found : Option (ModuleId × ModuleId × Link V)) → found ≡ option_map (λ e. (e.0.at, e.0.key, e.1)) (slice_get es n)
+    → option_map as_edge found ≡ slice_get (map (λ e. (e.0.at, edge_of (e.0.key, e.1))) es) n
+edge_numbered es n found h = ap (option_map as_edge) h ∙ as_edges (slice_get es n) ∙ sym (slice_get-map (λ e. (e.0.at, edge_of (e.0.key, e.1))) es n)

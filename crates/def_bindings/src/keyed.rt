@@ -1,5 +1,5 @@
 //! Values by module and key.
-ghost use Rattle.std.specs.Prelude.{◌≡◌, ◌↔◌, ◌<◌, ◌^◌, IsTrue, IsFalse, is_some, true, [], length, slice_get, OnOk, OnErr};
+ghost use Rattle.std.specs.Prelude.{◌≡◌, ◌↔◌, ◌<◌, ◌^◌, IsTrue, IsFalse, is_some, true, [], length, option_map, slice_get, OnOk, OnErr, Some};
 ghost use Rattle.std.specs.List.{IsDistinct};
 ghost use Rattle.std.specs.Map.{lookup, keys_of};
 ghost use Rattle.indexmap.specs.IndexMap.{get, insert_entry, keys};
@@ -61,6 +61,18 @@ impl<K: Copy + Eq + Hash, W: Copy> Keyed<K, W> {
                 Some((placed, value)) => Some((placed.key, *value)),
                 None => None,
             },
+            None => None,
+        }
+    }
+
+    /// The module, the key and the value with this number among all.
+    pub fn numbered(&self, number: usize) -> Option<(ModuleId, K, W)>
+        ensures entry { result ≡ option_map (λ e. (e.0.at, e.0.key, e.1)) (slice_get self.now.entries.entries number) }
+        ensures few { length self.now.entries.entries < 2 ^ 64 }
+    {
+        let _ = self.entries.len();
+        match self.entries.get_index(number) {
+            Some((placed, value)) => Some((placed.at, placed.key, *value)),
             None => None,
         }
     }

@@ -79,8 +79,9 @@ fn has<V: Copy>(
 }
 
 impl<V: Copy> NumberedTable<V> {
+    ghost use Rattle.std.specs.Prelude.{◌<◌, ◌^◌, length, slice_get};
     ghost use Rattle.def_bindings.specs.Content.{empty};
-    ghost use Rattle.def_bindings.specs.NumberedTable.{content_of};
+    ghost use Rattle.def_bindings.specs.NumberedTable.{all_edges, content_of};
 
     /// A table with nothing in it.
     pub fn new(alloc: Global) -> Result<Self, AllocError>
@@ -105,6 +106,24 @@ impl<V: Copy> NumberedTable<V> {
             return false;
         }
         self.edges.is_empty()
+    }
+
+    /// The edge with this number among all in order of recording, and its source.
+    pub fn numbered_edge(&self, number: usize) -> Option<(ModuleId, EdgeTo<V>)>
+        ensures edge { result ≡ slice_get (all_edges self.now) number }
+        ensures few { length (all_edges self.now) < 2 ^ 64 }
+    {
+        match self.edges.numbered(number) {
+            Some((source, importer, link)) => Some((
+                source,
+                EdgeTo {
+                    importer,
+                    vis: link.vis,
+                    glob: link.glob,
+                },
+            )),
+            None => None,
+        }
     }
 }
 

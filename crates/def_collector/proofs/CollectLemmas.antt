@@ -1,5 +1,5 @@
 -- From the seeded map to the headline.
-use Rattle.std.proofs.Common.{◌≡◌, false, List, [], ◌∷◌, map, Option, None, Some, Result, Ok, Err, All, refl, sym, ap, subst, ◌∙◌}
+use Rattle.std.proofs.Common.{◌≡◌, Bool, false, List, [], ◌∷◌, map, Option, None, Some, Result, Ok, Err, All, refl, sym, ap, subst, ◌∙◌}
 use Rattle.std.proofs.lemmas.List.Elements.{All-cons, All-nil}
 use Rattle.std.specs.Result.{IfOk}
 use Rattle.item_tree.specs.declared.ids.BlockId.{BlockId}
@@ -16,12 +16,15 @@ use Rattle.def_collector.specs.declared.collector.directive.PartialDirective.{Pa
 use Rattle.def_collector.specs.declared.diagnostics.DefDiagnostic.{DefDiagnostic}
 use Rattle.def_parts.specs.Directories.{Directory}
 use Rattle.def_collector.specs.Collector.{IsFinished, partial_of, pending_of, waiting}
+use Rattle.def_collector.specs.Crates.{is_proc_macro_crate}
+use Rattle.def_collector.specs.Globs.{Targets}
 use Rattle.def_collector.specs.Headline.{Answers}
 use Rattle.def_collector.specs.Imports.{NoneReady}
 use Rattle.def_collector.specs.Report.{Answer, NoneFailed}
 use Rattle.def_collector.specs.Start.{first_tasks, seeded_state, started}
 use Rattle.def_collector.specs.State.{Setting, State, PendingImport, PartialImport}
 use Rattle.def_collector.specs.Steps.{Leads}
+use Rattle.def_collector.proofs.BegunLemmas.{begins_own}
 use Rattle.def_collector.proofs.HeadlineLemmas.{answers}
 use Rattle.def_collector.proofs.WaitingLemmas.{waiting-nil}
 
@@ -48,19 +51,19 @@ no_imports entries none = ap (λ es. map pending_of (waiting es)) none ∙ ap (m
 pub no_partial : (entries : List (Option PartialDirective)) → entries ≡ [] → map partial_of (waiting entries) ≡ []
 no_partial entries none = ap (λ es. map partial_of (waiting es)) none ∙ ap (map partial_of) (waiting-nil PartialDirective)
 
-module _ (w : Setting) (before after : Session) (m : MapState) (content : Content Visibility) (local : LocalView) (directories : ModuleId → Option Directory) (imports : List PendingImport) (partial : List PartialImport) (diagnostics : List DefDiagnostic) where
+module _ (w : Setting) (before after : Session) (m : MapState) (content : Content Visibility) (targets : Targets) (local : LocalView) (procs : Bool) (directories : ModuleId → Option Directory) (imports : List PendingImport) (partial : List PartialImport) (diagnostics : List DefDiagnostic) where
   -- the state that the code begins with
   abbrev pub begun : State
-  begun = record { session = before; map = m; content = content; local = local; outer = w.crate_local; directories = directories; imports = imports; partial = partial; diagnostics = diagnostics }
+  begun = record { session = before; map = m; content = content; targets = targets; local = local; outer = w.crate_local; is_proc_macro = procs; directories = directories; imports = imports; partial = partial; diagnostics = diagnostics }
 
-  module _ (same : m ≡ w.seeded) (bound : content ≡ empty) (known : local ≡ empty_local) (bare : directories ≡ (λ at. None)) (unresolved : imports ≡ []) (indeterminate : partial ≡ []) (said : diagnostics ≡ []) where
+  module _ (same : m ≡ w.seeded) (bound : content ≡ empty) (none : targets ≡ (λ glob. None)) (known : local ≡ empty_local) (marked : procs ≡ is_proc_macro_crate w.oracle w.seeded.id.krate) (bare : directories ≡ (λ at. None)) (unresolved : imports ≡ []) (indeterminate : partial ≡ []) (said : diagnostics ≡ []) where
     begins : begun ≡ seeded_state w before
-    begins = λ i. record { session = before; map = same i; content = bound i; local = known i; outer = w.crate_local; directories = bare i; imports = unresolved i; partial = indeterminate i; diagnostics = said i }
+    begins = λ i. record { session = before; map = same i; content = bound i; targets = none i; local = known i; outer = w.crate_local; is_proc_macro = marked i; directories = bare i; imports = unresolved i; partial = indeterminate i; diagnostics = said i }
 
     -- what was collected and finished answers
-    pub collected_answers : (t : State) (answer : Answer) (given : Content Visibility) → IsFresh w.seeded given → Leads w.oracle (first_tasks w.oracle m w.tree) (started w.oracle m w.tree begun) [] t → NoneReady w.oracle t → t.session ≡ after → IsFinished t answer
+    pub collected_answers : (t : State) (answer : Answer) (given : Content Visibility) → IsFresh w.seeded given → Leads w.oracle (first_tasks w.oracle m w.tree) (started w.oracle w.tree begun) [] t → NoneReady w.oracle t → t.session ≡ after → IsFinished t answer
         → Answers w before after answer
     collected_answers t answer given fresh leads settled session finished =
         answers w before after answer t
-        (subst (λ s. Leads w.oracle (first_tasks w.oracle w.seeded w.tree) (started w.oracle w.seeded w.tree s) [] t) begins (subst (λ x. Leads w.oracle (first_tasks w.oracle x w.tree) (started w.oracle x w.tree begun) [] t) same leads))
-        settled session (none_seeded w.seeded given fresh) finished
+        (subst (λ s. Leads w.oracle (first_tasks w.oracle w.seeded w.tree) (started w.oracle w.tree s) [] t) begins (subst (λ x. Leads w.oracle (first_tasks w.oracle x w.tree) (started w.oracle w.tree begun) [] t) same leads))
+        settled session (none_seeded w.seeded given fresh) (begins_own w before given fresh) finished

@@ -6,6 +6,7 @@ use Rattle.item_tree.specs.declared.ids.ModItemId.{ModItemId}
 use Rattle.item_tree.specs.declared.name.Name.{Name}
 use Rattle.def_ids.specs.declared.ids.GlobId.{GlobId}
 use Rattle.def_ids.specs.declared.ids.ModuleId.{ModuleId}
+use Rattle.def_bindings.specs.declared.bindings.EdgeTo.{EdgeTo}
 use Rattle.def_bindings.specs.declared.bindings.Entry.{Entry}
 use Rattle.def_bindings.specs.declared.bindings.Namespace.{Namespace}
 use Rattle.def_bindings.specs.declared.bindings.Namespace.TheVariants.{Types, Values, Macros}
@@ -18,7 +19,7 @@ use Rattle.def_bindings.specs.Puts.{offered, put_entry}
 use Rattle.def_bindings.specs.PutsLaws.{bound_stays-put_entry, bound_after-put_name}
 use Rattle.def_collector.specs.Imports.{bound_name, is_full, keeps_ns}
 use Rattle.def_parts.specs.Directories.{Directory}
-use Rattle.def_collector.specs.State.{Event, PutExplicit, Recorded, NsSet, PendingImport, PartialImport, Site, Task, Enter, Visit, Put}
+use Rattle.def_collector.specs.State.{Event, PutExplicit, Recorded, NsSet, PendingImport, PartialImport, Site, Task, Enter, Visit, Put, AddEdge}
 use Rattle.def_collector.specs.Steps.{event_of}
 use Rattle.def_collector.proofs.ListLemmas.{contains_cases}
 
@@ -108,6 +109,14 @@ visit_ahead site id rest more at entry h =
 pub enter_ahead : (place : ModuleId) (directory : Directory) (rest : List Task) (at : ModuleId) (entry : Entry Visibility) → Contains (Enter place directory ∷ rest) (Put at entry) → Contains rest (Put at entry)
 enter_ahead place directory rest at entry h =
     elim (contains_cases (Enter place directory) (Put at entry) rest h) [
+      | inl same ↦ absurd (cc same)
+      | inr later ↦ later
+    ]
+
+-- an added edge leaves what is ahead
+pub edge_ahead : (source : ModuleId) (edge : EdgeTo Visibility) (rest : List Task) (at : ModuleId) (entry : Entry Visibility) → Contains (AddEdge source edge ∷ rest) (Put at entry) → Contains rest (Put at entry)
+edge_ahead source edge rest at entry h =
+    elim (contains_cases (AddEdge source edge) (Put at entry) rest h) [
       | inl same ↦ absurd (cc same)
       | inr later ↦ later
     ]

@@ -5,6 +5,7 @@ use Rattle.item_tree.specs.declared.name.Name.{Name}
 use Rattle.def_ids.specs.declared.ids.GlobId.{GlobId}
 use Rattle.def_ids.specs.declared.ids.ModuleId.{ModuleId}
 use Rattle.def_bindings.specs.declared.bindings.Binding.{Binding}
+use Rattle.def_bindings.specs.declared.bindings.EdgeTo.{EdgeTo}
 use Rattle.def_bindings.specs.declared.bindings.Entry.{Entry}
 use Rattle.def_bindings.specs.declared.bindings.Namespace.{Namespace}
 use Rattle.def_bindings.specs.declared.visibility.Visibility.{Visibility}
@@ -13,9 +14,10 @@ use Rattle.def_bindings.specs.Order.{Order}
 use Rattle.def_bindings.specs.Puts.{IsExplicit, glob_of, offered, put_entry}
 use Rattle.def_bindings.specs.PutsLaws.{explicit_stays-put_entry, explicit_after-put_entry, explicit_from-put_entry, explicit_from-copied}
 use Rattle.def_map.specs.Oracle.{Oracle}
+use Rattle.def_parts.specs.Globs.{with_recorded}
 use Rattle.def_collector.specs.Imports.{ImportStep, answer_now, is_foreign, of_pending, of_partial}
 use Rattle.def_collector.specs.Settled.{IsDeclared}
-use Rattle.def_collector.specs.State.{State, Effect, Event, PutExplicit, Recorded, PendingImport, Moment, Task, Enter, Visit, Put, order}
+use Rattle.def_collector.specs.State.{State, Effect, Event, PutExplicit, Recorded, PendingImport, Moment, Task, Enter, Visit, Put, order, AddEdge}
 use Rattle.def_collector.specs.Steps.{Copies, Does, Reaches, Step, performs, copies, rearranges, records, event_of, put_event}
 use Rattle.def_collector.proofs.ListLemmas.{not_empty, split_last}
 use Rattle.def_collector.proofs.RunsLemmas.{kept_along, visits_leaves}
@@ -151,12 +153,22 @@ declares-same : (events es : List Event) (old new : Content Visibility) → es �
 declares-same events es old new none same all =
     subst (λ x. Declares (events ++ x) new) (sym none) (subst (λ x. Declares x new) (sym (append-nil events)) (subst (λ c. Declares events c) (sym same) all))
 
+-- an added edge binds nothing
+declares-edge : (events : List Event) (o : Order Visibility) (source : ModuleId) (edge : EdgeTo Visibility) (c : Content Visibility) → Declares events c → Declares (events ++ []) (with_recorded o c source edge)
+declares-edge events o source edge c all =
+    subst (λ es. Declares es (with_recorded o c source edge)) (sym (append-nil events))
+    (record {
+      known = λ at name ns held there explicit. all.known at name ns held there explicit;
+      declared = λ before after at name ns held happened. still_stands c (with_recorded o c source edge) before at name ns held (λ b there explicit. there) (all.declared before after at name ns held happened);
+    })
+
 -- Each step keeps what is declared
 
 declares-does : (oracle : Oracle) (events : List Event) (s : State) (task : Task) (effect : Effect) → Does oracle s task effect → Declares events s.content → Declares (events ++ effect.events) effect.state.content
 declares-does oracle events s (Enter at directory) effect does all = declares-same events effect.events s.content effect.state.content (ap (λ (e : Effect). e.events) does) (ap (λ (e : Effect). e.state.content) does) all
 declares-does oracle events s (Visit site id) effect does all = let leaves = visits_leaves oracle s site id effect does in declares-same events effect.events s.content effect.state.content leaves.events leaves.content all
 declares-does oracle events s (Put place entry) effect does all = subst (λ (e : Effect). Declares (events ++ e.events) e.state.content) (sym does) (declares-put (order s) place entry events s.content all)
+declares-does oracle events s (AddEdge source edge) effect does all = subst (λ (e : Effect). Declares (events ++ e.events) e.state.content) (sym does) (declares-edge events (order s) source edge s.content all)
 
 declares-import : (oracle : Oracle) (events : List Event) (s : State) (effect : Effect) → ImportStep oracle s effect → Declares events s.content → Declares (events ++ effect.events) effect.state.content
 declares-import oracle events s effect (of_pending pending rest recorded waits ready recording is) all =

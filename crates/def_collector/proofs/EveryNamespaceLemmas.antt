@@ -7,6 +7,7 @@ use Rattle.std.proofs.lemmas.List.Sorted.{Contains-permutation, IsPermutation-re
 use Rattle.item_tree.specs.declared.ids.ModItemId.{ModItemId}
 use Rattle.item_tree.specs.declared.name.Name.{Name}
 use Rattle.def_ids.specs.declared.ids.ModuleId.{ModuleId}
+use Rattle.def_bindings.specs.declared.bindings.EdgeTo.{EdgeTo}
 use Rattle.def_bindings.specs.declared.bindings.Entry.{Entry}
 use Rattle.def_bindings.specs.declared.bindings.Namespace.{Namespace}
 use Rattle.def_bindings.specs.declared.bindings.Namespace.TheVariants.{Types, Values, Macros}
@@ -20,15 +21,16 @@ use Rattle.def_map.specs.declared.path_resolution.asked.ResolvePathResult.{Resol
 use Rattle.def_map.specs.declared.per_ns.PerNs.{PerNs}
 use Rattle.def_map.specs.Oracle.{Oracle}
 use Rattle.def_map.specs.PerNs.{in_namespace}
-use Rattle.def_collector.specs.Imports.{ImportStep, NoneReady, answer_now, given_set, is_extended, is_foreign, is_full, is_ready, no_namespaces, of_partial, of_pending}
+use Rattle.def_parts.specs.Globs.{with_recorded}
+use Rattle.def_collector.specs.Imports.{ImportStep, NoneReady, after_partial, after_pending, answer_now, given_set, is_extended, is_foreign, is_full, is_ready, no_namespaces, of_partial, of_pending}
 use Rattle.def_collector.specs.Settled.{HasEveryNamespace}
-use Rattle.def_collector.specs.State.{State, Effect, only, entered, Event, Recorded, NsSet, PendingImport, PartialImport, Moment, Task, Enter, Visit, Put, Rearranges, Site, order}
+use Rattle.def_collector.specs.State.{State, Effect, only, entered, Event, Recorded, NsSet, PendingImport, PartialImport, Moment, Task, Enter, Visit, Put, Rearranges, Site, order, AddEdge}
 use Rattle.def_collector.specs.Steps.{Copies, Does, Reaches, Step, performs, copies, rearranges, records, put_event}
 use Rattle.def_parts.specs.Directories.{Directory}
 use Rattle.def_collector.proofs.RunsLemmas.{Leaves, kept_along, visits_leaves}
-use Rattle.def_collector.proofs.ComingLemmas.{Covers, HasSet, bound_now, covers-kept, enter_ahead, has_ns, keeps_coming, put_keeps, unrecorded, visit_ahead}
+use Rattle.def_collector.proofs.ComingLemmas.{Covers, HasSet, bound_now, covers-kept, enter_ahead, has_ns, keeps_coming, put_keeps, unrecorded, visit_ahead, edge_ahead}
 use Rattle.def_collector.proofs.ListLemmas.{contains_cases}
-use Rattle.def_collector.proofs.RecordedLemmas.{covers-recorded, no_each}
+use Rattle.def_collector.proofs.RecordedLemmas.{all_ahead, covers-recorded, no_each}
 
 -- what was recorded is covered, at a moment
 abbrev CoversAt : Moment → Type 0
@@ -63,6 +65,14 @@ covers-put s place entry rest events all =
       | inr now ↦ absurd (unrecorded place entry p false (glob_of entry.origin) entry.name now)
     ]) all
 
+covers-edge : (s : State) (source : ModuleId) (edge : EdgeTo Visibility) (rest : List Task) (events : List Event) → Covers s.partial s.content (AddEdge source edge ∷ rest) events
+    → Covers s.partial (with_recorded (order s) s.content source edge) rest (events ++ [])
+covers-edge s source edge rest events all =
+    subst (λ es. Covers s.partial (with_recorded (order s) s.content source edge) rest es) (sym (append-nil events))
+    (covers-kept s.partial s.partial s.content (with_recorded (order s) s.content source edge) (AddEdge source edge ∷ rest) rest events events
+    (keeps_coming s.content (with_recorded (order s) s.content source edge) (AddEdge source edge ∷ rest) rest (λ at name ns bound. bound) (λ at entry h. edge_ahead source edge rest at entry h))
+    (IsPermutation-refl s.partial) (λ e h. h) (λ p h. h) all)
+
 covers-does : (oracle : Oracle) (s : State) (task : Task) (effect : Effect) (rest : List Task) (events : List Event) → Does oracle s task effect → Covers s.partial s.content (task ∷ rest) events
     → Covers effect.state.partial effect.state.content (effect.tasks ++ rest) (events ++ effect.events)
 covers-does oracle s (Enter at directory) effect rest events does all =
@@ -70,6 +80,8 @@ covers-does oracle s (Enter at directory) effect rest events does all =
 covers-does oracle s (Visit site id) effect rest events does all = covers-visit s effect rest events site id (visits_leaves oracle s site id effect does) all
 covers-does oracle s (Put place entry) effect rest events does all =
     subst (λ (e : Effect). Covers e.state.partial e.state.content (e.tasks ++ rest) (events ++ e.events)) (sym does) (covers-put s place entry rest events all)
+covers-does oracle s (AddEdge source edge) effect rest events does all =
+    subst (λ (e : Effect). Covers e.state.partial e.state.content (e.tasks ++ rest) (events ++ e.events)) (sym does) (covers-edge s source edge rest events all)
 
 covers-copied : (s : State) (content : Content Visibility) (tasks : List Task) (events : List Event) → Copies s content → Covers s.partial s.content tasks events → Covers s.partial content tasks events
 covers-copied s content tasks events copy all =
@@ -89,13 +101,13 @@ covers-import oracle s effect events (of_pending pending rest recorded waits rea
     let answer = answer_now oracle s pending in
     subst (λ (e : Effect). Covers e.state.partial e.state.content (e.tasks ++ []) (events ++ e.events)) (sym is)
     (subst (λ (e : Effect). Covers e.state.partial e.state.content (e.tasks ++ []) (events ++ Recorded pending (is_foreign (answer_now oracle s pending)) ∷ e.events)) (sym recording)
-    (covers-recorded (order s) pending _ answer no_namespaces s.partial s.partial s.content events (no_each s.content [] pending) (λ x h. inr h) (λ x h. h) all))
+    (covers-recorded pending answer _ (all_ahead oracle (after_pending s pending rest answer) pending answer) no_namespaces s.partial s.partial s.content events (no_each s.content [] pending) (λ x h. inr h) (λ x h. h) all))
 covers-import oracle s effect events (of_partial partial rest recorded waits ready recording is) all =
     let answer = answer_now oracle s partial.pending in
     let stands : Contains s.partial partial = Contains-permutation (partial ∷ rest) s.partial partial (IsPermutation-sym s.partial (partial ∷ rest) waits) (Contains-append_left (partial ∷ []) rest partial (0, omega arith, refl)) in
     subst (λ (e : Effect). Covers e.state.partial e.state.content (e.tasks ++ []) (events ++ e.events)) (sym is)
     (subst (λ (e : Effect). Covers e.state.partial e.state.content (e.tasks ++ []) (events ++ Recorded partial.pending (is_foreign (answer_now oracle s partial.pending)) ∷ e.events)) (sym recording)
-    (covers-recorded (order s) partial.pending _ answer partial.recorded s.partial rest s.content events (all.partly partial stands)
+    (covers-recorded partial.pending answer _ (all_ahead oracle (after_partial s partial rest answer) partial.pending answer) partial.recorded s.partial rest s.content events (all.partly partial stands)
     (λ x h. elim (contains_cases partial x rest (Contains-permutation s.partial (partial ∷ rest) x waits h)) [
       | inl same ↦ inl (ap (λ (y : PartialImport). y.pending) same)
       | inr others ↦ inr others

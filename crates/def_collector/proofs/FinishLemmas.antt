@@ -1,9 +1,25 @@
 -- The end of a run: names marked one after the other are marked by what is left over.
-use Rattle.std.proofs.Common.{◌≡◌, ◌+◌, ◌<◌, ◌≤◌, ℕ, zero, suc, Bool, true, false, cond, ◌&&◌, ◌||◌, nat_eq, List, [], ◌∷◌, ◌++◌, length, map, take, get_or, All, Option, Some, None, refl, sym, ap, subst, ◌∙◌, arith, inl, inr, append-nil, append_assoc}
+use Rattle.std.proofs.Common.{◌≡◌, ◌+◌, ◌<◌, ◌≤◌, ℕ, zero, suc, Bool, true, false, cond, ◌&&◌, ◌||◌, nat_eq, List, [], ◌∷◌, ◌++◌, length, filter, map, take, get_or, All, Option, Some, None, refl, sym, ap, subst, ◌∙◌, arith, inl, inr, append-nil, append_assoc}
+use Rattle.std.proofs.lemmas.Bool.{cases_Bool}
 use Rattle.std.proofs.lemmas.Bool.Decides.{eqb_tells}
 use Rattle.std.proofs.lemmas.List.{map-append, take_all, take_more}
 use Rattle.std.proofs.lemmas.List.Elements.{All-head, All-tail}
 use Rattle.item_tree.specs.declared.name.Name.{Name}
+use Rattle.indexmap.specs.IndexMap.{IndexMap, IsUnique, get}
+use Rattle.def_ids.specs.declared.ids.Def.{Def}
+use Rattle.def_ids.specs.declared.ids.GlobId.{GlobId}
+use Rattle.def_ids.specs.declared.ids.ModuleId.{ModuleId}
+use Rattle.def_ids.specs.Equality.{glob_eq}
+use Rattle.def_ids.specs.Ids.{is_same_module}
+use Rattle.def_bindings.specs.declared.link.Link.{Link}
+use Rattle.def_bindings.specs.declared.place.Placed.{Placed}
+use Rattle.def_bindings.specs.declared.visibility.Visibility.{Visibility}
+use Rattle.def_bindings.specs.IdLaws.{same_module_equal}
+use Rattle.def_bindings.specs.Link.{edge_of}
+use Rattle.def_bindings.specs.NumberedTable.{all_edges}
+use Rattle.def_bindings.specs.Numbers.{own_entries}
+use Rattle.def_map.specs.Tables.{Table, bound_by}
+use Rattle.def_collector.specs.declared.outcome.Edge.{Edge}
 use Rattle.def_map.specs.Maps.{with_module}
 use Rattle.def_map.specs.MapState.{MapState, ModuleState}
 use Rattle.def_map.specs.Scopes.{marked_failed}
@@ -11,9 +27,9 @@ use Rattle.def_map.specs.Updates.{update_at}
 use Rattle.def_collector.specs.declared.collector.directive.ImportDirective.{ImportDirective}
 use Rattle.def_collector.specs.declared.diagnostics.DefDiagnostic.{DefDiagnostic}
 use Rattle.def_collector.specs.declared.outcome.LeftImport.{LeftImport}
-use Rattle.def_collector.specs.Collector.{IsFinished, left_in, marked_each, marked_once, pending_of, waiting}
+use Rattle.def_collector.specs.Collector.{IsFinished, left_in, marked_each, marked_once, pending_of, shown_edge, waiting}
 use Rattle.def_collector.specs.Imports.{bound_name}
-use Rattle.def_collector.specs.Report.{Answer, binds_name, is_left, left_import, marked, marked_from, NoneFailed, unresolved}
+use Rattle.def_collector.specs.Report.{Answer, AreEdges, AreTargets, binds_name, is_left, leaves, left_import, listed_edge, marked, marked_from, NoneFailed, shown_targets, unresolved}
 use Rattle.def_collector.specs.State.{State, PendingImport}
 use Rattle.def_collector.proofs.WaitingLemmas.{waiting-nil, waiting_pushed, waiting_same}
 
@@ -119,6 +135,31 @@ marked_each-append : (ps qs : List PendingImport) (m : MapState) → marked_each
 marked_each-append [] qs m = refl
 marked_each-append (p ∷ ps) qs m = marked_each-append ps qs (marked_once p (bound_name p.import) m)
 
+-- Edges and targets
+
+edges_among : (es : List (Placed ModuleId × Link Visibility)) (source : ModuleId)
+    → filter (leaves source) (map shown_edge (map (λ e. (e.0.at, edge_of (e.0.key, e.1))) es)) ≡ map (listed_edge source) (map edge_of (own_entries es source))
+edges_among [] source = refl
+edges_among (e ∷ es) source =
+    elim (cases_Bool (is_same_module source e.0.at)) [
+      | inl here ↦
+          let same : source ≡ e.0.at = same_module_equal source e.0.at here in
+          rw here (ap (λ l. shown_edge (e.0.at, edge_of (e.0.key, e.1)) ∷ l) (edges_among es source) ∙ ap (λ m. listed_edge m (edge_of (e.0.key, e.1)) ∷ map (listed_edge source) (map edge_of (own_entries es source))) (sym same))
+      | inr other ↦ rw other (edges_among es source)
+    ]
+
+edges_in : (table : Table) (edges : List Edge) → edges ≡ map shown_edge (all_edges table) → AreEdges (bound_by table) edges
+edges_in table edges all source = ap (filter (leaves source)) all ∙ edges_among table.edges.entries.entries source
+
+-- all edges of a table are listed once
+pub edges_listed : (table known : Table) (edges : List Edge) → table ≡ known → edges ≡ map shown_edge (all_edges table) → AreEdges (bound_by known) edges
+edges_listed table known edges same all = subst (λ t. AreEdges (bound_by t) edges) same (edges_in table edges all)
+
+-- so is what each glob was recorded with
+pub targets_listed : {S : Type 0} (targets : IndexMap GlobId (List Def) S) (listed : List (GlobId × List Def)) → listed ≡ targets.entries → IsUnique glob_eq targets → AreTargets (get glob_eq targets) listed
+targets_listed targets listed all unique =
+    subst (λ l. AreTargets (get glob_eq targets) l) (sym all) (record { once = unique; all = λ glob. refl })
+
 -- The list of imports, entry by entry
 
 -- what is left of these entries
@@ -173,7 +214,7 @@ left_whole m now imports before diagnostics entries all i left past same = subst
 pub finished : (end : State) (answer : Answer) (m : MapState) (imports : List LeftImport) (diagnostics : List DefDiagnostic) (entries : List (Option ImportDirective))
     → LeftSoFar end.map m imports end.diagnostics diagnostics entries → end.imports ≡ left_of_all entries
     → answer.map ≡ m → answer.content ≡ end.content → answer.local ≡ end.local → answer.diagnostics ≡ diagnostics
-    → answer.outcome.imports.items ≡ imports → answer.outcome.macros.items ≡ [] → answer.outcome.edges.items ≡ [] → answer.outcome.targets.items ≡ [] → answer.outcome.limit_met ≡ false
+    → answer.outcome.imports.items ≡ imports → answer.outcome.macros.items ≡ [] → AreEdges end.content answer.outcome.edges.items → AreTargets end.targets (map shown_targets answer.outcome.targets.items) → answer.outcome.limit_met ≡ false
     → IsFinished end answer
 finished end answer m imports diagnostics entries left here marking content local said lefts macros edges targets limit = record {
   map = λ none. marking ∙ left.marks ∙ ap (λ ps. marked_each ps end.map) (sym here) ∙ marked_together end.imports end.map none;

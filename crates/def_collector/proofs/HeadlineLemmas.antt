@@ -1,26 +1,32 @@
 -- What is answered ends a run of the machine.
-use Rattle.std.proofs.Common.{◌≡◌, [], refl}
+use Rattle.std.proofs.Common.{◌≡◌, [], None, refl, sym, subst}
 use Rattle.def_ids.specs.Session.{Session}
+use Rattle.def_bindings.specs.Closure.{IsClosed, IsCoherent}
+use Rattle.def_collector.specs.Closed.{IsSound, Stands, none_left_out, target_of}
 use Rattle.def_collector.specs.Collector.{IsFinished}
 use Rattle.def_collector.specs.Headline.{Answers}
 use Rattle.def_collector.specs.Imports.{NoneReady}
 use Rattle.def_collector.specs.Report.{Answer, NoneFailed}
 use Rattle.def_collector.specs.Start.{first_tasks, seeded_state, start, started}
-use Rattle.def_collector.specs.State.{Setting, State, Moment}
+use Rattle.def_collector.specs.State.{Setting, State, Moment, order}
 use Rattle.def_collector.specs.Steps.{Leads, Reaches, at}
+use Rattle.def_collector.proofs.BegunLemmas.{sound_empty}
 use Rattle.def_collector.proofs.DeclaredLemmas.{declared_along}
 use Rattle.def_collector.proofs.EveryNamespaceLemmas.{every_namespace_along}
 use Rattle.def_collector.proofs.RunsLemmas.{none_failed_along}
 use Rattle.def_collector.proofs.StaysLemmas.{explicit_stays_along}
 
 -- where a run from the seeded map leads to an end at which nothing is left to do and no import is ready, what is answered of that end is right
-pub answers : (w : Setting) (before after : Session) (answer : Answer) (t : State) → Leads w.oracle (first_tasks w.oracle w.seeded w.tree) (started w.oracle w.seeded w.tree (seeded_state w before)) [] t → NoneReady w.oracle t → t.session ≡ after → NoneFailed w.seeded
+pub answers : (w : Setting) (before after : Session) (answer : Answer) (t : State) → Leads w.oracle (first_tasks w.oracle w.seeded w.tree) (started w.oracle w.tree (seeded_state w before)) [] t → NoneReady w.oracle t → t.session ≡ after → NoneFailed w.seeded
+    → Stands (first_tasks w.oracle w.seeded w.tree) (started w.oracle w.tree (seeded_state w before))
     → IsFinished t answer → Answers w before after answer
-answers w before after answer t leads settled session clean finished =
+answers w before after answer t leads settled session clean stands finished =
     record {
       run = record { end = end; runs = runs; done = refl };
       session = session;
       answered = record { map = finished.map (none_failed_along runs clean); content = finished.content; local = finished.local; outcome = finished.outcome };
+      closed = subst (IsClosed (order t) none_left_out) (sym finished.content) sound.closed;
+      coherent = subst (IsCoherent (order t) none_left_out (target_of t.map.id t.targets)) (sym finished.content) sound.coherent;
       declared = declared_along runs refl refl;
       explicit_stays = λ a b run. explicit_stays_along run.goes_on;
       settled = record { imports = settled };
@@ -29,7 +35,10 @@ answers w before after answer t leads settled session clean finished =
     }
   where
     end : Moment
-    end = at [] t (leads []).0
+    end = at [] t (leads.runs []).0
 
     runs : Reaches w.oracle (start w before) end
-    runs = (leads []).1
+    runs = (leads.runs []).1
+
+    sound : IsSound t
+    sound = leads.keeps stands (sound_empty (started w.oracle w.tree (seeded_state w before)).map (λ glob. None))

@@ -4,62 +4,14 @@ use Rattle.std.proofs.lemmas.Bool.{or_cases}
 use Rattle.std.proofs.lemmas.Grind.{common_steps}
 use Rattle.std.proofs.lemmas.List.Sorted.{IsPermutation-middle, IsPermutation-refl, IsPermutation-append_comm, IsPermutation-append_right, length_permutation}
 use Rattle.std.proofs.lemmas.List.Sums.{sum_by-append, sum_by-cons}
-use Rattle.item_tree.specs.declared.name.Name.{Name}
-use Rattle.def_ids.specs.declared.ids.ModuleId.{ModuleId}
-use Rattle.def_bindings.specs.declared.bindings.Entry.{Entry}
-use Rattle.def_bindings.specs.declared.bindings.Namespace.{Namespace}
-use Rattle.def_bindings.specs.declared.bindings.Namespace.TheVariants.{Types, Values, Macros}
-use Rattle.def_bindings.specs.declared.visibility.Visibility.{Visibility}
-use Rattle.def_bindings.specs.Order.{Order}
 use Rattle.def_map.specs.declared.path_resolution.asked.ResolvePathResult.{ResolvePathResult}
 use Rattle.def_map.specs.Oracle.{Oracle}
-use Rattle.def_map.specs.PerNs.{Item}
-use Rattle.def_collector.specs.Collector.{ArePuts, Moves, missing_from, performed, turns_left}
-use Rattle.def_collector.specs.Imports.{answer_now, is_ready, is_ready_again, is_extended, is_foreign, is_full, is_missing, given_set, union, no_namespaces, keeps_ns, kept_after, kept_item, kept_list, import_vis, bound_name, of_pending, of_partial, after_pending, after_partial, named_entries, entry_of}
-use Rattle.def_collector.specs.State.{State, PendingImport, PartialImport, NsSet, Site, Task, Enter, Visit, Put, followed_by, order}
-use Rattle.def_collector.specs.Steps.{Leads, put_effect}
-use Rattle.def_collector.proofs.StepsLemmas.{leads_import, leads_puts, leads_rearranged, leads_trans}
-
--- What an import puts is a list of puts
-
-one_put : (keeps : Bool) (at : ModuleId) (entry : Entry Visibility) → ArePuts (cond keeps (Put at entry ∷ []) [])
-one_put true at entry = tt
-one_put false at entry = tt
-
-are_puts-append : (xs ys : List Task) → ArePuts xs → ArePuts ys → ArePuts (xs ++ ys)
-are_puts-append [] ys p q = q
-are_puts-append (Put at entry ∷ xs) ys p q = are_puts-append xs ys p q
-are_puts-append (Visit site id ∷ xs) ys p q = absurd p
-are_puts-append (Enter at directory ∷ xs) ys p q = absurd p
-
-entry_is_put : (order : Order Visibility) (pending : PendingImport) (vis : Visibility) (name : Option Name) (ns : Namespace) (item : Option Item) → ArePuts (entry_of order pending vis name ns item)
-entry_is_put order pending vis name ns None = tt
-entry_is_put order pending vis name ns (Some item) = one_put (keeps_ns pending.import.kind ns) _ _
-
-pub entries_are_puts : (order : Order Visibility) (pending : PendingImport) (vis : Visibility) (answer : ResolvePathResult) (name : Option (Option Name)) → ArePuts (named_entries order pending vis answer name)
-entries_are_puts order pending vis answer None = tt
-entries_are_puts order pending vis answer (Some name) =
-    let types : List Task = entry_of order pending vis name Types (kept_item answer answer.resolved_def.types) in
-    let values : List Task = entry_of order pending vis name Values (kept_item answer answer.resolved_def.values) in
-    let macros : List Task = entry_of order pending vis name Macros (kept_item answer answer.resolved_def.macros) in
-    are_puts-append types (values ++ macros) (entry_is_put order pending vis name Types (kept_item answer answer.resolved_def.types))
-    (are_puts-append values macros (entry_is_put order pending vis name Values (kept_item answer answer.resolved_def.values)) (entry_is_put order pending vis name Macros (kept_item answer answer.resolved_def.macros)))
-
--- puts leave the imports as they are
-pub performed-imports : (tasks : List Task) (s : State) → (performed tasks s).imports ≡ s.imports
-performed-imports [] s = refl
-performed-imports (Put at entry ∷ tasks) s = performed-imports tasks (put_effect s at entry).state
-performed-imports (Visit site id ∷ tasks) s = performed-imports tasks s
-performed-imports (Enter at directory ∷ tasks) s = performed-imports tasks s
-
-pub performed-partial : (tasks : List Task) (s : State) → (performed tasks s).partial ≡ s.partial
-performed-partial [] s = refl
-performed-partial (Put at entry ∷ tasks) s = performed-partial tasks (put_effect s at entry).state
-performed-partial (Visit site id ∷ tasks) s = performed-partial tasks s
-performed-partial (Enter at directory ∷ tasks) s = performed-partial tasks s
-
-performed-turns : (tasks : List Task) (s : State) → turns_left (performed tasks s) ≡ turns_left s
-performed-turns tasks s = rw (performed-imports tasks s, performed-partial tasks s) refl
+use Rattle.def_collector.specs.Collector.{Moves, Performs, missing_from, turns_left}
+use Rattle.def_collector.specs.Imports.{answer_now, is_ready, is_ready_again, is_extended, is_foreign, is_full, is_missing, given_set, union, no_namespaces, kept_after, kept_list, of_pending, of_partial, after_pending, after_partial, record_effect}
+use Rattle.def_collector.specs.State.{State, PendingImport, PartialImport, NsSet}
+use Rattle.def_collector.specs.Steps.{Leads}
+use Rattle.def_collector.proofs.StepsLemmas.{leads_import, leads_performed, leads_rearranged, leads_trans}
+use Rattle.def_collector.proofs.TasksLemmas.{record_followed}
 
 -- Sets of namespaces
 
@@ -126,23 +78,22 @@ and_right false b h = absurd cc
 module _ (oracle : Oracle) (s t : State) where
   -- a waiting import that is ready was recorded, and its entries were put
   pub moves_pending : (pending : PendingImport) (rest : List PendingImport) → IsPermutation s.imports (pending ∷ rest) → is_ready (answer_now oracle s pending) ≡ true
-      → t ≡ performed (named_entries (order s) pending (import_vis oracle s pending) (answer_now oracle s pending) (bound_name pending.import)) (after_pending s pending rest (answer_now oracle s pending))
+      → (let effect = record_effect oracle (after_pending s pending rest (answer_now oracle s pending)) pending (answer_now oracle s pending) in Performs oracle effect.tasks effect.state t)
+      → turns_left t ≡ turns_left (after_pending s pending rest (answer_now oracle s pending))
       → Moves oracle s t
-  moves_pending pending rest waits ready after = record { leads = leads; fewer = fewer }
+  moves_pending pending rest waits ready performs same = record { leads = leads; fewer = fewer }
     where
       u : State
       u = after_pending s pending rest (answer_now oracle s pending)
 
-      tasks : List Task
-      tasks = named_entries (order s) pending (import_vis oracle s pending) (answer_now oracle s pending) (bound_name pending.import)
-
       leads : Leads oracle [] s [] t
-      leads = subst (λ x. Leads oracle [] s [] x) (sym after)
-          (leads_trans (leads_import s _ (of_pending pending rest (followed_by u tasks) waits ready refl refl)) (leads_puts tasks [] u (entries_are_puts (order s) pending _ (answer_now oracle s pending) (bound_name pending.import))))
+      leads = let effect = record_effect oracle u pending (answer_now oracle s pending) in
+          leads_trans (leads_import s _ (of_pending pending rest effect waits ready refl refl))
+          (leads_performed effect.tasks [] effect.state t (record_followed oracle u pending (answer_now oracle s pending) pending.import.kind) performs)
 
       fewer : turns_left t < turns_left s
       fewer =
-          let same : turns_left t ≡ turns_left u = ap turns_left after ∙ performed-turns tasks u in
+          let same' : turns_left t ≡ turns_left u = same in
           let one : length s.imports ≡ suc (length rest) = sym (length_permutation s.imports (pending ∷ rest) waits) in
           let light = kept-light pending (kept_after no_namespaces (answer_now oracle s pending)) in
           let more : sum_by (λ p. 1 + missing_from p.recorded) u.partial ≡ sum_by (λ p. 1 + missing_from p.recorded) s.partial + sum_by (λ p. 1 + missing_from p.recorded) (kept_list pending (kept_after no_namespaces (answer_now oracle s pending))) =
@@ -151,10 +102,11 @@ module _ (oracle : Oracle) (s t : State) where
 
   -- a partial import that is ready again was recorded in its place, and its entries were put
   pub moves_partial : (before after : List PartialImport) (p : PartialImport) → s.partial ≡ before ++ p ∷ after → is_ready_again p.recorded (answer_now oracle s p.pending) ≡ true
-      → t ≡ performed (named_entries (order s) p.pending (import_vis oracle s p.pending) (answer_now oracle s p.pending) (bound_name p.pending.import))
-      (record s { partial = before ++ (kept_list p.pending (kept_after p.recorded (answer_now oracle s p.pending)) ++ after) })
+      → (let u : State = record s { partial = before ++ (kept_list p.pending (kept_after p.recorded (answer_now oracle s p.pending)) ++ after) } in
+      let effect = record_effect oracle u p.pending (answer_now oracle s p.pending) in Performs oracle effect.tasks effect.state t)
+      → turns_left t ≡ turns_left (record s { partial = before ++ (kept_list p.pending (kept_after p.recorded (answer_now oracle s p.pending)) ++ after) })
       → Moves oracle s t
-  moves_partial before after p stands ready became = record { leads = leads; fewer = fewer }
+  moves_partial before after p stands ready performs same = record { leads = leads; fewer = fewer }
     where
       answer : ResolvePathResult
       answer = answer_now oracle s p.pending
@@ -168,19 +120,16 @@ module _ (oracle : Oracle) (s t : State) where
       v : State
       v = record s { partial = before ++ (kept ++ after) }
 
-      tasks : List Task
-      tasks = named_entries (order s) p.pending (import_vis oracle s p.pending) answer (bound_name p.pending.import)
-
       leads : Leads oracle [] s [] t
-      leads = subst (λ x. Leads oracle [] s [] x) (sym became)
-          (leads_trans (leads_import s _ (of_partial p (before ++ after) (followed_by u tasks) (subst (λ l. IsPermutation l (p ∷ (before ++ after))) (sym stands) (IsPermutation-middle before p after)) ready refl refl))
-          (leads_trans (leads_rearranged (tasks ++ []) u v (record { imports = IsPermutation-refl s.imports; partial = moved_in before after kept; rest = refl }))
-          (leads_puts tasks [] v (entries_are_puts (order s) p.pending _ answer (bound_name p.pending.import)))))
+      leads =
+          (leads_trans (leads_import s _ (of_partial p (before ++ after) (record_effect oracle u p.pending answer) (subst (λ l. IsPermutation l (p ∷ (before ++ after))) (sym stands) (IsPermutation-middle before p after)) ready refl refl))
+          (leads_trans (leads_rearranged _ _ (record_effect oracle v p.pending answer).state (record { imports = IsPermutation-refl s.imports; partial = moved_in before after kept; rest = refl }))
+          (leads_performed (record_effect oracle v p.pending answer).tasks [] (record_effect oracle v p.pending answer).state t (record_followed oracle v p.pending answer p.pending.import.kind) performs)))
 
       fewer : turns_left t < turns_left s
       fewer =
           let weigh : PartialImport → ℕ = λ p. 1 + missing_from p.recorded in
-          let same : turns_left t ≡ turns_left v = ap turns_left became ∙ performed-turns tasks v in
+          let same' : turns_left t ≡ turns_left v = same in
           let was : sum_by weigh s.partial ≡ sum_by weigh before + (1 + missing_from p.recorded + sum_by weigh after) = ap (sum_by weigh) stands ∙ sum_by-append weigh before (p ∷ after) ∙ ap (λ n. sum_by weigh before + n) (sum_by-cons weigh p after) in
           let is : sum_by weigh v.partial ≡ sum_by weigh before + (sum_by weigh kept + sum_by weigh after) = sum_by-append weigh before (kept ++ after) ∙ ap (λ n. sum_by weigh before + n) (sum_by-append weigh kept after) in
           let light = kept_after-lighter p.pending (is_foreign answer) (is_full (union p.recorded (given_set answer.resolved_def))) p.recorded (given_set answer.resolved_def)

@@ -16,6 +16,7 @@ use Rattle.def_ids.specs.declared.ids.Def.TheVariants as def
 use Rattle.def_ids.specs.declared.ids.ModuleId.{ModuleId}
 use Rattle.def_ids.specs.Session.{Session, Grows, StructItem, UseItem, in_module, ItemKind, FunctionItem, UnionItem, EnumItem, ConstItem, StaticItem, TraitItem, TypeAliasItem, ImplItem, ExternBlockItem, in_container}
 use Rattle.def_ids.specs.SessionLaws.{grows_refl}
+use Rattle.def_bindings.specs.declared.bindings.Entry.{Entry}
 use Rattle.def_bindings.specs.declared.bindings.Namespace.TheVariants.{Types, Values}
 use Rattle.def_bindings.specs.declared.visibility.Visibility.{Visibility}
 use Rattle.def_bindings.specs.Puts.{lessened}
@@ -26,40 +27,54 @@ use Rattle.def_map.specs.Oracle.{Oracle}
 use Rattle.def_map.specs.Scopes.{declared_in, empty_module, with_child, with_extern_block, with_impl, with_unnamed_const}
 use Rattle.def_collector.specs.declared.collector.directive.ImportDirective.{ImportDirective}
 use Rattle.def_collector.specs.declared.collector.items.Written.{Written}
-use Rattle.def_collector.specs.Collector.{ArePuts, Handled, IsDone, pending_of, performed, queued}
-use Rattle.def_collector.specs.Items.{add_module, ctor_task, ctor_vis, declare, Handles, loc_of, module_item, next_module, pending_imports, position_of, put_declared, struct_effect, written_vis, container_of, declared_effect, Declares, noted_in, walk}
+use Rattle.def_collector.specs.Collector.{Handled, IsDone, Performs, Updated, pending_of, queued}
+use Rattle.def_collector.specs.Items.{add_module, ctor_vis, declare, declared_entry, Handles, loc_of, module_item, next_module, pending_imports, position_of, put_declared, struct_effect, written_vis, container_of, declared_effect, Declares, noted_in, walk}
 use Rattle.def_parts.specs.Directories.{Directory}
 use Rattle.def_collector.specs.State.{State, Effect, PendingImport, Site, Task, only, with_map, order, followed_by, module_site}
+use Rattle.def_collector.specs.Steps.{Leads}
 use Rattle.item_tree.specs.declared.ids.ModItemId.{ModItemId}
 use Rattle.item_tree.specs.Trees.{children_of, children_of_kind}
 use Rattle.def_ids.specs.declared.ids.ItemContainerId.TheVariants as contained
 use Rattle.def_bindings.specs.declared.bindings.Namespace.{Namespace}
 use Rattle.def_map.specs.declared.module_data.ModuleOrigin.TheVariants.{Inline}
+use Rattle.def_collector.proofs.StepsLemmas.{leads_refl, performs_none, performs_updated}
 
--- a struct with a constructor
-pub struct_put_both : (s s2 s3 : State) (at : ModuleId) (name : Name) (d : Def) (vis ctor : Visibility) (given : Option Visibility) (v : Visibility) → given ≡ Some ctor
-    → s2 ≡ performed (put_declared at name Types d vis ∷ []) (declare s at d)
-    → v ≡ lessened (order s2) ctor vis → s3 ≡ performed (put_declared at name Values d v ∷ []) s2
-    → s3 ≡ performed (struct_effect s at name d vis given).tasks (struct_effect s at name d vis given).state
-struct_put_both s s2 s3 at name d vis ctor given v has e lesser second =
-    let same : v ≡ lessened (order s) ctor vis = lesser ∙ ap (λ x. lessened (order x) ctor vis) e in
-    second
-    ∙ ap (λ x. performed (put_declared at name Values d x ∷ []) s2) same
-    ∙ ap (λ x. performed (put_declared at name Values d (lessened (order s) ctor vis) ∷ []) x) e
-    ∙ ap (λ x. performed (struct_effect s at name d vis x).tasks (struct_effect s at name d vis x).state) (sym has)
+module _ (oracle : Oracle) (s s1 t : State) (at : ModuleId) (name : Name) (d : Def) (vis : Visibility) (given : Option Visibility) where
+  -- the entries of a struct were put
+  abbrev StructPut : Option Visibility → Type 0
+  StructPut ctor = Performs oracle (struct_effect s at name d vis ctor).tasks (struct_effect s at name d vis ctor).state t
+
+  -- a struct without a constructor
+  pub struct_put : (types : Entry Visibility) → given ≡ None → s1 ≡ declare s at d → types ≡ declared_entry name Types d vis → Updated at (types ∷ []) s1 t → StructPut given
+  struct_put types none declared first put =
+      subst StructPut (sym none)
+      (performs_updated at (declared_entry name Types d vis ∷ []) (declare s at d) t (subst (λ u. Updated at (declared_entry name Types d vis ∷ []) u t) declared (subst (λ e. Updated at (e ∷ []) s1 t) first put)))
+
+  -- a struct with a constructor
+  pub struct_put_both : (ctor v : Visibility) (types values : Entry Visibility) → given ≡ Some ctor → s1 ≡ declare s at d → v ≡ lessened (order s1) ctor vis
+      → types ≡ declared_entry name Types d vis → values ≡ declared_entry name Values d v → Updated at (types ∷ values ∷ []) s1 t → StructPut given
+  struct_put_both ctor v types values has declared lesser first second put =
+      let same : v ≡ lessened (order s) ctor vis = lesser ∙ ap (λ u. lessened (order u) ctor vis) declared in
+      let both : Updated at (declared_entry name Types d vis ∷ declared_entry name Values d v ∷ []) s1 t =
+      subst (λ e. Updated at (declared_entry name Types d vis ∷ e ∷ []) s1 t) second (subst (λ e. Updated at (e ∷ values ∷ []) s1 t) first put) in
+      subst StructPut (sym has)
+      (performs_updated at (declared_entry name Types d vis ∷ declared_entry name Values d (lessened (order s) ctor vis) ∷ []) (declare s at d) t
+      (subst (λ x. Updated at (declared_entry name Types d vis ∷ declared_entry name Values d x ∷ []) (declare s at d) t) same
+      (subst (λ u. Updated at (declared_entry name Types d vis ∷ declared_entry name Values d v ∷ []) u t) declared both)))
 
 -- a definition in one namespace
-pub declared_put : (s s1 s2 : State) (at : ModuleId) (name : Name) (ns : Namespace) (d : Def) (vis : Visibility) → s1 ≡ declare s at d → s2 ≡ performed (put_declared at name ns d vis ∷ []) s1
-    → s2 ≡ performed (declared_effect s at name ns d vis).tasks (declared_effect s at name ns d vis).state
-declared_put s s1 s2 at name ns d vis declared put = put ∙ ap (performed (put_declared at name ns d vis ∷ [])) declared
+pub declared_put : (oracle : Oracle) (s s1 t : State) (at : ModuleId) (name : Name) (ns : Namespace) (d : Def) (vis : Visibility) → s1 ≡ declare s at d → Updated at (declared_entry name ns d vis ∷ []) s1 t
+    → Performs oracle (declared_effect s at name ns d vis).tasks (declared_effect s at name ns d vis).state t
+declared_put oracle s s1 t at name ns d vis declared put =
+    performs_updated at (declared_entry name ns d vis ∷ []) (declare s at d) t (subst (λ u. Updated at (declared_entry name ns d vis ∷ []) u t) declared put)
 
 -- a module as a child
 pub module_put : (s t u : State) (at : ModuleId) (name : Name) (vis : Visibility) (o : ModuleOrigin) (m : ModuleState) (index : ℕ) (pushed_map led declared : MapState)
     → m ≡ empty_module (Some name) o vis → index ≡ length s.map.modules → pushed_map ≡ pushed s.map at.index m → led ≡ with_module pushed_map at.index (with_child name index)
     → declared ≡ with_module led at.index (declared_in (Module (record { map = s.map.id; index = index })))
     → t ≡ with_map s declared
-    → u ≡ performed (put_declared at name Types (Module (record { map = s.map.id; index = index })) vis ∷ []) t
-    → u ≡ performed (put_declared at name Types (Module (next_module s)) vis ∷ []) (add_module s at name vis o)
+    → Updated at (declared_entry name Types (Module (record { map = s.map.id; index = index })) vis ∷ []) t u
+    → Updated at (declared_entry name Types (Module (next_module s)) vis ∷ []) (add_module s at name vis o) u
 module_put s t u at name vis o m index pushed_map led declared fresh numbered added child recorded became put =
     let a : pushed_map ≡ pushed s.map at.index (empty_module (Some name) o vis) = added ∙ ap (pushed s.map at.index) fresh in
     let b : led ≡ with_module (pushed s.map at.index (empty_module (Some name) o vis)) at.index (with_child name (length s.map.modules)) =
@@ -68,19 +83,14 @@ module_put s t u at name vis o m index pushed_map led declared fresh numbered ad
     recorded ∙ ap (λ x. with_module x at.index (declared_in (Module (record { map = s.map.id; index = index })))) b
     ∙ ap (λ i. with_module (with_module (pushed s.map at.index (empty_module (Some name) o vis)) at.index (with_child name (length s.map.modules))) at.index (declared_in (Module (record { map = s.map.id; index = i })))) numbered in
     let d : t ≡ add_module s at name vis o = became ∙ ap (with_map s) c in
-    put
-    ∙ ap (λ i. performed (put_declared at name Types (Module (record { map = s.map.id; index = i })) vis ∷ []) t) numbered
-    ∙ ap (performed (put_declared at name Types (Module (next_module s)) vis ∷ [])) d
+    subst (λ i. Updated at (declared_entry name Types (Module (record { map = s.map.id; index = i })) vis ∷ []) (add_module s at name vis o) u) numbered
+    (subst (λ x. Updated at (declared_entry name Types (Module (record { map = s.map.id; index = index })) vis ∷ []) x u) d put)
 
 -- What handling an item leads to
 
-are_puts-ctor : (s : State) (at : ModuleId) (name : Name) (d : Def) (vis : Visibility) (ctor : Option Visibility) → ArePuts (ctor_task s at name d vis ctor)
-are_puts-ctor s at name d vis None = tt
-are_puts-ctor s at name d vis (Some ctor) = tt
-
 -- a module was handled
 pub handled_module : (oracle : Oracle) (s t : State) (site : Site) (item : ItemNode) (name : Name) (raw : RawVisibility) (contents : ModContents) (vis : Visibility) (inner : List Task)
-    → item.kind ≡ Mod name raw contents → vis ≡ written_vis oracle s site.scope raw → IsDone (module_item oracle s site item name vis contents) t inner → Handled oracle s t site item inner
+    → item.kind ≡ Mod name raw contents → vis ≡ written_vis oracle s site.scope raw → IsDone oracle (module_item oracle s site item name vis contents) t inner → Handled oracle s t site item inner
 handled_module oracle s t site item name raw contents vis inner kind seen done = record {
   effect = module_item oracle s site item name vis contents;
   handled = (s.session, grows_refl s.session, subst (λ k. Handles oracle s site item k (module_item oracle s site item name vis contents)) (sym kind) (ap (λ v. module_item oracle s site item name v contents) seen));
@@ -99,19 +109,20 @@ pub handled_use : (oracle : Oracle) (s t : State) (session : Session) (site : Si
 handled_use oracle s t session site item raw imports n position kind grows placed numbered after =
     let effect : Effect = only (record s { session = session; imports = s.imports ++ pending_imports site item (record { 0 = n }) raw imports }) in
     let number : session.item UseItem n ≡ Some (loc_of site UseItem item) = numbered ∙ ap (λ p. Some (in_module site.scope p)) placed in
+    let became : t ≡ effect.state = after ∙ ap (λ p. record s { session = session; imports = s.imports ++ imports_at site.scope p n raw imports }) placed in
     record {
       effect = effect;
       handled = (session, grows, subst (λ k. Handles oracle (record s { session = session }) site item k effect) (sym kind) (n, number, refl));
-      done = record { puts = []; tasks = refl; are_puts = tt; after = after ∙ ap (λ p. record s { session = session; imports = s.imports ++ imports_at site.scope p n raw imports }) placed };
+      done = record { puts = []; tasks = refl; performs = subst (λ u. Performs oracle [] effect.state u) (sym became) (performs_none effect.state); session = ap (λ (u : State). u.session) became };
     }
 
 -- a struct was handled
 pub handled_struct : (oracle : Oracle) (s t : State) (session : Session) (site : Site) (item : ItemNode) (name : Name) (raw : RawVisibility) (written : CtorVisibility) (n : ℕ) (position : InFile FileAstId) (vis : Visibility) (ctor : Option Visibility)
     → item.kind ≡ Struct name raw written → Grows s.session session → position ≡ position_of site item → session.item StructItem n ≡ Some (in_module site.scope position)
     → vis ≡ written_vis oracle (record s { session = session }) site.scope raw → ctor ≡ ctor_vis oracle (record s { session = session }) site.scope written
-    → t ≡ performed (struct_effect (record s { session = session }) site.scope name (def.Struct (record { 0 = n })) vis ctor).tasks (struct_effect (record s { session = session }) site.scope name (def.Struct (record { 0 = n })) vis ctor).state
-    → Handled oracle s t site item []
-handled_struct oracle s t session site item name raw written n position vis ctor kind grows placed numbered seen built after =
+    → (let effect = struct_effect (record s { session = session }) site.scope name (def.Struct (record { 0 = n })) vis ctor in Performs oracle effect.tasks effect.state t)
+    → t.session ≡ session → Handled oracle s t site item []
+handled_struct oracle s t session site item name raw written n position vis ctor kind grows placed numbered seen built after same =
     let effect : Effect = struct_effect (record s { session = session }) site.scope name (def.Struct (record { 0 = n })) vis ctor in
     let number : session.item StructItem n ≡ Some (loc_of site StructItem item) = numbered ∙ ap (λ p. Some (in_module site.scope p)) placed in
     let is : effect ≡ struct_effect (record s { session = session }) site.scope name (def.Struct (record { 0 = n })) (written_vis oracle (record s { session = session }) site.scope raw) (ctor_vis oracle (record s { session = session }) site.scope written) =
@@ -120,7 +131,7 @@ handled_struct oracle s t session site item name raw written n position vis ctor
     record {
       effect = effect;
       handled = (session, grows, subst (λ k. Handles oracle (record s { session = session }) site item k effect) (sym kind) (n, number, is));
-      done = record { puts = effect.tasks; tasks = sym (append-nil effect.tasks); are_puts = are_puts-ctor (record s { session = session }) site.scope name (def.Struct (record { 0 = n })) vis ctor; after = after };
+      done = record { puts = effect.tasks; tasks = sym (append-nil effect.tasks); performs = after; session = same };
     }
 
 -- A definition was declared in one namespace
@@ -134,51 +145,51 @@ module _ (oracle : Oracle) (s t : State) (session : Session) (site : Site) (item
   -- an item that declares one definition
   handled_declared : (kind : ItemKind) (d : ℕ → Def) (ns : Namespace) → ((effect : Effect) → Declares oracle grown site item kind d ns name raw effect → Handles oracle grown site item item.kind effect)
       → session.item kind n ≡ Some (in_container (container_of site kind) position)
-      → t ≡ performed (declared_effect grown site.scope name ns (d n) vis).tasks (declared_effect grown site.scope name ns (d n) vis).state
+      → Performs oracle (declared_effect grown site.scope name ns (d n) vis).tasks (declared_effect grown site.scope name ns (d n) vis).state t → t.session ≡ session
       → Handled oracle s t site item []
-  handled_declared kind d ns handles numbered after =
+  handled_declared kind d ns handles numbered after same =
       let effect : Effect = declared_effect grown site.scope name ns (d n) vis in
       let number : session.item kind n ≡ Some (loc_of site kind item) = numbered ∙ ap (λ p. Some (in_container (container_of site kind) p)) placed in
       record {
         effect = effect;
         handled = (session, grows, handles effect (n, number, ap (declared_effect grown site.scope name ns (d n)) seen));
-        done = record { puts = effect.tasks; tasks = refl; are_puts = tt; after = after };
+        done = record { puts = effect.tasks; tasks = refl; performs = after; session = same };
       }
 
   pub handled_union : item.kind ≡ Union name raw → session.item UnionItem n ≡ Some (in_module site.scope position)
-      → t ≡ performed (declared_effect grown site.scope name Types (def.Union (record { 0 = n })) vis).tasks (declared_effect grown site.scope name Types (def.Union (record { 0 = n })) vis).state
+      → Performs oracle (declared_effect grown site.scope name Types (def.Union (record { 0 = n })) vis).tasks (declared_effect grown site.scope name Types (def.Union (record { 0 = n })) vis).state t → t.session ≡ session
       → Handled oracle s t site item []
-  handled_union kind numbered after = handled_declared UnionItem (λ i. def.Union (record { 0 = i })) Types (λ effect does. subst (λ k. Handles oracle grown site item k effect) (sym kind) does) numbered after
+  handled_union kind numbered after same = handled_declared UnionItem (λ i. def.Union (record { 0 = i })) Types (λ effect does. subst (λ k. Handles oracle grown site item k effect) (sym kind) does) numbered after same
 
   pub handled_enum : item.kind ≡ Enum name raw → session.item EnumItem n ≡ Some (in_module site.scope position)
-      → t ≡ performed (declared_effect grown site.scope name Types (def.Enum (record { 0 = n })) vis).tasks (declared_effect grown site.scope name Types (def.Enum (record { 0 = n })) vis).state
+      → Performs oracle (declared_effect grown site.scope name Types (def.Enum (record { 0 = n })) vis).tasks (declared_effect grown site.scope name Types (def.Enum (record { 0 = n })) vis).state t → t.session ≡ session
       → Handled oracle s t site item []
-  handled_enum kind numbered after = handled_declared EnumItem (λ i. def.Enum (record { 0 = i })) Types (λ effect does. subst (λ k. Handles oracle grown site item k effect) (sym kind) does) numbered after
+  handled_enum kind numbered after same = handled_declared EnumItem (λ i. def.Enum (record { 0 = i })) Types (λ effect does. subst (λ k. Handles oracle grown site item k effect) (sym kind) does) numbered after same
 
   pub handled_function : item.kind ≡ Function name raw → session.item FunctionItem n ≡ Some (in_container site.container position)
-      → t ≡ performed (declared_effect grown site.scope name Values (def.Function (record { 0 = n })) vis).tasks (declared_effect grown site.scope name Values (def.Function (record { 0 = n })) vis).state
+      → Performs oracle (declared_effect grown site.scope name Values (def.Function (record { 0 = n })) vis).tasks (declared_effect grown site.scope name Values (def.Function (record { 0 = n })) vis).state t → t.session ≡ session
       → Handled oracle s t site item []
-  handled_function kind numbered after = handled_declared FunctionItem (λ i. def.Function (record { 0 = i })) Values (λ effect does. subst (λ k. Handles oracle grown site item k effect) (sym kind) does) numbered after
+  handled_function kind numbered after same = handled_declared FunctionItem (λ i. def.Function (record { 0 = i })) Values (λ effect does. subst (λ k. Handles oracle grown site item k effect) (sym kind) does) numbered after same
 
   pub handled_static : item.kind ≡ Static name raw → session.item StaticItem n ≡ Some (in_container site.container position)
-      → t ≡ performed (declared_effect grown site.scope name Values (def.Static (record { 0 = n })) vis).tasks (declared_effect grown site.scope name Values (def.Static (record { 0 = n })) vis).state
+      → Performs oracle (declared_effect grown site.scope name Values (def.Static (record { 0 = n })) vis).tasks (declared_effect grown site.scope name Values (def.Static (record { 0 = n })) vis).state t → t.session ≡ session
       → Handled oracle s t site item []
-  handled_static kind numbered after = handled_declared StaticItem (λ i. def.Static (record { 0 = i })) Values (λ effect does. subst (λ k. Handles oracle grown site item k effect) (sym kind) does) numbered after
+  handled_static kind numbered after same = handled_declared StaticItem (λ i. def.Static (record { 0 = i })) Values (λ effect does. subst (λ k. Handles oracle grown site item k effect) (sym kind) does) numbered after same
 
   pub handled_trait : item.kind ≡ Trait name raw → session.item TraitItem n ≡ Some (in_module site.scope position)
-      → t ≡ performed (declared_effect grown site.scope name Types (def.Trait (record { 0 = n })) vis).tasks (declared_effect grown site.scope name Types (def.Trait (record { 0 = n })) vis).state
+      → Performs oracle (declared_effect grown site.scope name Types (def.Trait (record { 0 = n })) vis).tasks (declared_effect grown site.scope name Types (def.Trait (record { 0 = n })) vis).state t → t.session ≡ session
       → Handled oracle s t site item []
-  handled_trait kind numbered after = handled_declared TraitItem (λ i. def.Trait (record { 0 = i })) Types (λ effect does. subst (λ k. Handles oracle grown site item k effect) (sym kind) does) numbered after
+  handled_trait kind numbered after same = handled_declared TraitItem (λ i. def.Trait (record { 0 = i })) Types (λ effect does. subst (λ k. Handles oracle grown site item k effect) (sym kind) does) numbered after same
 
   pub handled_type_alias : item.kind ≡ TypeAlias name raw → session.item TypeAliasItem n ≡ Some (in_container site.container position)
-      → t ≡ performed (declared_effect grown site.scope name Types (def.TypeAlias (record { 0 = n })) vis).tasks (declared_effect grown site.scope name Types (def.TypeAlias (record { 0 = n })) vis).state
+      → Performs oracle (declared_effect grown site.scope name Types (def.TypeAlias (record { 0 = n })) vis).tasks (declared_effect grown site.scope name Types (def.TypeAlias (record { 0 = n })) vis).state t → t.session ≡ session
       → Handled oracle s t site item []
-  handled_type_alias kind numbered after = handled_declared TypeAliasItem (λ i. def.TypeAlias (record { 0 = i })) Types (λ effect does. subst (λ k. Handles oracle grown site item k effect) (sym kind) does) numbered after
+  handled_type_alias kind numbered after same = handled_declared TypeAliasItem (λ i. def.TypeAlias (record { 0 = i })) Types (λ effect does. subst (λ k. Handles oracle grown site item k effect) (sym kind) does) numbered after same
 
   pub handled_const : item.kind ≡ Const (Some name) raw → session.item ConstItem n ≡ Some (in_container site.container position)
-      → t ≡ performed (declared_effect grown site.scope name Values (def.Const (record { 0 = n })) vis).tasks (declared_effect grown site.scope name Values (def.Const (record { 0 = n })) vis).state
+      → Performs oracle (declared_effect grown site.scope name Values (def.Const (record { 0 = n })) vis).tasks (declared_effect grown site.scope name Values (def.Const (record { 0 = n })) vis).state t → t.session ≡ session
       → Handled oracle s t site item []
-  handled_const kind numbered after = handled_declared ConstItem (λ i. def.Const (record { 0 = i })) Values (λ effect does. subst (λ k. Handles oracle grown site item k effect) (sym kind) does) numbered after
+  handled_const kind numbered after same = handled_declared ConstItem (λ i. def.Const (record { 0 = i })) Values (λ effect does. subst (λ k. Handles oracle grown site item k effect) (sym kind) does) numbered after same
 
 -- Something was recorded in the module, and nothing put
 
@@ -194,7 +205,7 @@ module _ (oracle : Oracle) (s t : State) (session : Session) (site : Site) (item
       record {
         effect = effect;
         handled = (session, grows, subst (λ k. Handles oracle kept site item k effect) (sym kind) (n, numbered ∙ ap (λ p. Some (in_container site.container p)) placed, refl));
-        done = record { puts = []; tasks = refl; are_puts = tt; after = after };
+        done = record { puts = []; tasks = refl; performs = subst (λ u. Performs oracle [] effect.state u) (sym after) (performs_none effect.state); session = ap (λ (u : State). u.session) after };
       }
 
   pub handled_impl : (of_trait : Bool) → item.kind ≡ Impl of_trait → session.item ImplItem n ≡ Some (in_module site.scope position)
@@ -204,7 +215,7 @@ module _ (oracle : Oracle) (s t : State) (session : Session) (site : Site) (item
       record {
         effect = effect;
         handled = (session, grows, subst (λ k. Handles oracle kept site item k effect) (sym kind) (n, numbered ∙ ap (λ p. Some (in_module site.scope p)) placed, refl));
-        done = record { puts = []; tasks = refl; are_puts = tt; after = after };
+        done = record { puts = []; tasks = refl; performs = subst (λ u. Performs oracle [] effect.state u) (sym after) (performs_none effect.state); session = ap (λ (u : State). u.session) after };
       }
 
   -- an extern block, whose items are walked in the same module
@@ -220,8 +231,8 @@ module _ (oracle : Oracle) (s t : State) (session : Session) (site : Site) (item
           puts = [];
           tasks = ap (λ d. walk (record site { container = contained.ExternBlock (record { 0 = n }); directory = d }) children) (sym same_directory)
               ∙ ap (λ l. walk (record site { container = contained.ExternBlock (record { 0 = n }); directory = directory }) l) (sym same_items);
-          are_puts = tt;
-          after = after;
+          performs = subst (λ u. Performs oracle [] effect.state u) (sym after) (performs_none effect.state);
+          session = ap (λ (u : State). u.session) after;
         };
       }
 

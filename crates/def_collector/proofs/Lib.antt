@@ -1,3 +1,14 @@
+pub mod ChainsLemmas
+pub mod SoundLemmas
+pub mod BroughtLemmas
+pub mod LargerLemmas
+pub mod OpenedLemmas
+pub mod OwnLemmas
+pub mod TargetsLemmas
+pub mod TasksLemmas
+pub mod StandsLemmas
+pub mod EdgeLemmas
+pub mod BegunLemmas
 pub mod StepsLemmas
 pub mod LevelsLemmas
 pub mod WorkLemmas
@@ -7,6 +18,8 @@ pub mod WaitingLemmas
 pub mod ImportsLemmas
 pub mod PassLemmas
 pub mod RecordLemmas
+pub mod StartLemmas
+pub mod StartFacts
 pub mod TriesLemmas
 pub mod FinishLemmas
 pub mod ItemsLemmas
@@ -20,3 +33,4 @@ pub mod RecordedLemmas
 pub mod EveryNamespaceLemmas
 pub mod HeadlineLemmas
 pub mod CollectLemmas
+pub mod GlobsLemmas

@@ -24,7 +24,7 @@ use Rattle.def_collector.specs.declared.diagnostics.DefDiagnosticKind.TheVariant
 use Rattle.def_collector.specs.Imports.{ImportStep, of_pending, of_partial}
 use Rattle.def_collector.specs.Items.{add_module, diagnostic, file_tree, module_effect, module_item, node_at, outline_found, outline_item, tree_cfg, Handles, VisitsAt, VisitsNode, Visits, Declares}
 use Rattle.def_collector.specs.Report.{NoneFailed}
-use Rattle.def_collector.specs.State.{State, Effect, Moment, Site, Task, Enter, Visit, Put, reported}
+use Rattle.def_collector.specs.State.{State, Effect, Moment, Site, Task, Enter, Visit, Put, reported, AddEdge}
 use Rattle.def_collector.specs.Steps.{Does, Reaches, Step, here, one, join, performs, copies, rearranges, records}
 use Rattle.item_tree.specs.declared.items.RawVisibility.{RawVisibility}
 use Rattle.def_ids.specs.Session.{ItemKind, FunctionItem, UnionItem, EnumItem, ConstItem, StaticItem, TraitItem, TypeAliasItem}
@@ -146,6 +146,7 @@ does_none_failed : (oracle : Oracle) (s : State) (task : Task) (effect : Effect)
 does_none_failed oracle s (Enter at directory) effect does none = subst (λ (e : Effect). NoneFailed e.state.map) (sym does) none
 does_none_failed oracle s (Visit site id) effect does none = (visits_leaves oracle s site id effect does).none_failed none
 does_none_failed oracle s (Put at entry) effect does none = subst (λ (e : Effect). NoneFailed e.state.map) (sym does) none
+does_none_failed oracle s (AddEdge source edge) effect does none = subst (λ (e : Effect). NoneFailed e.state.map) (sym does) none
 
 step_none_failed : {oracle : Oracle} (a b : Moment) → Step oracle a b → NoneFailed a.state.map → NoneFailed b.state.map
 step_none_failed {oracle} a b (performs task rest effect first does is) none = subst (λ (m : Moment). NoneFailed m.state.map) (sym is) (does_none_failed oracle a.state task effect does none)

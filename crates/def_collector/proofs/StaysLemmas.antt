@@ -11,7 +11,7 @@ use Rattle.def_bindings.specs.PutsLaws.{explicit_stays-put_entry, explicit_stays
 use Rattle.def_map.specs.Oracle.{Oracle}
 use Rattle.def_collector.specs.Imports.{ImportStep, of_pending, of_partial}
 use Rattle.def_collector.specs.Settled.{ExplicitStays}
-use Rattle.def_collector.specs.State.{State, Effect, Moment, Task, Enter, Visit, Put, order}
+use Rattle.def_collector.specs.State.{State, Effect, Moment, Task, Enter, Visit, Put, order, AddEdge}
 use Rattle.def_collector.specs.Steps.{Copies, Does, Reaches, Step, performs, copies, rearranges, records}
 use Rattle.def_collector.proofs.RunsLemmas.{along, visits_leaves}
 
@@ -37,6 +37,8 @@ does_keep oracle s (Enter at directory) effect does = same_keeps s.content effec
 does_keep oracle s (Visit site id) effect does = same_keeps s.content effect.state.content (visits_leaves oracle s site id effect does).content
 does_keep oracle s (Put place entry) effect does =
     subst (λ (e : Effect). KeepsExplicit s.content e.state.content) (sym does) (λ at name ns held there explicit. explicit_stays-put_entry (order s) place entry s.content at name ns held there explicit)
+does_keep oracle s (AddEdge source edge) effect does =
+    subst (λ (e : Effect). KeepsExplicit s.content e.state.content) (sym does) (λ at name ns held there explicit. there)
 
 step_keeps : {oracle : Oracle} (a b : Moment) → Step oracle a b → ExplicitStays a b
 step_keeps {oracle} a b (performs task rest effect first does is) = subst (λ (m : Moment). ExplicitStays a m) (sym is) (does_keep oracle a.state task effect does)

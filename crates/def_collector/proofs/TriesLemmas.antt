@@ -1,5 +1,5 @@
 -- Turns of single imports, and what is known once none had one.
-use Rattle.std.proofs.Common.{◌≡◌, ◌<◌, ℕ, Bool, false, true, not, ◌||◌, List, ◌∷◌, ◌++◌, map, option_map, Option, Some, None, Vec, IsPermutation, slice_get, slice_set, get_or, refl, sym, ap, subst, vec_len, arith, ◌∙◌}
+use Rattle.std.proofs.Common.{◌≡◌, ◌<◌, ◌+◌, ◌*◌, length, sum_by, ℕ, Bool, false, true, not, ◌||◌, List, ◌∷◌, ◌++◌, map, option_map, Option, Some, None, Vec, IsPermutation, slice_get, slice_set, get_or, refl, sym, ap, subst, vec_len, arith, ◌∙◌}
 use Rattle.std.proofs.lemmas.List.{map-append}
 use Rattle.std.proofs.lemmas.List.Elements.{All-contains, All-map}
 use Rattle.std.proofs.lemmas.List.Sorted.{IsPermutation-middle}
@@ -12,9 +12,9 @@ use Rattle.def_collector.specs.declared.collector.DefCollector.{DefCollector}
 use Rattle.def_collector.specs.declared.collector.directive.ImportDirective.{ImportDirective}
 use Rattle.def_collector.specs.declared.collector.directive.NamespaceSet.{NamespaceSet}
 use Rattle.def_collector.specs.declared.collector.directive.PartialDirective.{PartialDirective}
-use Rattle.def_collector.specs.Collector.{IsUnready, IsUnreadyAgain, Moves, kept_of, ns_set, partial_of, pending_of, performed, state_of, turns_left, waiting}
-use Rattle.def_collector.specs.Imports.{NoneReady, after_pending, answer_now, bound_name, import_vis, is_missing, is_ready, is_ready_again, kept_after, kept_list, named_entries, no_namespaces}
-use Rattle.def_collector.specs.State.{State, PartialImport, PendingImport, order}
+use Rattle.def_collector.specs.Collector.{IsUnready, IsUnreadyAgain, Moves, Performs, kept_of, missing_from, ns_set, partial_of, pending_of, state_of, turns_left, waiting}
+use Rattle.def_collector.specs.Imports.{NoneReady, after_pending, answer_now, is_missing, is_ready, is_ready_again, kept_after, kept_list, no_namespaces, record_effect}
+use Rattle.def_collector.specs.State.{State, PartialImport, PendingImport}
 use Rattle.def_collector.proofs.ImportsLemmas.{moves_partial, moves_pending}
 use Rattle.def_collector.proofs.WaitingLemmas.{Around, around, waiting-all}
 
@@ -48,6 +48,24 @@ replaced_partial xs i d w (Some r) =
     let next : PartialDirective = record { directive = d.directive; recorded = r } in
     ap (map partial_of) (w.replaced next) ∙ map-append partial_of w.before (next ∷ w.after)
 
+turns_by : (s t : State) → t.imports ≡ s.imports → t.partial ≡ s.partial → turns_left t ≡ turns_left s
+turns_by s t imports partial = λ i. 5 * length (imports i) + sum_by (λ p. 1 + missing_from p.recorded) (partial i)
+
+-- what a recorded import puts leaves the turns
+pub turns_kept : (session : Interner) (old new : DefCollector) → new ≡ record old { table = new.table; targets = new.targets } → turns_left (state_of new session) ≡ turns_left (state_of old session)
+turns_kept session old new frame =
+    turns_by (state_of old session) (state_of new session)
+    (ap (λ (x : DefCollector). map pending_of (waiting x.unresolved_imports.items)) frame)
+    (ap (λ (x : DefCollector). map partial_of (waiting x.indeterminate_imports.items)) frame)
+
+-- the same, where partial imports were changed before
+pub turns_partial : (session : Interner) (old new : DefCollector) (entries : Vec (Option PartialDirective) Global) → new ≡ record old { indeterminate_imports = entries; table = new.table; targets = new.targets }
+    → turns_left (state_of new session) ≡ turns_left (record (state_of old session) { partial = map partial_of (waiting entries.items) })
+turns_partial session old new entries frame =
+    turns_by (record (state_of old session) { partial = map partial_of (waiting entries.items) }) (state_of new session)
+    (ap (λ (x : DefCollector). map pending_of (waiting x.unresolved_imports.items)) frame)
+    (ap (λ (x : DefCollector). map partial_of (waiting x.indeterminate_imports.items)) frame)
+
 module _ (oracle : Oracle) (session : Interner) (old new : DefCollector) where
   -- a waiting import left its place, stays partial if it may be recorded again, and was recorded
   pub moved_unresolved : (kept : DefCollector) (entries : Vec (Option ImportDirective) Global) (i : ℕ) (d : ImportDirective) (answer : ResolvePathResult) (missing : Bool) (recorded : Option NamespaceSet)
@@ -58,10 +76,11 @@ module _ (oracle : Oracle) (session : Interner) (old new : DefCollector) where
       → kept_of recorded ≡ kept_after no_namespaces answer
       → kept ≡ record old { unresolved_imports = entries; indeterminate_imports = kept.indeterminate_imports }
       → map partial_of (waiting kept.indeterminate_imports.items) ≡ map partial_of (waiting old.indeterminate_imports.items) ++ kept_list (pending_of d) (kept_of recorded)
-      → state_of new session ≡ performed (named_entries (order (state_of kept session)) (pending_of d) (import_vis oracle (state_of kept session) (pending_of d)) answer (bound_name d.import.now)) (state_of kept session)
+      → (let effect = record_effect oracle (state_of kept session) (pending_of d) answer in Performs oracle effect.tasks effect.state (state_of new session))
+      → turns_left (state_of new session) ≡ turns_left (state_of kept session)
       → Moves oracle (state_of old session) (state_of new session)
-  moved_unresolved kept entries i d answer missing recorded here gives asks was left keeps frame more became =
-      moves_pending oracle s (state_of new session) pending rest waits ready after
+  moved_unresolved kept entries i d answer missing recorded here gives asks was left keeps frame more became turns =
+      moves_pending oracle s (state_of new session) pending rest waits ready after (turns ∙ ap turns_left same)
     where
       s : State
       s = state_of old session
@@ -93,10 +112,12 @@ module _ (oracle : Oracle) (session : Interner) (old new : DefCollector) where
           ∙ ap (λ l. record s { imports = l; partial = map partial_of (waiting kept.indeterminate_imports.items) }) imports
           ∙ ap (λ l. record s { imports = rest; partial = l }) partial
 
-      after : state_of new session ≡ performed (named_entries (order s) pending (import_vis oracle s pending) (answer_now oracle s pending) (bound_name pending.import)) (after_pending s pending rest (answer_now oracle s pending))
-      after = became
-          ∙ ap (λ u. performed (named_entries (order u) pending (import_vis oracle u pending) answer (bound_name pending.import)) u) same
-          ∙ ap (λ a. performed (named_entries (order s) pending (import_vis oracle s pending) a (bound_name pending.import)) (after_pending s pending rest (answer_now oracle s pending))) gives
+      -- an import was recorded in this state, with what its path gave
+      Recorded : State → ResolvePathResult → Type 0
+      Recorded u a = Performs oracle (record_effect oracle u pending a).tasks (record_effect oracle u pending a).state (state_of new session)
+
+      after : Recorded (after_pending s pending rest (answer_now oracle s pending)) (answer_now oracle s pending)
+      after = subst (λ a. Recorded (after_pending s pending rest (answer_now oracle s pending)) a) gives (subst (λ u. Recorded u answer) same became)
 
   -- a partial import stays in its place if it may be recorded again, else left it, and was recorded
   pub moved_indeterminate : (entries : List (Option PartialDirective)) (i : ℕ) (d : PartialDirective) (answer : ResolvePathResult) (ready : Bool) (recorded : Option NamespaceSet) (entry : Option PartialDirective)
@@ -107,10 +128,11 @@ module _ (oracle : Oracle) (session : Interner) (old new : DefCollector) where
       → entry ≡ option_map (λ r. record { directive = d.directive; recorded = r }) recorded
       → kept_of recorded ≡ kept_after (ns_set d.recorded) answer
       → (let u : State = record (state_of old session) { partial = map partial_of (waiting entries) } in
-      state_of new session ≡ performed (named_entries (order u) (pending_of d.directive) (import_vis oracle u (pending_of d.directive)) answer (bound_name d.directive.import.now)) u)
+      let effect = record_effect oracle u (pending_of d.directive) answer in Performs oracle effect.tasks effect.state (state_of new session))
+      → turns_left (state_of new session) ≡ turns_left (record (state_of old session) { partial = map partial_of (waiting entries) })
       → Moves oracle (state_of old session) (state_of new session)
-  moved_indeterminate entries i d answer ready recorded entry here gives asks was put becomes keeps became =
-      moves_partial oracle s (state_of new session) (map partial_of w.before) (map partial_of w.after) (partial_of d) stands again after
+  moved_indeterminate entries i d answer ready recorded entry here gives asks was put becomes keeps became turns =
+      moves_partial oracle s (state_of new session) (map partial_of w.before) (map partial_of w.after) (partial_of d) stands again after (turns ∙ ap (λ l. turns_left (record s { partial = l })) partial)
     where
       s : State
       s = state_of old session
@@ -135,10 +157,12 @@ module _ (oracle : Oracle) (session : Interner) (old new : DefCollector) where
           ∙ replaced_partial old.indeterminate_imports.items i d w recorded
           ∙ ap (λ k. map partial_of w.before ++ (kept_list pending k ++ map partial_of w.after)) (keeps ∙ ap (kept_after (ns_set d.recorded)) gives)
 
-      after : state_of new session ≡ performed (named_entries (order s) pending (import_vis oracle s pending) (answer_now oracle s pending) (bound_name pending.import)) (record s { partial = kept })
-      after = became
-          ∙ ap (λ l. performed (named_entries (order s) pending (import_vis oracle s pending) answer (bound_name pending.import)) (record s { partial = l })) partial
-          ∙ ap (λ a. performed (named_entries (order s) pending (import_vis oracle s pending) a (bound_name pending.import)) (record s { partial = kept })) gives
+      -- an import was recorded in the state with these partial imports, with what its path gave
+      Recorded : List PartialImport → ResolvePathResult → Type 0
+      Recorded l a = Performs oracle (record_effect oracle (record s { partial = l }) pending a).tasks (record_effect oracle (record s { partial = l }) pending a).state (state_of new session)
+
+      after : Recorded kept (answer_now oracle s pending)
+      after = subst (λ a. Recorded kept a) gives (subst (λ l. Recorded l answer) partial became)
 
 module _ (oracle : Oracle) (session : Interner) where
   -- no import is ready where none of those that wait is, and none of the partial ones is again

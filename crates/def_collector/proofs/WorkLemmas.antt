@@ -29,9 +29,9 @@ use Rattle.def_map.specs.declared.module_data.ModuleOrigin.TheVariants as origin
 use Rattle.def_map.specs.Oracle.{Oracle}
 use Rattle.def_parts.specs.Directories.{Directory, FoundFile, descend, files_of, resolve_declaration}
 use Rattle.def_collector.specs.declared.diagnostics.DefDiagnosticKind.TheVariants.{UnresolvedModule}
-use Rattle.def_collector.specs.Collector.{ArePuts, Handled, Opened, behind, block_at, block_items, file_opened, item_opened, item_work, kind_opened, module_opened, opened_work, performed, task_work, work, work_behind}
+use Rattle.def_collector.specs.Collector.{Handled, Opened, behind, block_at, block_items, file_opened, item_opened, item_work, kind_opened, module_opened, opened_work, task_work, work, work_behind}
 use Rattle.def_collector.specs.Items.{Handles, ctor_task, diagnostic, file_tree, inline_contents, inner_site, module_effect, module_item, name_text, next_module, node_at, outline_found, outline_item, put_declared, top_items, tree_cfg, visits, walk}
-use Rattle.def_collector.specs.State.{State, Effect, Site, Task, Enter, Visit, Put, reported}
+use Rattle.def_collector.specs.State.{State, Effect, Site, Task, Enter, Visit, Put, AddEdge, reported}
 use Rattle.def_collector.specs.Steps.{put_effect}
 use Rattle.def_collector.proofs.LevelsLemmas.{IsDeeper, declaration_deeper, descend_deeper}
 
@@ -73,6 +73,14 @@ block_later t id item there k d within =
     child_after t.items t.top id.0 k item (get_or (block_items item.kind) k d) t.sound there
     (block_children item.kind k (get_or (block_items item.kind) k d) (slice_get-get_or (block_items item.kind) k d within))
 
+-- each of these tasks is a put
+abbrev ArePuts : List Task → Type 0
+ArePuts [] = Unit {0}
+ArePuts (Put at entry ∷ tasks) = ArePuts tasks
+ArePuts (Visit site id ∷ tasks) = ⊥
+ArePuts (Enter at directory ∷ tasks) = ⊥
+ArePuts (AddEdge source edge ∷ tasks) = ⊥
+
 module _ (oracle : Oracle) (texts : Name → List ℕ) where
   -- visits of a list
   pub visits_work : (site : Site) (ids : List ModItemId) → work oracle texts (visits site ids) ≡ sum_by (item_work oracle texts (33 - site.directory.depth) site.tree site.directory) ids
@@ -92,6 +100,7 @@ module _ (oracle : Oracle) (texts : Name → List ℕ) where
   puts_work (Put at entry ∷ tasks) puts = let both = sum_by-cons (task_work oracle texts) (Put at entry) tasks in let rest = puts_work tasks puts in omega (arith, both, rest)
   puts_work (Visit site id ∷ tasks) puts = absurd puts
   puts_work (Enter at directory ∷ tasks) puts = absurd puts
+  puts_work (AddEdge source edge ∷ tasks) puts = absurd puts
 
   -- the work of the list that is opened, where it lies
   abbrev pub opened_total : Option Opened → ℕ
@@ -328,13 +337,6 @@ handles_session oracle s site item (Static name raw) effect does = ap (λ (e : E
 handles_session oracle s site item (Trait name raw) effect does = ap (λ (e : Effect). e.state.session) does.2
 handles_session oracle s site item (TypeAlias name raw) effect does = ap (λ (e : Effect). e.state.session) does.2
 
--- so do puts
-performed_session : (tasks : List Task) (s : State) → (performed tasks s).session ≡ s.session
-performed_session [] s = refl
-performed_session (Put at entry ∷ tasks) s = performed_session tasks (put_effect s at entry).state
-performed_session (Visit site id ∷ tasks) s = performed_session tasks s
-performed_session (Enter at directory ∷ tasks) s = performed_session tasks s
-
 less_at : (oracle : Oracle) (texts : Name → List ℕ) (site : Site) (id : ModItemId) (item : ItemNode) (effect : Effect) (puts inner : List Task) → node_at oracle site.tree id ≡ Some item → effect.tasks ≡ puts ++ inner
     → IsBounded oracle texts site effect (kind_opened oracle texts site.tree site.directory item item.kind) (block_items item.kind)
     → 1 + work oracle texts inner < item_work oracle texts (33 - site.directory.depth) site.tree site.directory id
@@ -351,7 +353,7 @@ pub handled_less : (oracle : Oracle) (s t : State) (site : Site) (id : ModItemId
 handled_less oracle s t site id item inner texts found handled known =
     let grown : State = record s { session = handled.handled.0 } in
     let same : name_text handled.handled.0 ≡ texts =
-    ap name_text (sym (ap (λ (u : State). u.session) handled.done.after ∙ performed_session handled.done.puts handled.effect.state ∙ handles_session oracle grown site item item.kind handled.effect handled.handled.2)) ∙ known in
+    ap name_text (sym (handled.done.session ∙ handles_session oracle grown site item item.kind handled.effect handled.handled.2)) ∙ known in
     subst (λ words. 1 + work oracle words inner < task_work oracle words (Visit site id)) same
     (less_at oracle (name_text handled.handled.0) site id item handled.effect handled.done.puts inner found handled.done.tasks (handles_bounded oracle grown site item item.kind handled.effect handled.handled.2))
 

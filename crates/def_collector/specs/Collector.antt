@@ -1,5 +1,5 @@
 -- What the collector's parts stand for.
-use Rattle.std.specs.Prelude.{◌≡◌, ◌<◌, ℕ, zero, suc, ◌+◌, ◌-◌, ◌*◌, Bool, true, false, cond, not, List, [], ◌∷◌, ◌++◌, length, map, filter_map, drop, sum_by, Option, Some, None, Result, Ok, Err, option_map, unwrap_or, slice_get, Contains}
+use Rattle.std.specs.Prelude.{◌≡◌, ◌<◌, ℕ, zero, suc, ◌+◌, ◌-◌, ◌*◌, ◌^◌, Bool, true, false, cond, not, List, [], ◌∷◌, ◌++◌, length, map, filter_map, drop, sum_by, Option, Some, None, Result, Ok, Err, option_map, unwrap_or, slice_get, Contains}
 use Rattle.item_tree.specs.declared.ids.ModItemId.{ModItemId}
 use Rattle.item_tree.specs.declared.ids.TreeId.{TreeId}
 use Rattle.item_tree.specs.declared.items.ItemNode.{ItemNode}
@@ -12,7 +12,11 @@ use Rattle.item_tree.specs.declared.items.ModItemKind.{ModItemKind}
 use Rattle.item_tree.specs.Attrs.{path_attr}
 use Rattle.def_ids.specs.Ids.{is_same_module}
 use Rattle.def_ids.specs.declared.ids.ModuleId.{ModuleId}
+use Rattle.def_bindings.specs.declared.bindings.EdgeTo.{EdgeTo}
+use Rattle.def_bindings.specs.declared.bindings.Entry.{Entry}
+use Rattle.def_bindings.specs.declared.visibility.Visibility.{Visibility}
 use Rattle.def_ids.specs.declared.interner.Interner.{Interner}
+use Rattle.def_ids.specs.Equality.{glob_eq}
 use Rattle.def_ids.specs.Session.{session_of}
 use Rattle.def_map.specs.declared.local_def_map.LocalDefMap.{LocalDefMap}
 use Rattle.def_map.specs.declared.def_map.DefMap.{DefMap}
@@ -34,14 +38,17 @@ use Rattle.def_collector.specs.declared.collector.modules.FoundFile.{FoundFile a
 use Rattle.def_collector.specs.declared.collector.walk.Frame.{Frame}
 use Rattle.def_collector.specs.declared.collector.walk.Site.{Site as SiteInCode}
 use Rattle.def_collector.specs.declared.outcome.Collected.{Collected}
+use Rattle.def_collector.specs.declared.outcome.Edge.{Edge}
 use Rattle.def_collector.specs.Imports.{answer_now, bound_name, is_ready, is_ready_again}
 use Rattle.def_parts.specs.Directories.{Directory, FoundFile, descend, files_of, resolve_declaration}
 use Rattle.indexmap.specs.IndexMap.{get}
 use Rattle.std.specs.Option.{option_map_or}
+use Rattle.def_collector.specs.Globs.{Travels}
 use Rattle.def_collector.specs.Items.{HandlesInSession, file_tree, node_at, top_items, visits, walk}
-use Rattle.def_collector.specs.Report.{Answer, IsOutcome, NoneFailed, marked, report}
-use Rattle.def_collector.specs.State.{Setting, State, NsSet, PendingImport, PartialImport, Site, Task, Enter, Visit, Put, Effect, entered}
-use Rattle.def_collector.specs.Steps.{Leads, put_effect}
+use Rattle.def_collector.specs.Report.{Answer, IsOutcome, NoneFailed, listed_edge, marked, report}
+use Rattle.def_collector.specs.State.{Setting, State, NsSet, PendingImport, PartialImport, Site, Task, Enter, Visit, Put, AddEdge, Effect, entered, order, with_content}
+use Rattle.def_collector.specs.Closed.{AreFollowed, KeepsSound, target_of}
+use Rattle.def_collector.specs.Steps.{Leads, Runs}
 
 -- what a run is given
 abbrev pub setting_of : Oracle → DefMap → TreeId → Option LocalView → Setting
@@ -89,8 +96,10 @@ state_of c session =
       session = session_of session;
       map = map_state c.def_map;
       content = bound_by c.table;
+      targets = get glob_eq c.targets;
       local = local_view c.local_def_map;
       outer = option_map (λ l. local_view l.now) c.crate_local;
+      is_proc_macro = c.is_proc_macro;
       directories = directories_of c.mod_dirs;
       imports = map pending_of (waiting c.unresolved_imports.items);
       partial = map partial_of (waiting c.indeterminate_imports.items);
@@ -101,34 +110,28 @@ state_of c session =
 abbrev pub site_of : SiteInCode → Site
 site_of site = record { scope = site.module_id; container = site.container; tree = site.tree_id; directory = site.dir.now }
 
--- Tasks that only put
+-- these tasks are performed, whatever is to be done behind them; names stay sound where the edges of globs are among the tasks
+pub record Performs (oracle : Oracle) (tasks : List Task) (s t : State) : Type 0 where
+  pub runs : (rest : List Task) → Runs oracle (tasks ++ rest) s rest t
+  pub keeps : AreFollowed (target_of s.map.id s.targets) tasks → KeepsSound tasks s t
 
--- each of these tasks is a put
-abbrev pub ArePuts : List Task → Type 0
-ArePuts [] = Unit {0}
-ArePuts (Put at entry ∷ tasks) = ArePuts tasks
-ArePuts (Visit site id ∷ tasks) = ⊥
-ArePuts (Enter at directory ∷ tasks) = ⊥
+-- a list was put in a module, what changed has travelled along the edges, and nothing else changed
+pub record Updated (at : ModuleId) (list : List (Entry Visibility)) (s t : State) : Type 0 where
+  pub travels : Travels (order s) at list s.content t.content
+  pub rest : t ≡ with_content s t.content
 
--- the state once the puts among these tasks are performed
-abbrev pub performed : List Task → State → State
-performed [] s = s
-performed (Put at entry ∷ tasks) s = performed tasks (put_effect s at entry).state
-performed (Visit site id ∷ tasks) s = performed tasks s
-performed (Enter at directory ∷ tasks) s = performed tasks s
-
--- what a rule leads to was done up to these inner tasks: all others are puts, and were performed
-pub record IsDone (effect : Effect) (t : State) (inner : List Task) : Type 0 where
+-- what a rule leads to was done up to these inner tasks: the others are puts, were performed, and left the session
+pub record IsDone (oracle : Oracle) (effect : Effect) (t : State) (inner : List Task) : Type 0 where
   pub puts : List Task
   pub tasks : effect.tasks ≡ puts ++ inner
-  pub are_puts : ArePuts puts
-  pub after : t ≡ performed puts effect.state
+  pub performs : Performs oracle puts effect.state t
+  pub session : t.session ≡ effect.state.session
 
 -- an item was handled, and what it puts was put: its own items are left
 pub record Handled (oracle : Oracle) (s t : State) (site : Site) (item : ItemNode) (inner : List Task) : Type 0 where
   pub effect : Effect
   pub handled : HandlesInSession oracle s site item effect
-  pub done : IsDone effect t inner
+  pub done : IsDone oracle effect t inner
 
 -- the imports of a `use` item as they wait
 abbrev pub queued : ModuleId → Written → List UseImport → List PendingImport
@@ -234,6 +237,7 @@ abbrev pub task_work : Oracle → (Name → List ℕ) → Task → ℕ
 task_work oracle texts (Visit site id) = item_work oracle texts (33 - site.directory.depth) site.tree site.directory id
 task_work oracle texts (Put at entry) = 0
 task_work oracle texts (Enter at directory) = 0
+task_work oracle texts (AddEdge source edge) = 0
 
 -- the work of a list of tasks
 abbrev pub work : Oracle → (Name → List ℕ) → List Task → ℕ
@@ -268,6 +272,10 @@ IsUnreadyAgain oracle s entries index =
     (d : PartialDirective) → slice_get entries index ≡ Some (Some d) → is_ready_again (ns_set d.recorded) (answer_now oracle s (pending_of d.directive)) ≡ false
 
 -- The end
+
+-- an edge of a table with its source, as it is answered
+abbrev pub shown_edge : ModuleId × EdgeTo Visibility → Edge
+shown_edge e = listed_edge e.0 e.1
 
 -- the import that an entry holds, if it is still there
 abbrev pub left_in : Option ImportDirective → List PendingImport

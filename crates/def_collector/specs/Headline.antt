@@ -1,7 +1,9 @@
 -- The headline: what `collect_defs` answers ends a run of the machine.
 use Rattle.std.specs.Prelude.{◌≡◌, []}
 use Rattle.def_ids.specs.Session.{Session}
-use Rattle.def_collector.specs.State.{Setting, Moment}
+use Rattle.def_bindings.specs.Closure.{IsClosed, IsCoherent}
+use Rattle.def_collector.specs.Closed.{none_left_out, target_of}
+use Rattle.def_collector.specs.State.{Setting, Moment, order}
 use Rattle.def_collector.specs.Steps.{Reaches}
 use Rattle.def_collector.specs.Start.{start}
 use Rattle.def_collector.specs.Settled.{IsDeclared, ExplicitStays, IsSettled, HasEveryNamespace}
@@ -20,12 +22,16 @@ pub record IsOnRun (w : Setting) (before : Session) (end a b : Moment) : Type 0 
   pub goes_on : Reaches w.oracle a b
   pub ends : Reaches w.oracle b end
 
--- What is answered ends a run in which every reached item is handled, and has no import left over that resolves;
+-- What is answered ends a run in which every reached item is handled, is closed and coherent along the recorded globs, and has no import left over that resolves;
 -- its diagnostics are the run's and those of the leftovers.
 pub record Answers (w : Setting) (before after : Session) (answer : Answer) : Type 0 where
   pub run : Run w before
   pub session : run.end.state.session ≡ after
   pub answered : IsAnswerOf run.end.state answer
+  -- what a module binds and an importer of it sees, the importer binds too, along each recorded edge
+  pub closed : IsClosed (order run.end.state) none_left_out answer.content
+  -- what a glob bound that was recorded with one module of this map, that module binds too, to the same definition or unseen
+  pub coherent : IsCoherent (order run.end.state) none_left_out (target_of run.end.state.map.id run.end.state.targets) answer.content
   -- each declaration stands at its place, or an explicit binding made before it does
   pub declared : IsDeclared run.end.events run.end.state.content
   -- no explicit binding is ever replaced

@@ -1,5 +1,6 @@
 -- Imports: their classes, when one is ready, and what recording one does.
-use Rattle.std.specs.Prelude.{◌≡◌, ◌≢◌, ◌⊎◌, ℕ, Bool, true, false, cond, ◌&&◌, ◌||◌, not, nat_eq, nat_lt, List, [], ◌∷◌, ◌++◌, length, slice_get, ◌-◌, Option, None, Some, is_some, option_map, unwrap_or, IsPermutation, Contains}
+use Rattle.std.specs.Prelude.{◌≡◌, ◌≢◌, ◌⊎◌, ℕ, Bool, true, false, cond, ◌&&◌, ◌||◌, not, ◌==◌, nat_eq, nat_lt, List, [], ◌∷◌, ◌++◌, length, slice_get, ◌-◌, Option, None, Some, is_some, option_map, unwrap_or, IsPermutation, Contains}
+use Rattle.std.specs.List.{flat_map}
 use Rattle.item_tree.specs.declared.items.ImportAlias.{ImportAlias}
 use Rattle.item_tree.specs.declared.items.ImportAlias.TheVariants.{Alias, Underscore}
 use Rattle.item_tree.specs.declared.items.ImportKind.{ImportKind}
@@ -9,6 +10,13 @@ use Rattle.item_tree.specs.declared.mod_path.ModPath.{ModPath}
 use Rattle.item_tree.specs.declared.mod_path.PathKind.{PathKind}
 use Rattle.item_tree.specs.declared.mod_path.PathKind.TheVariants.{Plain, Super}
 use Rattle.item_tree.specs.declared.name.Name.{Name}
+use Rattle.def_ids.specs.declared.ids.Def.{Def}
+use Rattle.def_ids.specs.declared.ids.Def.TheVariants as def
+use Rattle.def_ids.specs.declared.ids.GlobId.{GlobId}
+use Rattle.def_ids.specs.declared.ids.MapId.{MapId}
+use Rattle.def_ids.specs.declared.ids.ModuleId.{ModuleId}
+use Rattle.def_bindings.specs.declared.bindings.EdgeTo.{EdgeTo}
+use Rattle.def_bindings.specs.declared.bindings.Entry.{Entry}
 use Rattle.def_bindings.specs.declared.bindings.ImportOrExternCrate.{ImportOrExternCrate}
 use Rattle.def_bindings.specs.declared.bindings.ImportOrExternCrate.TheVariants.{Import}
 use Rattle.def_bindings.specs.declared.bindings.Namespace.{Namespace}
@@ -17,13 +25,16 @@ use Rattle.def_bindings.specs.declared.visibility.Visibility.{Visibility}
 use Rattle.def_bindings.specs.declared.visibility.Visibility.TheVariants.{Public}
 use Rattle.def_bindings.specs.Order.{Order}
 use Rattle.def_bindings.specs.Puts.{lessened}
+use Rattle.def_bindings.specs.Visibility.{order_over}
 use Rattle.def_map.specs.declared.path_resolution.asked.ResolvePathResult.{ResolvePathResult}
 use Rattle.def_map.specs.declared.per_ns.PerNs.{PerNs}
 use Rattle.def_map.specs.Oracle.{Oracle}
-use Rattle.def_map.specs.Answers.{is_reached}
-use Rattle.def_map.specs.Paths.{resolve, for_import, resolve_visibility}
+use Rattle.def_map.specs.Answers.{is_reached, variants_of}
+use Rattle.def_map.specs.Sources.{World}
+use Rattle.def_map.specs.Paths.{resolve, for_import, map_of, question, resolve_visibility}
 use Rattle.def_map.specs.PerNs.{Item, is_nothing, kept}
-use Rattle.def_collector.specs.State.{State, Effect, followed_by, PendingImport, PartialImport, NsSet, Task, Put, Recorded, noting, world, order}
+use Rattle.def_collector.specs.State.{State, Effect, followed_by, PendingImport, PartialImport, NsSet, Task, AddEdge, Recorded, noting, put_each, world, order}
+use Rattle.def_collector.specs.Globs.{Targets, is_public, module_entries, variant_entries, with_target}
 
 -- the namespaces that are there
 abbrev pub given_set : PerNs → NsSet
@@ -91,14 +102,15 @@ abbrev pub name_or : Option ImportAlias → List Name → Option (Option Name)
 name_or (Some alias) segments = Some (alias_name alias)
 name_or None segments = option_map (λ name. Some name) (last_segment segments)
 
+-- the name that an import of this kind binds; a glob binds none of its own
+abbrev pub name_by : ImportKind → Option ImportAlias → List Name → Option (Option Name)
+name_by kind.Plain alias segments = name_or alias segments
+name_by kind.TypeOnly alias segments = name_or alias segments
+name_by kind.Glob alias segments = None
+
 -- the name that an import binds
 abbrev pub bound_name : UseImport → Option (Option Name)
-bound_name import = name_or import.alias import.path.segments
-
--- whether something is public
-abbrev pub is_public : Visibility → Bool
-is_public Public = true
-is_public _ = false
+bound_name import = name_by import.kind import.alias import.path.segments
 
 -- what is kept of an answer: of another crate what is public
 abbrev pub kept_item : ResolvePathResult → Option Item → Option Item
@@ -114,31 +126,83 @@ is_types Macros = false
 abbrev pub keeps_ns : ImportKind → Namespace → Bool
 keeps_ns kind.Plain ns = true
 keeps_ns kind.TypeOnly ns = is_types ns
+keeps_ns kind.Glob ns = true
 
 -- what brings an import's bindings
 abbrev pub origin_of : PendingImport → ImportOrExternCrate
 origin_of pending = Import (record { use_id = pending.use_id; idx = pending.import.idx })
 
 -- the entry that an import of this visibility puts in one namespace
-abbrev pub entry_of : Order Visibility → PendingImport → Visibility → Option Name → Namespace → Option Item → List Task
+abbrev pub entry_of : Order Visibility → PendingImport → Visibility → Option Name → Namespace → Option Item → List (Entry Visibility)
 entry_of order pending vis name ns None = []
 entry_of order pending vis name ns (Some item) =
     cond (keeps_ns pending.import.kind ns)
-    (Put pending.scope (record { name = name; ns = ns; def = item.def; vis = lessened order item.vis vis; origin = Some (origin_of pending) }) ∷ [])
+    (record { name = name; ns = ns; def = item.def; vis = lessened order item.vis vis; origin = Some (origin_of pending) } ∷ [])
     []
 
 -- the entries of a named import, one in each namespace that its path gives
-abbrev pub named_entries : Order Visibility → PendingImport → Visibility → ResolvePathResult → Option (Option Name) → List Task
+abbrev pub named_entries : Order Visibility → PendingImport → Visibility → ResolvePathResult → Option (Option Name) → List (Entry Visibility)
 named_entries order pending vis answer None = []
 named_entries order pending vis answer (Some name) =
     entry_of order pending vis name Types (kept_item answer answer.resolved_def.types)
     ++ (entry_of order pending vis name Values (kept_item answer answer.resolved_def.values)
     ++ entry_of order pending vis name Macros (kept_item answer answer.resolved_def.macros))
 
+-- a glob import's number
+abbrev pub glob_id : PendingImport → GlobId
+glob_id pending = record { use_id = pending.use_id; idx = pending.import.idx }
+
+-- a glob import with its visibility, as its edge keeps it
+abbrev pub glob_edge : PendingImport → Visibility → EdgeTo Visibility
+glob_edge pending vis = record { importer = pending.scope; vis = vis; glob = glob_id pending }
+
+-- the definition that an import's path gives in types, if it is kept
+abbrev pub types_def : ResolvePathResult → Option Def
+types_def answer = option_map (λ item. item.def) (kept_item answer answer.resolved_def.types)
+
+-- whether a module is of a map's crate
+abbrev pub is_own_crate : MapId → ModuleId → Bool
+is_own_crate id source = source.map.krate.0 == id.krate.0
+
+-- a module of this crate gets an edge once its entries are put; one of another crate none
+abbrev pub edge_tasks : Bool → ModuleId → EdgeTo Visibility → List Task
+edge_tasks true source glob = AddEdge source glob ∷ []
+edge_tasks false source glob = []
+
+-- what a glob of a definition leads to: the entries of a module or of an enum's variants; all else has none
+abbrev pub glob_tasks : World → EdgeTo Visibility → Option Def → List Task
+glob_tasks w glob (Some (def.Module source)) =
+    let own = is_own_crate w.map.facts.id source in
+    put_each glob.importer (module_entries (order_over w.map.facts.chain) glob own (map_of w source.map) source) ++ edge_tasks own source glob
+glob_tasks w glob (Some (def.Enum id)) =
+    put_each glob.importer (flat_map (variant_entries (order_over w.map.facts.chain) glob) (variants_of (question w for_import) id.0))
+glob_tasks w glob _ = []
+
+-- what a recorded import leads to, by its kind
+abbrev pub record_tasks : Oracle → State → PendingImport → ResolvePathResult → ImportKind → List Task
+record_tasks oracle s pending answer kind.Plain =
+    put_each pending.scope (named_entries (order s) pending (import_vis oracle s pending) answer (bound_name pending.import))
+record_tasks oracle s pending answer kind.TypeOnly =
+    put_each pending.scope (named_entries (order s) pending (import_vis oracle s pending) answer (bound_name pending.import))
+record_tasks oracle s pending answer kind.Glob = glob_tasks (world oracle s) (glob_edge pending (import_vis oracle s pending)) (types_def answer)
+
+-- a glob is recorded with the definition that its path gives
+abbrev pub targets_after : ImportKind → GlobId → Option Def → Targets → Targets
+targets_after kind.Plain glob given targets = targets
+targets_after kind.TypeOnly glob given targets = targets
+targets_after kind.Glob glob None targets = targets
+targets_after kind.Glob glob (Some d) targets = with_target glob d targets
+
+-- the state in which a glob was recorded with this definition
+abbrev pub target_state : State → GlobId → Option Def → State
+target_state s glob given = record s { targets = targets_after kind.Glob glob given s.targets }
+
 -- an import is recorded with what its path gives
-abbrev pub Records : Oracle → State → PendingImport → ResolvePathResult → Effect → Type 0
-Records oracle s pending answer effect =
-    effect ≡ followed_by s (named_entries (order s) pending (import_vis oracle s pending) answer (bound_name pending.import))
+abbrev pub record_effect : Oracle → State → PendingImport → ResolvePathResult → Effect
+record_effect oracle s pending answer =
+    followed_by
+    (record s { targets = targets_after pending.import.kind (glob_id pending) (types_def answer) s.targets })
+    (record_tasks oracle s pending answer pending.import.kind)
 
 -- a partial import as a list, if it stays one
 abbrev pub kept_list : PendingImport → Option NsSet → List PartialImport
@@ -161,11 +225,11 @@ after_partial s partial rest answer = with_partial (record s { partial = rest })
 pub data ImportStep (oracle : Oracle) (s : State) (effect : Effect) : Type 0 where
   of_pending : (pending : PendingImport) (rest : List PendingImport) (recorded : Effect) → IsPermutation s.imports (pending ∷ rest)
       → is_ready (answer_now oracle s pending) ≡ true
-      → Records oracle (after_pending s pending rest (answer_now oracle s pending)) pending (answer_now oracle s pending) recorded
+      → recorded ≡ record_effect oracle (after_pending s pending rest (answer_now oracle s pending)) pending (answer_now oracle s pending)
       → effect ≡ noting (Recorded pending (is_foreign (answer_now oracle s pending))) recorded → ImportStep oracle s effect
   of_partial : (partial : PartialImport) (rest : List PartialImport) (recorded : Effect) → IsPermutation s.partial (partial ∷ rest)
       → is_ready_again partial.recorded (answer_now oracle s partial.pending) ≡ true
-      → Records oracle (after_partial s partial rest (answer_now oracle s partial.pending)) partial.pending (answer_now oracle s partial.pending) recorded
+      → recorded ≡ record_effect oracle (after_partial s partial rest (answer_now oracle s partial.pending)) partial.pending (answer_now oracle s partial.pending)
       → effect ≡ noting (Recorded partial.pending (is_foreign (answer_now oracle s partial.pending))) recorded → ImportStep oracle s effect
 
 -- no import is ready

@@ -24,6 +24,7 @@ use Rattle.def_ids.specs.declared.ids.ItemContainerId.TheVariants as contained
 use Rattle.def_ids.specs.declared.ids.ModuleId.{ModuleId}
 use Rattle.def_ids.specs.declared.ids.UseId.{UseId}
 use Rattle.def_ids.specs.Session.{Session, Grows, ItemKind, ItemLoc, FunctionItem, StructItem, UnionItem, EnumItem, ConstItem, StaticItem, TraitItem, TypeAliasItem, ImplItem, UseItem, ExternCrateItem, ExternBlockItem, in_container}
+use Rattle.def_bindings.specs.declared.bindings.Entry.{Entry}
 use Rattle.def_bindings.specs.declared.bindings.Namespace.{Namespace}
 use Rattle.def_bindings.specs.declared.bindings.Namespace.TheVariants.{Types, Values}
 use Rattle.def_bindings.specs.declared.visibility.Visibility.{Visibility}
@@ -102,9 +103,13 @@ written_vis oracle s at raw = unwrap_or (resolve_visibility (world oracle s) at 
 abbrev pub declare : State → ModuleId → Def → State
 declare s at d = with_map s (with_module s.map at.index (declared_in d))
 
+-- the entry of a declaration
+abbrev pub declared_entry : Name → Namespace → Def → Visibility → Entry Visibility
+declared_entry name ns d vis = record { name = Some name; ns = ns; def = d; vis = vis; origin = None }
+
 -- it is put by declaration
 abbrev pub put_declared : ModuleId → Name → Namespace → Def → Visibility → Task
-put_declared at name ns d vis = Put at (record { name = Some name; ns = ns; def = d; vis = vis; origin = None })
+put_declared at name ns d vis = Put at (declared_entry name ns d vis)
 
 -- the next module of the map
 abbrev pub next_module : State → ModuleId

@@ -1,7 +1,10 @@
+pub mod Globs
 pub mod State
 pub mod Imports
 pub mod Items
+pub mod Closed
 pub mod Steps
+pub mod Crates
 pub mod Start
 pub mod Settled
 pub mod Report

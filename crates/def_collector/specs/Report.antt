@@ -1,16 +1,27 @@
 -- What is answered of a run's end, and what is reported.
-use Rattle.std.specs.Prelude.{◌≡◌, ℕ, suc, Bool, false, ◌&&◌, ◌||◌, nat_eq, All, List, [], ◌∷◌, ◌++◌, map, Option, Some}
+use Rattle.std.specs.Prelude.{◌≡◌, ℕ, suc, Bool, false, ◌&&◌, ◌||◌, nat_eq, All, List, [], ◌∷◌, ◌++◌, filter, map, Option, Some, Vec}
+use Rattle.std.specs.declared.alloc.Global.{Global}
+use Rattle.std.specs.List.{IsDistinct}
+use Rattle.std.specs.Map.{keys_of, lookup}
 use Rattle.item_tree.specs.declared.name.Name.{Name}
 use Rattle.item_tree.specs.KnownNames.{name_eq}
+use Rattle.def_ids.specs.declared.ids.Def.{Def}
+use Rattle.def_ids.specs.declared.ids.GlobId.{GlobId}
+use Rattle.def_ids.specs.declared.ids.ModuleId.{ModuleId}
+use Rattle.def_ids.specs.Equality.{glob_eq}
+use Rattle.def_ids.specs.Ids.{is_same_module}
+use Rattle.def_bindings.specs.declared.bindings.EdgeTo.{EdgeTo}
 use Rattle.def_bindings.specs.declared.visibility.Visibility.{Visibility}
 use Rattle.def_bindings.specs.Content.{Content}
 use Rattle.def_map.specs.MapState.{MapState, ModuleState}
 use Rattle.def_map.specs.MapView.{LocalView}
 use Rattle.def_collector.specs.declared.diagnostics.DefDiagnostic.{DefDiagnostic}
 use Rattle.def_collector.specs.declared.diagnostics.DefDiagnosticKind.TheVariants.{UnresolvedImport}
+use Rattle.def_collector.specs.declared.outcome.Edge.{Edge}
 use Rattle.def_collector.specs.declared.outcome.LeftImport.{LeftImport}
 use Rattle.def_collector.specs.declared.outcome.Outcome.{Outcome}
 use Rattle.def_collector.specs.Imports.{bound_name}
+use Rattle.def_collector.specs.Globs.{Targets}
 use Rattle.def_collector.specs.State.{State, PendingImport}
 
 -- all that a run answers
@@ -44,12 +55,33 @@ marked m left = record m { modules = marked_from left 0 m.modules }
 abbrev pub left_import : PendingImport → LeftImport
 left_import p = record { «module» = p.scope; ast_id = p.position; idx = p.import.idx; path = p.import.path }
 
--- how a run ended: the imports left over, in order, and nothing else
+-- an edge as it is listed
+abbrev pub listed_edge : ModuleId → EdgeTo Visibility → Edge
+listed_edge source edge = record { source = source; importer = edge.importer; vis = edge.vis; glob = edge.glob }
+
+-- whether an edge leaves this module
+abbrev pub leaves : ModuleId → Edge → Bool
+leaves source edge = is_same_module source edge.source
+
+-- each edge once: of each source its edges, in order of recording
+abbrev pub AreEdges : Content Visibility → List Edge → Type 0
+AreEdges content edges = (source : ModuleId) → filter (leaves source) edges ≡ map (listed_edge source) (content.edges source)
+
+-- each recorded glob once, with what it was recorded with
+pub record AreTargets (targets : Targets) (listed : List (GlobId × List Def)) : Type 0 where
+  pub once : IsDistinct glob_eq (keys_of listed)
+  pub all : (glob : GlobId) → lookup (glob_eq glob) listed ≡ targets glob
+
+-- a glob's targets as a list
+abbrev pub shown_targets : GlobId × Vec Def Global → GlobId × List Def
+shown_targets t = (t.0, t.1.items)
+
+-- how a run ended: the imports left over, in order, the edges of globs, and what each glob was recorded with
 pub record IsOutcome (end : State) (outcome : Outcome) : Type 0 where
   pub imports : outcome.imports.items ≡ map left_import end.imports
   pub macros : outcome.macros.items ≡ []
-  pub edges : outcome.edges.items ≡ []
-  pub targets : outcome.targets.items ≡ []
+  pub edges : AreEdges end.content outcome.edges.items
+  pub targets : AreTargets end.targets (map shown_targets outcome.targets.items)
   pub limit : outcome.limit_met ≡ false
 
 -- an import that is left over is reported

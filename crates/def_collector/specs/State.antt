@@ -1,5 +1,5 @@
 -- The state of a run, and what a run is given.
-use Rattle.std.specs.Prelude.{◌≡◌, Bool, List, [], ◌∷◌, ◌++◌, Option, Some, unwrap_or, IsPermutation}
+use Rattle.std.specs.Prelude.{◌≡◌, Bool, List, [], ◌∷◌, ◌++◌, map, Option, Some, unwrap_or, IsPermutation}
 use Rattle.item_tree.specs.declared.ids.FileAstId.{FileAstId}
 use Rattle.item_tree.specs.declared.ids.InFile.{InFile}
 use Rattle.item_tree.specs.declared.ids.ModItemId.{ModItemId}
@@ -14,6 +14,7 @@ use Rattle.def_ids.specs.declared.ids.UseId.{UseId}
 use Rattle.def_ids.specs.Ids.{is_same_module}
 use Rattle.def_ids.specs.Session.{Session}
 use Rattle.def_bindings.specs.declared.bindings.Binding.{Binding}
+use Rattle.def_bindings.specs.declared.bindings.EdgeTo.{EdgeTo}
 use Rattle.def_bindings.specs.declared.bindings.Entry.{Entry}
 use Rattle.def_bindings.specs.declared.bindings.Namespace.{Namespace}
 use Rattle.def_bindings.specs.declared.visibility.Visibility.{Visibility}
@@ -28,6 +29,7 @@ use Rattle.def_map.specs.Sources.{World}
 use Rattle.def_map.specs.Updates.{set_where}
 use Rattle.def_parts.specs.Directories.{Directory}
 use Rattle.def_collector.specs.declared.diagnostics.DefDiagnostic.{DefDiagnostic}
+use Rattle.def_collector.specs.Globs.{Targets}
 
 -- what a run is given: the oracle, the seeded map, the tree, and for a block the names of crates that its crate knows
 pub record Setting : Type 0 where
@@ -60,10 +62,14 @@ pub record State : Type 0 where
   pub session : Session
   pub map : MapState
   pub content : Content Visibility
+  -- what each glob was recorded with
+  pub targets : Targets
   -- the names of crates that the map's own paths may begin with
   pub local : LocalView
   -- for a block, those that its crate knows, which stand in their place
   pub outer : Option LocalView
+  -- whether the crate is one of procedural macros
+  pub is_proc_macro : Bool
   -- the directory of each module that a walk began in
   pub directories : ModuleId → Option Directory
   pub imports : List PendingImport
@@ -90,6 +96,12 @@ pub data Task : Type 0 where
   Visit : Site → ModItemId → Task
   -- an entry is put into a module
   Put : ModuleId → Entry Visibility → Task
+  -- an edge is added to a module
+  AddEdge : ModuleId → EdgeTo Visibility → Task
+
+-- each entry of a list is put into a module
+abbrev pub put_each : ModuleId → List (Entry Visibility) → List Task
+put_each at list = map (λ entry. Put at entry) list
 
 -- what happened in a run
 pub data Event : Type 0 where

@@ -10,7 +10,9 @@ use Rattle.def_bindings.specs.declared.visibility.Visibility.{Visibility}
 use Rattle.def_bindings.specs.Content.{Content}
 use Rattle.def_bindings.specs.Puts.{copied, glob_of, offered, put_entry}
 use Rattle.def_map.specs.Oracle.{Oracle}
-use Rattle.def_collector.specs.State.{State, Effect, Task, Enter, Visit, Put, Event, PutExplicit, Moment, after, entered, only, with_state, with_content, order, Rearranges}
+use Rattle.def_parts.specs.Globs.{with_recorded}
+use Rattle.def_collector.specs.State.{State, Effect, Task, Enter, Visit, Put, AddEdge, Event, PutExplicit, Moment, after, entered, only, with_state, with_content, order, Rearranges}
+use Rattle.def_collector.specs.Closed.{KeepsSound}
 use Rattle.def_collector.specs.Imports.{ImportStep}
 use Rattle.def_collector.specs.Items.{Visits}
 
@@ -32,6 +34,7 @@ abbrev pub Does : Oracle → State → Task → Effect → Type 0
 Does oracle s (Enter at directory) effect = effect ≡ only (entered s at directory)
 Does oracle s (Visit site id) effect = Visits oracle s site id effect
 Does oracle s (Put at entry) effect = effect ≡ put_effect s at entry
+Does oracle s (AddEdge source edge) effect = effect ≡ only (with_content s (with_recorded (order s) s.content source edge))
 
 -- one slot is copied along an edge of a glob: what its source binds now, if the importer sees it
 pub record Copies (s : State) (content : Content Visibility) : Type 0 where
@@ -64,5 +67,10 @@ abbrev pub at : List Task → State → List Event → Moment
 at tasks state events = record { tasks = tasks; state = state; events = events }
 
 -- from any moment with these tasks and this state a run leads to one with those
-abbrev pub Leads : Oracle → List Task → State → List Task → State → Type 0
-Leads oracle tasks s tasks' t = (before : List Event) → (now : List Event) × Reaches oracle (at tasks s before) (at tasks' t now)
+abbrev pub Runs : Oracle → List Task → State → List Task → State → Type 0
+Runs oracle tasks s tasks' t = (before : List Event) → (now : List Event) × Reaches oracle (at tasks s before) (at tasks' t now)
+
+-- so does a run of whole waves: names that are closed and coherent along the globs stay so
+pub record Leads (oracle : Oracle) (tasks : List Task) (s : State) (tasks' : List Task) (t : State) : Type 0 where
+  pub runs : Runs oracle tasks s tasks' t
+  pub keeps : KeepsSound tasks s t

@@ -14,21 +14,26 @@ ghost use Rattle.def_collector.specs.Steps.{Leads};
 
 mod directive;
 mod finish;
+mod globs;
 mod imports;
 mod items;
 mod mod_dirs;
 mod modules;
+mod prelude;
+mod seed;
 mod walk;
 
 use crate::diagnostics::{DefDiagnostic, DefDiagnosticKind};
 use crate::outcome::Collected;
-use def_ids::{Interner, ItemContainerId, MapId, ModuleId};
+use def_ids::{Def, GlobId, Interner, ItemContainerId, MapId, ModuleId};
 use def_map::{DefMap, LocalDefMap, MapData, SourceDatabase, Table};
-use def_parts::ModDir;
+use def_parts::{Globs, ModDir};
 use directive::{ImportDirective, PartialDirective};
-use item_tree::{CfgExpr, FileAstId, HirFileId, InFile, TreeId};
+use indexmap::IndexMap;
+use item_tree::{CfgExpr, FileAstId, HirFileId, InFile, Seq, TreeId};
 use mod_dirs::ModDirs;
 use modules::{disabled_by, top_items};
+use seed::{is_proc_macro_crate, top_attrs};
 use std::alloc::{AllocError, Global};
 use walk::Frame;
 
@@ -37,10 +42,15 @@ use walk::Frame;
 pub struct DefCollector<'a> {
     alloc: Global,
     def_map: MapData,
-    table: Table,
+    /// The bindings, which travel along the edges of globs.
+    table: Globs<Table>,
+    /// What each glob was recorded with.
+    targets: IndexMap<GlobId, Seq<Def>>,
     local_def_map: LocalDefMap,
     /// The names of crates that a block's crate knows.
     crate_local: Option<&'a LocalDefMap>,
+    /// Whether the crate is one of procedural macros.
+    is_proc_macro: bool,
     mod_dirs: ModDirs,
     /// Imports that no pass could resolve so far. One that was recorded leaves `None`.
     unresolved_imports: Vec<Option<ImportDirective<'a>>>,
@@ -75,12 +85,15 @@ pub fn collect_defs<D: SourceDatabase>(
     ensures session { Grows (session_of session.old) (session_of session.new) }
 {
     let (data, table) = def_map.into_parts();
+    let is_proc_macro = is_proc_macro_crate(db, data.tree.map.krate);
     let mut collector = DefCollector {
         alloc,
         def_map: data,
-        table,
+        table: Globs::new(alloc, table),
+        targets: IndexMap::new(alloc),
         local_def_map: LocalDefMap::new(alloc),
         crate_local,
+        is_proc_macro,
         mod_dirs: ModDirs::new(alloc),
         unresolved_imports: Vec::new(alloc),
         indeterminate_imports: Vec::new(alloc),
@@ -111,7 +124,7 @@ impl<'a> DefCollector<'a> {
     ) -> Result<(), AllocError>
         ensures run { OnOk result (Leads (D.oracle db.now)
             (first_tasks (D.oracle db.now) (map_state self.old.def_map) tree_id)
-            (started (D.oracle db.now) (map_state self.old.def_map) tree_id (state_of self.old session.old))
+            (started (D.oracle db.now) tree_id (state_of self.old session.old))
             [] (state_of self.new session.new)) }
         ensures settled { OnOk result (NoneReady (D.oracle db.now) (state_of self.new session.new)) }
         ensures session { Grows (session_of session.old) (session_of session.new) }
@@ -120,8 +133,8 @@ impl<'a> DefCollector<'a> {
         self.resolution_loop(db, session)
     }
 
-    /// Walks the top items of the crate's root file, or of the block. On `Err` nothing but safety
-    /// is promised.
+    /// Learns what is known of the crate, and walks the top items of its root file, or of the block.
+    /// On `Err` nothing but safety is promised.
     fn seed_with_top_level<D: SourceDatabase>(
         &mut self,
         db: &'a D,
@@ -130,14 +143,16 @@ impl<'a> DefCollector<'a> {
     ) -> Result<(), AllocError>
         ensures run { OnOk result (Leads (D.oracle db.now)
             (first_tasks (D.oracle db.now) (map_state self.old.def_map) tree_id)
-            (started (D.oracle db.now) (map_state self.old.def_map) tree_id (state_of self.old session.old))
+            (started (D.oracle db.now) tree_id (state_of self.old session.old))
             [] (state_of self.new session.new)) }
         ensures session { Grows (session_of session.old) (session_of session.new) }
     {
         let map = self.def_map.tree.map;
         let tree_id = first_tree(db, map, tree_id);
         let tree = db.item_tree(tree_id);
-        if let Some(cfg) = disabled_by(tree) {
+        let disabled = disabled_by(tree);
+        self.seed(db, session, top_attrs(tree), disabled)?;
+        if let Some(cfg) = disabled {
             return self.report_disabled(tree_id, cfg);
         }
         self.walk(

@@ -4,7 +4,7 @@ ghost use Rattle.std.specs.Option.{option_map_or};
 ghost use Rattle.def_bindings.specs.Tree.{are_apart};
 
 use crate::def_map::DefMap;
-use crate::map::UnstableFeatures;
+use crate::map::{MapData, UnstableFeatures};
 use def_bindings::ModuleTree;
 use def_ids::{FunctionId, MacroId, MapId, ModuleId, ProcMacroId};
 use indexmap::IndexMap;
@@ -33,6 +33,7 @@ pub struct BlockInfo {
 impl BlockInfo {
     ghost use Rattle.def_map.specs.DefMaps.{state_of, block_map_id, info_state};
     ghost use Rattle.def_map.specs.Fresh.{fresh_state, block_crate};
+    ghost use Rattle.def_map.specs.Maps.{map_state};
     ghost use Rattle.def_ids.specs.declared.macro_def.Edition.{Edition};
 
     /// A block of a map's crate, within these modules, the innermost first. None where two of them
@@ -55,29 +56,41 @@ impl BlockInfo {
         };
         match ModuleTree::new(alloc, map, Seq::from_vec(containing))? {
             None => Ok(None),
-            Some(tree) => {
-                let ModuleTree {
-                    map: _,
-                    parents: _,
-                    containing,
-                } = tree;
-                let from = &crate_map.data;
-                Ok(Some(BlockInfo {
-                    krate,
-                    block,
-                    containing,
-                    recursion_limit: from.recursion_limit,
-                    no_core: from.no_core,
-                    no_std: from.no_std,
-                    rustc_coherence_is_core: from.rustc_coherence_is_core,
-                    features: copied_features(&from.features)?,
-                    registered_tools: copied_tools(&from.registered_tools)?,
-                    exported_derives: copied_helpers(&from.exported_derives)?,
-                    fn_as_proc_macro: copied_macros(&from.fn_as_proc_macro)?,
-                    proc_macro_as_fn: copied_functions(&from.proc_macro_as_fn)?,
-                }))
-            }
+            Some(tree) => match BlockInfo::within(tree, block, &crate_map.data) {
+                Ok(info) => Ok(Some(info)),
+                Err(refused) => Err(refused),
+            },
         }
+    }
+
+    /// The block of a tree's root, with what it takes over.
+    fn within(tree: ModuleTree, block: BlockId, from: &MapData) -> Result<BlockInfo, AllocError>
+        requires { tree.map ≡ record { krate = from.now.tree.map.krate; block = Some block } }
+        ensures { IfOk result (λ info. (edition : Edition) → info_state edition info
+            ≡ fresh_state (block_map_id (map_state from.now) block) edition tree.containing (block_crate (map_state from.now).krate)) }
+    {
+        let (registered_tools, exported_derives) = copied_exports(from)?;
+        let (fn_as_proc_macro, proc_macro_as_fn) = copied_pairs(from)?;
+        let features = copied_features(&from.features)?;
+        let ModuleTree {
+            map,
+            parents: _,
+            containing,
+        } = tree;
+        Ok(BlockInfo {
+            krate: map.krate,
+            block,
+            containing,
+            recursion_limit: from.recursion_limit,
+            no_core: from.no_core,
+            no_std: from.no_std,
+            rustc_coherence_is_core: from.rustc_coherence_is_core,
+            features,
+            registered_tools,
+            exported_derives,
+            fn_as_proc_macro,
+            proc_macro_as_fn,
+        })
     }
 }
 
@@ -90,36 +103,26 @@ fn copied_features(features: &UnstableFeatures) -> Result<UnstableFeatures, Allo
     })
 }
 
-/// A copy of the tools.
-fn copied_tools(tools: &Seq<Name>) -> Result<Seq<Name>, AllocError>
-    ensures { IfOk result (λ copy. copy ≡ tools.now) }
+/// Copies of the tools and of the exported helpers.
+fn copied_exports(from: &MapData) -> Result<(Seq<Name>, IndexMap<MacroId, Seq<Name>>), AllocError>
+    ensures { IfOk result (λ copy. (copy.0 ≡ from.now.registered_tools) × (copy.1.entries ≡ from.now.exported_derives.entries)) }
 {
-    tools.clone()
+    let tools = from.registered_tools.clone()?;
+    Ok((tools, from.exported_derives.clone()?))
 }
 
-/// A copy of the exported helpers.
-fn copied_helpers(
-    helpers: &IndexMap<MacroId, Seq<Name>>,
-) -> Result<IndexMap<MacroId, Seq<Name>>, AllocError>
-    ensures { IfOk result (λ copy. copy.entries ≡ helpers.now.entries) }
+/// Copies of the macros of functions and of the functions of macros.
+fn copied_pairs(
+    from: &MapData,
+) -> Result<
+    (
+        IndexMap<FunctionId, ProcMacroId>,
+        IndexMap<ProcMacroId, FunctionId>,
+    ),
+    AllocError,
+>
+    ensures { IfOk result (λ copy. (copy.0.entries ≡ from.now.fn_as_proc_macro.entries) × (copy.1.entries ≡ from.now.proc_macro_as_fn.entries)) }
 {
-    helpers.clone()
-}
-
-/// A copy of the macros of functions.
-fn copied_macros(
-    macros: &IndexMap<FunctionId, ProcMacroId>,
-) -> Result<IndexMap<FunctionId, ProcMacroId>, AllocError>
-    ensures { IfOk result (λ copy. copy.entries ≡ macros.now.entries) }
-{
-    macros.clone()
-}
-
-/// A copy of the functions of macros.
-fn copied_functions(
-    functions: &IndexMap<ProcMacroId, FunctionId>,
-) -> Result<IndexMap<ProcMacroId, FunctionId>, AllocError>
-    ensures { IfOk result (λ copy. copy.entries ≡ functions.now.entries) }
-{
-    functions.clone()
+    let macros = from.fn_as_proc_macro.clone()?;
+    Ok((macros, from.proc_macro_as_fn.clone()?))
 }

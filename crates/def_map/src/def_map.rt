@@ -7,7 +7,9 @@ ghost use Rattle.def_bindings.specs.Tree.{are_apart};
 ghost use Rattle.def_bindings.specs.declared.visibility.Visibility.TheVariants.{Public};
 ghost use Rattle.def_map.specs.Scopes.{module_state, empty_module};
 ghost use Rattle.def_map.specs.Fresh.{known_tools, fresh_state, fresh_crate, IsFresh};
-ghost use Rattle.def_map.specs.DefMaps.{info_state, crate_map_id};
+ghost use Rattle.def_map.specs.DefMaps.{state_of, content_of, info_state, crate_map_id};
+ghost use Rattle.def_map.specs.declared.module_data.ModuleOrigin.TheVariants.{Block};
+ghost use Rattle.def_bindings.specs.Content.{empty as none_bound};
 
 use crate::block::BlockInfo;
 use crate::keyed_lists::no_items;
@@ -33,8 +35,7 @@ impl Drop for DefMap {
 }
 
 impl DefMap {
-    ghost use Rattle.def_map.specs.DefMaps.{state_of, content_of, seeded};
-    ghost use Rattle.def_bindings.specs.Content.{empty};
+    ghost use Rattle.def_map.specs.DefMaps.{seeded};
 
     /// A map with one root and nothing in it. Without a block it is the map of the crate, with the
     /// tools that need no declaration. With one it is a block's, in the crate of the map that the
@@ -46,18 +47,15 @@ impl DefMap {
         block: Option<BlockInfo>,
     ) -> Result<DefMap, AllocError>
         ensures state { IfOk result (λ map. state_of map ≡ seeded krate edition block) }
-        ensures content { IfOk result (λ map. content_of map ≡ empty) }
+        ensures content { IfOk result (λ map. content_of map ≡ none_bound) }
         ensures fresh { IfOk result (λ map. IsFresh (state_of map) (content_of map)) }
     {
         match block {
             None => Ok(DefMap {
+                table: Table::new(alloc)?,
                 data: crate_data(alloc, krate, edition)?,
-                table: Table::new(alloc)?,
             }),
-            Some(info) => Ok(DefMap {
-                data: block_data(alloc, edition, info)?,
-                table: Table::new(alloc)?,
-            }),
+            Some(info) => block_map(alloc, edition, info),
         }
     }
 
@@ -142,10 +140,49 @@ fn crate_data(alloc: Global, krate: Crate, edition: Edition) -> Result<MapData, 
     })
 }
 
-/// The data of a block's map.
-fn block_data(alloc: Global, edition: Edition, info: BlockInfo) -> Result<MapData, AllocError>
-    ensures { IfOk result (λ d. map_state d ≡ info_state edition info) }
+/// What the map of a block begins with, beside what it takes over.
+#[derive(Drop)]
+struct Root {
+    parents: Seq<Option<usize>>,
+    modules: Vec<ModuleData>,
+    table: Table,
+}
+
+/// The root of a block.
+fn block_root(alloc: Global) -> Result<Root, AllocError>
+    ensures { IfOk result (λ root. (root.parents ≡ None ∷ [])
+        × (map module_state root.modules.items ≡ empty_module None Block Public ∷ []) × (bound_by root.table ≡ none_bound)) }
 {
+    let mut parents = no_items(alloc);
+    parents.push(None)?;
+    let modules = root_modules(alloc, ModuleOrigin::Block)?;
+    Ok(Root {
+        table: Table::new(alloc)?,
+        parents,
+        modules,
+    })
+}
+
+/// The map of a block. All that can be refused is made first, so that nothing else is dropped.
+fn block_map(alloc: Global, edition: Edition, info: BlockInfo) -> Result<DefMap, AllocError>
+    ensures { IfOk result (λ m. (state_of m ≡ info_state edition info) × (content_of m ≡ none_bound)) }
+{
+    let root = block_root(alloc)?;
+    Ok(rooted(alloc, edition, info, root))
+}
+
+/// The map of a block over its root.
+fn rooted(alloc: Global, edition: Edition, info: BlockInfo, root: Root) -> DefMap
+    requires parents { root.parents ≡ None ∷ [] }
+    requires modules { map module_state root.modules.items ≡ empty_module None Block Public ∷ [] }
+    ensures state { state_of result ≡ info_state edition info }
+    ensures content { content_of result ≡ bound_by root.table }
+{
+    let Root {
+        parents,
+        modules,
+        table,
+    } = root;
     let BlockInfo {
         krate,
         block,
@@ -160,14 +197,17 @@ fn block_data(alloc: Global, edition: Edition, info: BlockInfo) -> Result<MapDat
         fn_as_proc_macro,
         proc_macro_as_fn,
     } = info;
-    let map = MapId {
-        krate,
-        block: Some(block),
-    };
-    Ok(MapData {
-        tree: root_tree(alloc, map, containing)?,
+    let data = MapData {
+        tree: ModuleTree {
+            map: MapId {
+                krate,
+                block: Some(block),
+            },
+            parents,
+            containing,
+        },
         edition,
-        modules: root_modules(alloc, ModuleOrigin::Block)?,
+        modules,
         recursion_limit,
         no_core,
         no_std,
@@ -181,5 +221,6 @@ fn block_data(alloc: Global, edition: Edition, info: BlockInfo) -> Result<MapDat
         derive_helpers: IndexMap::new(alloc),
         prelude: None,
         macro_use_prelude: IndexMap::new(alloc),
-    })
+    };
+    DefMap { data, table }
 }

@@ -6,11 +6,13 @@ ghost use Rattle.def_bindings.specs.Tree.{module_of, parent_of};
 ghost use Rattle.def_map.specs.DefMaps.{state_of, content_of};
 ghost use Rattle.def_map.specs.Maps.{exported_of, features_of, helper_state, limit_of};
 ghost use Rattle.def_map.specs.Scopes.{module_state};
+ghost use Rattle.def_map.specs.Tables.{bound_by};
 
 use crate::def_map::DefMap;
 use crate::item_scope::ItemScope;
 use crate::map::{DeriveHelper, UnstableFeatures};
 use crate::module_data::{ModuleData, Position};
+use crate::table::Table;
 use def_bindings::{BindingTable, EdgeTo, Visibility};
 use def_ids::{FunctionId, MacroId, MapId, ModuleId, ProcMacroId};
 use indexmap::IndexMap;
@@ -33,6 +35,13 @@ impl DefMap {
         ensures { result ≡ (state_of self.now).id }
     {
         self.data.tree.map
+    }
+
+    /// The table with its bindings, unnamed traits and edges.
+    pub fn table(&self) -> &Table
+        ensures { bound_by result.now ≡ content_of self.now }
+    {
+        &self.table
     }
 
     /// The modules in order of declaration, the root first.

@@ -32,6 +32,7 @@ pub use module_data::{
 };
 pub use path_resolution::{
     Asked, BuiltinShadowMode, PrefixInfo, ReachedFixedPoint, ResolveMode, ResolvePathResult,
+    finished_map,
 };
 pub use per_ns::{Item, MacroSubNs, PerNs, public_item};
 pub use source_database::{

@@ -25,7 +25,6 @@ pub struct UnstableFeatures {
 }
 
 /// All of a map but its bindings, unnamed traits and glob edges. The collector works on it.
-#[derive(Drop)]
 pub struct MapData {
     /// The map, the parents of its modules, and for a block the modules that contain it.
     pub tree: ModuleTree,
@@ -48,6 +47,29 @@ pub struct MapData {
     pub prelude: Option<ModuleId>,
     /// The macros that extern crates brought.
     pub macro_use_prelude: IndexMap<Name, MacroId>,
+}
+
+impl Drop for MapData {
+    fn drop(self) {
+        let MapData {
+            tree: _,
+            edition: _,
+            modules: _,
+            recursion_limit: _,
+            no_core: _,
+            no_std: _,
+            rustc_coherence_is_core: _,
+            features: _,
+            registered_tools: _,
+            exported_derives: _,
+            fn_as_proc_macro: _,
+            proc_macro_as_fn: _,
+            macro_by_position: _,
+            derive_helpers: _,
+            prelude: _,
+            macro_use_prelude: _,
+        } = self;
+    }
 }
 
 /// Adds a module to the tree, with this parent if it is there.

@@ -77,7 +77,6 @@ pub struct ScopeData {
 }
 
 /// A module of a map. Its parent stands in the map's tree alone.
-#[derive(Drop)]
 pub struct ModuleData {
     /// None for a root.
     pub name: Option<Name>,
@@ -86,6 +85,18 @@ pub struct ModuleData {
     /// The indices of its child modules.
     pub children: IndexMap<Name, usize>,
     pub scope: ScopeData,
+}
+
+impl Drop for ModuleData {
+    fn drop(self) {
+        let ModuleData {
+            name: _,
+            origin: _,
+            visibility: _,
+            children: _,
+            scope: _,
+        } = self;
+    }
 }
 
 impl DeriveMacroInvocation {

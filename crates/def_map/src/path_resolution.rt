@@ -26,6 +26,7 @@ use def_bindings::{BindingTable, Visibility};
 use def_ids::{Def, Interner, ModuleId};
 use item_tree::{ModPath, RawVisibility};
 use sources::Asking;
+pub use sources::finished_map;
 
 impl MapData {
     /// What a path means, asked from a module of this map, whose bindings stand in `table`. Of a

@@ -10,8 +10,6 @@ pub mod WavingLemmas
 pub mod IterationLemmas
 pub mod PlacedLemmas
 pub mod UpdateLemmas
-pub mod AddingLemmas
-pub mod EdgesLemmas
 pub mod DirectoriesLemmas
 pub mod DirectoriesFacts
 pub mod ProcMacrosFacts

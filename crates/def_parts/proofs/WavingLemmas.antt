@@ -213,3 +213,11 @@ module _ {V : Type 0} (c : Content V) (rest : List Frame) (f : Frame) (ends : sl
           now.1,
         );
   }
+
+-- a wave from a module without edges is over as it begins
+pub wave_alone : {V : Type 0} (o : Order V) (sources : List ModuleId) (c : Content V) (f : Frame)
+    → slice_get (c.edges f.source) f.next ≡ None → f.next ≡ 0
+    → Wave o f.source f.slots.items (all_vis c f.source f.slots.items sources) c c []
+wave_alone o sources c f ends first =
+    wave_without c [] f ends o f.source f.slots.items (all_vis c f.source f.slots.items sources) c
+    (wave_start o f.source f.slots.items sources c f refl first refl)

@@ -8,6 +8,8 @@ pub mod PuttingLaws
 pub mod BringingLaws
 pub mod RecordingLaws
 pub mod LedLaws
+pub mod EdgesLaws
+pub mod AddingLaws
 pub mod Directories
 pub mod DirectoriesLaws
 pub mod ProcMacros

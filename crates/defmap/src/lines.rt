@@ -2,7 +2,7 @@
 
 use crate::fault::Fault;
 use def_bindings::{ImportOrExternCrate, Visibility};
-use def_collector::{Collected, DefDiagnostic, DefDiagnosticKind, LeftImport};
+use def_collector::{Collected, DefDiagnostic, DefDiagnosticKind, Edge, LeftImport};
 use def_ids::{Def, Interner, MacroId, TraitId};
 use def_map::{DefMap, Item, ItemScope, PerNs};
 use item_tree::{Crate, HirFileId, ModPath, Name, PathKind, Text};
@@ -188,6 +188,17 @@ impl<'a, 'b, W: io::Write> Printer<'a, 'b, W> {
         Ok(())
     }
 
+    /// An edge of a glob.
+    fn edge(&mut self, edge: &Edge) -> Result<(), Fault> {
+        let source = edge.source.index;
+        let importer = edge.importer.index;
+        let vis = VisibilityText(edge.vis);
+        let use_id = edge.glob.use_id.0;
+        let idx = edge.glob.idx;
+        writeln!(self.out, "edge {source} {importer} {vis} {use_id}.{idx}")?;
+        Ok(())
+    }
+
     fn diagnostic(&mut self, diagnostic: &DefDiagnostic) -> Result<(), Fault> {
         let module = diagnostic.module.index;
         let file = FileText(diagnostic.ast_id.file);
@@ -296,6 +307,18 @@ fn sorted_traits(
     Ok(traits)
 }
 
+/// The edges of globs, by their sources and importers.
+fn sorted_edges(alloc: Global, edges: &[Edge]) -> Result<Vec<Edge>, AllocError> {
+    let mut found = Vec::new(alloc);
+    for edge in edges {
+        found.push(*edge)?;
+    }
+    found.sort_unstable_by(|a, b| {
+        (a.source.index, a.importer.index).cmp(&(b.source.index, b.importer.index))
+    });
+    Ok(found)
+}
+
 /// Prints a map, the diagnostics of its run, and what the run left over.
 pub fn print<W: io::Write>(
     alloc: Global,
@@ -318,6 +341,9 @@ pub fn print<W: io::Write>(
         if let Some(scope) = map.scope(index) {
             printer.unnamed_traits(alloc, index, &scope)?;
         }
+    }
+    for edge in &sorted_edges(alloc, collected.outcome.edges.as_slice())? {
+        printer.edge(edge)?;
     }
     for diagnostic in &collected.diagnostics {
         printer.diagnostic(diagnostic)?;

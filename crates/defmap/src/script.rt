@@ -17,7 +17,7 @@ pub enum VisText {
     In(PathText),
 }
 
-/// One import of a `use`, with its alias. The alias `_` is no name.
+/// One import of a `use`: what it takes, and its alias. The alias `_` is no name.
 pub struct ImportText {
     pub path: PathText,
     pub kind: ImportKind,
@@ -41,6 +41,13 @@ pub enum CtorText {
     None,
     Vis(VisText),
     Fields(&'static [VisText]),
+}
+
+/// What stands behind an attribute's name: nothing, a text, or words in parentheses.
+pub enum AttrText {
+    Word,
+    Text(&'static str),
+    List(&'static [&'static str]),
 }
 
 /// An item. What stands in a module or an extern block follows it, one deeper.
@@ -67,6 +74,11 @@ pub enum ItemText {
     /// No item: cfg disables the file.
     FileDisabled {
         cfg: usize,
+    },
+    /// No item: an attribute of the file.
+    FileAttr {
+        name: &'static str,
+        input: AttrText,
     },
     /// No item: the path by which the files of the vector lead to this one.
     FilePath {

@@ -1,8 +1,12 @@
 //! What no contract says: the printed lines, and worked rows over scripted crates.
 
+mod attrs;
 mod blocks;
+mod dependencies;
 mod directories;
 mod files;
+mod glob_imports;
+mod glob_kinds;
 mod globs;
 mod kinds;
 mod paths;

@@ -1,11 +1,11 @@
 //! Item trees of scripted files.
 
-use crate::script::{CtorText, ImportText, ItemText, Line, PathText, PlainKind, VisText};
+use crate::script::{AttrText, CtorText, ImportText, ItemText, Line, PathText, PlainKind, VisText};
 use def_ids::Interner;
 use item_tree::{
     Attr, AttrInput, Attrs, AttrsOrCfg, CfgExpr, CtorVisibility, FileAstId, ImportAlias, ItemNode,
-    ItemTree, ModContents, ModItemId, ModItemKind, ModPath, Name, PathKind, RawVisibility, Seq,
-    SyntaxContext, Text, TreeFault, UseImport, sym,
+    ItemTree, Leaf, ModContents, ModItemId, ModItemKind, ModPath, Name, PathKind, RawVisibility,
+    Seq, SyntaxContext, Text, TreeFault, TtElement, UseImport, sym,
 };
 use std::alloc::{AllocError, Global};
 
@@ -120,9 +120,10 @@ fn item_kind(
             visibility: visibility(alloc, session, vis)?,
             contents: ModContents::Outline,
         })),
-        ItemText::Disabled { .. } | ItemText::FileDisabled { .. } | ItemText::FilePath { .. } => Ok(
-            None,
-        ),
+        ItemText::Disabled { .. }
+        | ItemText::FileDisabled { .. }
+        | ItemText::FileAttr { .. }
+        | ItemText::FilePath { .. } => Ok(None),
         ItemText::Use {
             vis,
             imports: texts,
@@ -176,13 +177,8 @@ fn attributes(
         ..
     } = text
     {
-        let mut segments = Seq::from_vec(Vec::new(alloc));
-        segments.push(sym::PATH)?;
         list.push(Attr {
-            path: ModPath {
-                kind: PathKind::Plain,
-                segments,
-            },
+            path: word(alloc, sym::PATH)?,
             input: Some(AttrInput::Str(Text::from_str(alloc, path)?)),
             ctxt: SyntaxContext(0),
             paths: None,
@@ -196,6 +192,74 @@ fn with_cfg(attrs: Attrs, cfg: Option<CfgExpr>) -> AttrsOrCfg {
         Some(cfg) => AttrsOrCfg::CfgDisabled(cfg, attrs),
         None => AttrsOrCfg::Enabled(attrs),
     }
+}
+
+/// The path of one segment.
+fn word(alloc: Global, name: Name) -> Result<ModPath, AllocError> {
+    let mut segments = Seq::from_vec(Vec::new(alloc));
+    segments.push(name)?;
+    Ok(ModPath {
+        kind: PathKind::Plain,
+        segments,
+    })
+}
+
+/// An attribute whose arguments are words: as token trees, and as the paths that they are.
+fn list_attr(
+    alloc: Global,
+    session: &mut Interner,
+    path: ModPath,
+    words: &[&str],
+) -> Result<Attr, AllocError> {
+    let mut tokens = Seq::from_vec(Vec::new(alloc));
+    let mut paths = Seq::from_vec(Vec::new(alloc));
+    for text in words {
+        let name = session.intern_name(text)?;
+        if !tokens.is_empty() {
+            tokens.push(TtElement::Leaf(Leaf::Punct(',')))?;
+        }
+        tokens.push(TtElement::Leaf(Leaf::Ident(name)))?;
+        paths.push((word(alloc, name)?, SyntaxContext(0)))?;
+    }
+    Ok(Attr {
+        path,
+        input: Some(AttrInput::TokenTree(tokens)),
+        ctxt: SyntaxContext(0),
+        paths: Some(paths),
+    })
+}
+
+/// An attribute as it is written.
+fn attribute(
+    alloc: Global,
+    session: &mut Interner,
+    name: &str,
+    text: &AttrText,
+) -> Result<Attr, AllocError> {
+    let name = session.intern_name(name)?;
+    let path = word(alloc, name)?;
+    let input = match text {
+        AttrText::Word => None,
+        AttrText::Text(text) => Some(AttrInput::Str(Text::from_str(alloc, text)?)),
+        AttrText::List(words) => return list_attr(alloc, session, path, words),
+    };
+    Ok(Attr {
+        path,
+        input,
+        ctxt: SyntaxContext(0),
+        paths: None,
+    })
+}
+
+/// The attributes of a whole file, in the order of its lines.
+fn file_attrs(alloc: Global, session: &mut Interner, lines: &[Line]) -> Result<Attrs, AllocError> {
+    let mut list = Seq::from_vec(Vec::new(alloc));
+    for line in lines {
+        if let ItemText::FileAttr { name, input } = &line.item {
+            list.push(attribute(alloc, session, name, input)?)?;
+        }
+    }
+    Ok(Attrs { list })
 }
 
 /// The condition that disables a whole file, if one of its lines says so.
@@ -270,11 +334,6 @@ pub fn tree_of(
             kind,
         })?;
     }
-    let attrs = with_cfg(
-        Attrs {
-            list: Seq::from_vec(Vec::new(alloc)),
-        },
-        file_cfg(lines),
-    );
+    let attrs = with_cfg(file_attrs(alloc, session, lines)?, file_cfg(lines));
     Ok(ItemTree::new(items, top, attrs))
 }

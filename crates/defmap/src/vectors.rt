@@ -5,13 +5,55 @@ ghost use Rattle.std.specs.List.{list_any};
 ghost use Rattle.defmap.specs.Command.{is_vector, vector_names};
 
 use crate::script::{
-    CrateText, CtorText, ImportText, ItemText, Line, PathText, PlainKind, Vector, VisText,
+    AttrText, CrateText, CtorText, ImportText, ItemText, Line, PathText, PlainKind, Vector, VisText,
 };
 use def_ids::Edition;
 use item_tree::{ImportKind, PathKind};
 
 /// The vectors in byte order of their names.
-static VECTORS: [Vector; 5] = [
+static VECTORS: [Vector; 10] = [
+    // #![recursion_limit = "4"] #![no_core] #![no_std] #![feature(register_tool)]
+    Vector {
+        name: "attrs",
+        files: &[&[
+            Line {
+                depth: 0,
+                item: ItemText::FileAttr {
+                    name: "recursion_limit",
+                    input: AttrText::Text("4"),
+                },
+            },
+            Line {
+                depth: 0,
+                item: ItemText::FileAttr {
+                    name: "no_core",
+                    input: AttrText::Word,
+                },
+            },
+            Line {
+                depth: 0,
+                item: ItemText::FileAttr {
+                    name: "no_std",
+                    input: AttrText::Word,
+                },
+            },
+            Line {
+                depth: 0,
+                item: ItemText::FileAttr {
+                    name: "feature",
+                    input: AttrText::List(&["register_tool"]),
+                },
+            },
+        ]],
+        crates: &[CrateText {
+            krate: 0,
+            edition: Edition::Edition2021,
+            root_file: 0,
+            deps: &[],
+        }],
+        builtin_types: &[],
+        enums: &[],
+    },
     // #[path = "foo.rs"] mod foo; in the root file and in foo.rs itself
     Vector {
         name: "circular",
@@ -48,6 +90,78 @@ static VECTORS: [Vector; 5] = [
         builtin_types: &[],
         enums: &[],
     },
+    // mod a { pub use crate::b::*; pub struct X; } mod b { pub use crate::a::*; pub struct Y; }
+    Vector {
+        name: "cycle",
+        files: &[&[
+            Line {
+                depth: 0,
+                item: ItemText::Mod {
+                    vis: VisText::PubSelf,
+                    name: "a",
+                },
+            },
+            Line {
+                depth: 1,
+                item: ItemText::Use {
+                    vis: VisText::Public,
+                    imports: &[ImportText {
+                        path: PathText {
+                            kind: PathKind::Crate,
+                            segments: &["b"],
+                        },
+                        kind: ImportKind::Glob,
+                        alias: None,
+                    }],
+                },
+            },
+            Line {
+                depth: 1,
+                item: ItemText::Struct {
+                    vis: VisText::Public,
+                    name: "X",
+                    ctor: CtorText::Vis(VisText::Public),
+                },
+            },
+            Line {
+                depth: 0,
+                item: ItemText::Mod {
+                    vis: VisText::PubSelf,
+                    name: "b",
+                },
+            },
+            Line {
+                depth: 1,
+                item: ItemText::Use {
+                    vis: VisText::Public,
+                    imports: &[ImportText {
+                        path: PathText {
+                            kind: PathKind::Crate,
+                            segments: &["a"],
+                        },
+                        kind: ImportKind::Glob,
+                        alias: None,
+                    }],
+                },
+            },
+            Line {
+                depth: 1,
+                item: ItemText::Struct {
+                    vis: VisText::Public,
+                    name: "Y",
+                    ctor: CtorText::Vis(VisText::Public),
+                },
+            },
+        ]],
+        crates: &[CrateText {
+            krate: 0,
+            edition: Edition::Edition2021,
+            root_file: 0,
+            deps: &[],
+        }],
+        builtin_types: &[],
+        enums: &[],
+    },
     Vector {
         name: "empty",
         files: &[&[]],
@@ -71,6 +185,136 @@ static VECTORS: [Vector; 5] = [
                 ctor: CtorText::Fields(&[VisText::Public, VisText::PubCrate]),
             },
         }]],
+        crates: &[CrateText {
+            krate: 0,
+            edition: Edition::Edition2021,
+            root_file: 0,
+            deps: &[],
+        }],
+        builtin_types: &[],
+        enums: &[],
+    },
+    // mod a { pub struct S; } use a::*;
+    Vector {
+        name: "glob",
+        files: &[&[
+            Line {
+                depth: 0,
+                item: ItemText::Mod {
+                    vis: VisText::PubSelf,
+                    name: "a",
+                },
+            },
+            Line {
+                depth: 1,
+                item: ItemText::Struct {
+                    vis: VisText::Public,
+                    name: "S",
+                    ctor: CtorText::Vis(VisText::Public),
+                },
+            },
+            Line {
+                depth: 0,
+                item: ItemText::Use {
+                    vis: VisText::PubSelf,
+                    imports: &[ImportText {
+                        path: PathText {
+                            kind: PathKind::Plain,
+                            segments: &["a"],
+                        },
+                        kind: ImportKind::Glob,
+                        alias: None,
+                    }],
+                },
+            },
+        ]],
+        crates: &[CrateText {
+            krate: 0,
+            edition: Edition::Edition2021,
+            root_file: 0,
+            deps: &[],
+        }],
+        builtin_types: &[],
+        enums: &[],
+    },
+    // mod p { pub use crate::m::*; } mod t { pub struct A; pub struct B; } mod m { pub struct A; pub use crate::t::*; }
+    Vector {
+        name: "list",
+        files: &[&[
+            Line {
+                depth: 0,
+                item: ItemText::Mod {
+                    vis: VisText::PubSelf,
+                    name: "p",
+                },
+            },
+            Line {
+                depth: 1,
+                item: ItemText::Use {
+                    vis: VisText::Public,
+                    imports: &[ImportText {
+                        path: PathText {
+                            kind: PathKind::Crate,
+                            segments: &["m"],
+                        },
+                        kind: ImportKind::Glob,
+                        alias: None,
+                    }],
+                },
+            },
+            Line {
+                depth: 0,
+                item: ItemText::Mod {
+                    vis: VisText::PubSelf,
+                    name: "t",
+                },
+            },
+            Line {
+                depth: 1,
+                item: ItemText::Struct {
+                    vis: VisText::Public,
+                    name: "A",
+                    ctor: CtorText::Vis(VisText::Public),
+                },
+            },
+            Line {
+                depth: 1,
+                item: ItemText::Struct {
+                    vis: VisText::Public,
+                    name: "B",
+                    ctor: CtorText::Vis(VisText::Public),
+                },
+            },
+            Line {
+                depth: 0,
+                item: ItemText::Mod {
+                    vis: VisText::PubSelf,
+                    name: "m",
+                },
+            },
+            Line {
+                depth: 1,
+                item: ItemText::Struct {
+                    vis: VisText::Public,
+                    name: "A",
+                    ctor: CtorText::Vis(VisText::Public),
+                },
+            },
+            Line {
+                depth: 1,
+                item: ItemText::Use {
+                    vis: VisText::Public,
+                    imports: &[ImportText {
+                        path: PathText {
+                            kind: PathKind::Crate,
+                            segments: &["t"],
+                        },
+                        kind: ImportKind::Glob,
+                        alias: None,
+                    }],
+                },
+            },
+        ]],
         crates: &[CrateText {
             krate: 0,
             edition: Edition::Edition2021,
@@ -123,6 +367,49 @@ static VECTORS: [Vector; 5] = [
                             segments: &["a", "T"],
                         },
                         kind: ImportKind::Plain,
+                        alias: None,
+                    }],
+                },
+            },
+        ]],
+        crates: &[CrateText {
+            krate: 0,
+            edition: Edition::Edition2021,
+            root_file: 0,
+            deps: &[],
+        }],
+        builtin_types: &[],
+        enums: &[],
+    },
+    // mod a { pub struct T(u8); } use a::*;
+    Vector {
+        name: "private",
+        files: &[&[
+            Line {
+                depth: 0,
+                item: ItemText::Mod {
+                    vis: VisText::PubSelf,
+                    name: "a",
+                },
+            },
+            Line {
+                depth: 1,
+                item: ItemText::Struct {
+                    vis: VisText::Public,
+                    name: "T",
+                    ctor: CtorText::Vis(VisText::PubSelf),
+                },
+            },
+            Line {
+                depth: 0,
+                item: ItemText::Use {
+                    vis: VisText::PubSelf,
+                    imports: &[ImportText {
+                        path: PathText {
+                            kind: PathKind::Plain,
+                            segments: &["a"],
+                        },
+                        kind: ImportKind::Glob,
                         alias: None,
                     }],
                 },

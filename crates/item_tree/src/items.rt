@@ -33,6 +33,8 @@ pub enum ImportKind {
     Plain,
     /// What stands in types alone, as `use a::{self}` takes it.
     TypeOnly,
+    /// All names of what its path means.
+    Glob,
 }
 
 /// The name that an import is given.

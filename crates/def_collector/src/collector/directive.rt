@@ -2,9 +2,10 @@
 ghost use Rattle.std.specs.Prelude.{◌≡◌};
 ghost use Rattle.def_collector.specs.Imports as imports;
 ghost use Rattle.def_collector.specs.Collector.{kept_of, ns_set, pending_of};
+ghost use Rattle.def_collector.specs.Globs.{is_public};
 
 use def_bindings::{ImportOrExternCrate, Namespace, Visibility};
-use def_ids::{ImportId, ModuleId, UseId};
+use def_ids::{GlobId, ImportId, ModuleId, UseId};
 use def_map::{Item, PerNs, ReachedFixedPoint, ResolvePathResult};
 use item_tree::{FileAstId, ImportAlias, ImportKind, InFile, Name, RawVisibility, UseImport};
 
@@ -128,8 +129,9 @@ pub fn kept_item(answer: &ResolvePathResult, item: Option<Item>) -> Option<Item>
     }
 }
 
-fn is_public(vis: Visibility) -> bool
-    ensures { result ≡ imports.is_public vis }
+/// Whether something is public.
+pub fn is_public(vis: Visibility) -> bool
+    ensures { result ≡ is_public vis }
 {
     match vis {
         Visibility::Public => true,
@@ -142,7 +144,7 @@ pub fn keeps_ns(kind: ImportKind, ns: Namespace) -> bool
     ensures { result ≡ imports.keeps_ns kind ns }
 {
     match kind {
-        ImportKind::Plain => true,
+        ImportKind::Plain | ImportKind::Glob => true,
         ImportKind::TypeOnly => match ns {
             Namespace::Types => true,
             Namespace::Values | Namespace::Macros => false,
@@ -150,10 +152,20 @@ pub fn keeps_ns(kind: ImportKind, ns: Namespace) -> bool
     }
 }
 
-/// The name that an import binds: its alias, else the last segment of its path. The inner `None`
-/// is `_`.
+/// The name that an import binds: its alias, else the last segment of its path. A glob binds none of
+/// its own.
 pub fn import_name(import: &UseImport) -> Option<Option<Name>>
     ensures { result ≡ imports.bound_name import.now }
+{
+    match import.kind {
+        ImportKind::Plain | ImportKind::TypeOnly => plain_name(import),
+        ImportKind::Glob => None,
+    }
+}
+
+/// The alias of an import, else the last segment of its path.
+fn plain_name(import: &UseImport) -> Option<Option<Name>>
+    ensures { result ≡ imports.name_or import.now.alias import.now.path.segments }
 {
     match import.alias {
         Some(ImportAlias::Alias(name)) => Some(Some(name)),
@@ -166,6 +178,17 @@ pub fn import_name(import: &UseImport) -> Option<Option<Name>>
 }
 
 impl ImportDirective<'_> {
+    /// Its number, as a glob.
+    pub fn glob_id(&self) -> GlobId
+        ensures { result ≡ imports.glob_id (pending_of self.now) }
+    {
+        let idx = self.import.idx;
+        GlobId {
+            use_id: self.use_id,
+            idx,
+        }
+    }
+
     /// What its bindings are brought by.
     pub fn origin(&self) -> ImportOrExternCrate
         ensures { result ≡ imports.origin_of (pending_of self.now) }

@@ -2,16 +2,21 @@
 ghost use Rattle.std.specs.Prelude.{◌≡◌, ◌++◌, map, IfOk, OnOk};
 ghost use Rattle.def_ids.specs.declared.interner.Interner.{Interner};
 ghost use Rattle.def_map.specs.Maps.{map_state};
-ghost use Rattle.def_collector.specs.Collector.{IsFinished, left_in, marked_each, shown, state_of};
-ghost use Rattle.def_collector.specs.Report.{left_import, unresolved};
+ghost use Rattle.indexmap.specs.IndexMap.{IsUnique};
+ghost use Rattle.def_ids.specs.Equality.{glob_eq};
+ghost use Rattle.def_bindings.specs.NumberedTable.{all_edges};
+ghost use Rattle.def_collector.specs.Collector.{IsFinished, left_in, marked_each, shown, shown_edge, state_of};
+ghost use Rattle.def_collector.specs.Report.{left_import, shown_targets, unresolved};
 
 use super::DefCollector;
 use super::directive::{ImportDirective, import_name};
 use crate::diagnostics::{DefDiagnostic, DefDiagnosticKind};
-use crate::outcome::{Collected, LeftImport, Outcome};
-use def_map::{DefMap, LocalDefMap, MapData};
+use crate::outcome::{Collected, Edge, LeftImport, Outcome};
+use def_ids::{Def, GlobId};
+use def_map::{DefMap, LocalDefMap, MapData, Table};
+use indexmap::IndexMap;
 use item_tree::Seq;
-use std::alloc::AllocError;
+use std::alloc::{AllocError, Global};
 
 /// The parts of a map and an outcome, as they are finished.
 #[derive(Drop)]
@@ -31,8 +36,10 @@ impl<'a> DefCollector<'a> {
             alloc,
             def_map,
             table,
+            targets,
             local_def_map,
             crate_local: _,
+            is_proc_macro: _,
             mod_dirs: _,
             unresolved_imports,
             indeterminate_imports: _,
@@ -51,6 +58,9 @@ impl<'a> DefCollector<'a> {
             imports,
             diagnostics,
         } = finish;
+        let table = table.into_table();
+        let edges = edges_of(alloc, &table)?;
+        let targets = targets_of(alloc, &targets)?;
         Ok(Collected {
             def_map: DefMap::from_parts(def_map, table),
             local_def_map,
@@ -58,12 +68,60 @@ impl<'a> DefCollector<'a> {
                 limit_met: false,
                 imports,
                 macros: Vec::new(alloc),
-                edges: Vec::new(alloc),
-                targets: Vec::new(alloc),
+                edges,
+                targets,
             },
             diagnostics: Seq::from_vec(diagnostics),
         })
     }
+}
+
+/// All edges of a table, in order of recording.
+fn edges_of(alloc: Global, table: &Table) -> Result<Vec<Edge>, AllocError>
+    ensures { IfOk result (λ edges. edges.items ≡ map shown_edge (all_edges table.now)) }
+{
+    let mut edges = Vec::new(alloc);
+    let mut number = 0;
+    'edges: while let Some((source, edge)) = table.numbered_edge(number) {
+        edges.push(Edge {
+            source,
+            importer: edge.importer,
+            vis: edge.vis,
+            glob: edge.glob,
+        })?;
+        number += 1;
+    }
+    Ok(edges)
+}
+
+/// The definitions of a list.
+fn copy_of(alloc: Global, defs: &[Def]) -> Result<Vec<Def>, AllocError>
+    ensures { IfOk result (λ list. list.items ≡ defs.now) }
+{
+    let mut list = Vec::new(alloc);
+    'defs: for def in defs {
+        list.push(*def)?;
+    }
+    Ok(list)
+}
+
+/// What each glob was recorded with, in order.
+fn targets_of(
+    alloc: Global,
+    targets: &IndexMap<GlobId, Seq<Def>>,
+) -> Result<Vec<(GlobId, Vec<Def>)>, AllocError>
+    ensures listed { IfOk result (λ list. map shown_targets list.items ≡ targets.now.entries) }
+    ensures once { IsUnique glob_eq targets.now }
+{
+    let mut list = Vec::new(alloc);
+    let mut number = 0;
+    let _ = targets.len();
+    'targets: while let Some((glob, defs)) = targets.get_index(number) {
+        let copy = copy_of(alloc, defs.as_slice())?;
+        list.push((*glob, copy))?;
+        number += 1;
+    }
+    Ok(list)
 }
 
 impl Finish {

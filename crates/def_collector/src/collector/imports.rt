@@ -1,8 +1,11 @@
 //! Imports: each pass records those that are ready.
 ghost use Rattle.std.specs.Prelude.{◌≡◌, ◌<◌, ◌++◌, [], ℕ, true, false, map, option_map, vec_len, slice_get, IfOk, OnOk, Some};
+ghost use Rattle.item_tree.specs.declared.items.ImportKind.TheVariants.{Plain};
 ghost use Rattle.def_ids.specs.declared.interner.Interner.{Interner};
-ghost use Rattle.def_collector.specs.Collector.{IsUnready, IsUnreadyAgain, Moves, kept_of, partial_of, pending_of, performed, state_of, turns_left, waiting};
-ghost use Rattle.def_collector.specs.Imports.{answer_now, bound_name, entry_of, import_vis, kept_list, named_entries, NoneReady};
+ghost use Rattle.def_bindings.specs.ModuleTree.{chain_in};
+ghost use Rattle.def_bindings.specs.Visibility.{order_over};
+ghost use Rattle.def_collector.specs.Collector.{IsUnready, IsUnreadyAgain, Moves, Performs, kept_of, partial_of, pending_of, state_of, turns_left, waiting};
+ghost use Rattle.def_collector.specs.Imports.{answer_now, bound_name, entry_of, import_vis, kept_list, named_entries, record_effect, record_tasks, NoneReady};
 ghost use Rattle.def_collector.specs.State.{order};
 ghost use Rattle.def_collector.specs.Steps.{Leads};
 
@@ -11,10 +14,10 @@ use super::directive::{
     ImportDirective, NamespaceSet, PartialDirective, import_name, is_missing, is_ready_again,
     keeps_ns, kept_after, kept_item,
 };
-use def_bindings::{Entry, Namespace, Visibility, lesser_or_import};
+use def_bindings::{Entry, ModuleTree, Namespace, Visibility, lesser_or_import};
 use def_ids::Interner;
 use def_map::{BuiltinShadowMode, Item, ResolveMode, ResolvePathResult, SourceDatabase};
-use item_tree::Name;
+use item_tree::{ImportKind, Name};
 use std::alloc::AllocError;
 
 impl<'a> DefCollector<'a> {
@@ -176,7 +179,7 @@ impl<'a> DefCollector<'a> {
         ensures { result ≡ answer_now (D.oracle db.now) (state_of self.now session.now) (pending_of directive.now) }
     {
         self.def_map.resolve_path_fp_with_macro(
-            &self.table,
+            self.table.table(),
             self.local(),
             db,
             session,
@@ -188,7 +191,7 @@ impl<'a> DefCollector<'a> {
         )
     }
 
-    /// Puts what an import gives at its name. On `Err` nothing but safety is promised.
+    /// Records an import with what its path gives, by its kind. On `Err` nothing but safety is promised.
     fn record_resolved_import<D: SourceDatabase>(
         &mut self,
         db: &D,
@@ -196,71 +199,73 @@ impl<'a> DefCollector<'a> {
         directive: &ImportDirective,
         answer: &ResolvePathResult,
     ) -> Result<(), AllocError>
-        ensures state { OnOk result (let s = state_of self.old session.now in
-            let pending = pending_of directive.now in
-            state_of self.new session.now
-            ≡ performed (named_entries (order s) pending (import_vis (D.oracle db.now) s pending) answer.now (bound_name directive.now.import.now)) s) }
-        ensures frame { OnOk result (self.new ≡ record self.old { table = self.new.table }) }
+        ensures performs { OnOk result (let s = state_of self.old session.now in
+            let effect = record_effect (D.oracle db.now) s (pending_of directive.now) answer.now in
+            Performs (D.oracle db.now) effect.tasks effect.state (state_of self.new session.now)) }
+        ensures frame { self.new ≡ record self.old { table = self.new.table; targets = self.new.targets } }
     {
-        let Some(name) = import_name(directive.import) else {
-            return Ok(());
-        };
-        let vis = self.resolve_visibility(db, session, directive.module_id, directive.vis);
-        let found = &answer.resolved_def;
-        self.put_import(
-            directive,
-            vis,
-            name,
-            Namespace::Types,
-            kept_item(answer, found.types),
-        )?;
-        self.put_import(
-            directive,
-            vis,
-            name,
-            Namespace::Values,
-            kept_item(answer, found.values),
-        )?;
-        self.put_import(
-            directive,
-            vis,
-            name,
-            Namespace::Macros,
-            kept_item(answer, found.macros),
-        )
+        match directive.import.kind {
+            ImportKind::Plain | ImportKind::TypeOnly => {
+                self.record_named(db, session, directive, answer)?;
+                Ok(())
+            }
+            ImportKind::Glob => {
+                self.record_glob(db, session, directive, answer)?;
+                Ok(())
+            }
+        }
     }
 
-    /// Puts what an import gives in one namespace, if it gives something there.
-    fn put_import(
+    /// Puts what a named import gives at its name. On `Err` nothing but safety is promised.
+    fn record_named<D: SourceDatabase>(
         &mut self,
+        db: &D,
+        session: &Interner,
         directive: &ImportDirective,
-        import_vis: Visibility,
-        name: Option<Name>,
-        ns: Namespace,
-        item: Option<Item>,
+        answer: &ResolvePathResult,
     ) -> Result<(), AllocError>
-        ensures state { OnOk result ((session : Interner) →
-            let s = state_of self.old session in
-            state_of self.new session ≡ performed (entry_of (order s) (pending_of directive.now) import_vis name ns item) s) }
-        ensures frame { OnOk result (self.new ≡ record self.old { table = self.new.table }) }
+        ensures performs { OnOk result (let s = state_of self.old session.now in
+            Performs (D.oracle db.now) (record_tasks (D.oracle db.now) s (pending_of directive.now) answer.now Plain)
+            s (state_of self.new session.now)) }
+        ensures frame { self.new ≡ record self.old { table = self.new.table } }
     {
-        let Some(item) = item else {
-            return Ok(());
+        let entries = self.named_entries(db, session, directive, answer)?;
+        self.put(directive.module_id, entries.as_slice())?;
+        Ok(())
+    }
+
+    /// What an import gives at its name, one entry in each namespace.
+    fn named_entries<D: SourceDatabase>(
+        &self,
+        db: &D,
+        session: &Interner,
+        directive: &ImportDirective,
+        answer: &ResolvePathResult,
+    ) -> Result<Vec<Entry<Visibility>>, AllocError>
+        ensures { IfOk result (λ entries. let s = state_of self.now session.now in
+            let pending = pending_of directive.now in
+            entries.items
+            ≡ named_entries (order s) pending (import_vis (D.oracle db.now) s pending) answer.now (bound_name directive.now.import.now)) }
+    {
+        let mut entries = Vec::new(self.alloc);
+        let Some(name) = import_name(directive.import) else {
+            return Ok(entries);
         };
-        if !keeps_ns(directive.import.kind, ns) {
-            return Ok(());
-        }
-        let vis = lesser_or_import(&self.def_map.tree, item.vis, import_vis);
-        self.put(
-            directive.module_id,
-            Entry {
-                name,
-                ns,
-                def: item.def,
-                vis,
-                origin: Some(directive.origin()),
-            },
-        )
+        let vis = self.resolve_visibility(db, session, directive.module_id, directive.vis);
+        let brought = Brought {
+            directive: *directive,
+            name,
+            vis,
+        };
+        let found = &answer.resolved_def;
+        let types = kept_item(answer, found.types);
+        let values = kept_item(answer, found.values);
+        let macros = kept_item(answer, found.macros);
+        let order = &self.def_map.tree;
+        push_entry(&mut entries, order, brought, Namespace::Types, types)?;
+        push_entry(&mut entries, order, brought, Namespace::Values, values)?;
+        push_entry(&mut entries, order, brought, Namespace::Macros, macros)?;
+        Ok(entries)
     }
 
     /// Drops the entries that imports left behind.
@@ -270,6 +275,42 @@ impl<'a> DefCollector<'a> {
         drop_left(&mut self.unresolved_imports);
         drop_left(&mut self.indeterminate_imports);
     }
+}
+
+/// An import that is recorded, with the name that it binds and its visibility.
+#[derive(Clone, Copy)]
+struct Brought<'a> {
+    directive: ImportDirective<'a>,
+    name: Option<Name>,
+    vis: Visibility,
+}
+
+/// Appends the entry of what an import gives in a namespace, if it gives something there.
+fn push_entry(
+    entries: &mut Vec<Entry<Visibility>>,
+    order: &ModuleTree,
+    brought: Brought,
+    ns: Namespace,
+    item: Option<Item>,
+) -> Result<(), AllocError>
+    ensures { OnOk result (entries.new.items ≡ entries.old.items
+        ++ entry_of (order_over (chain_in order.now)) (pending_of brought.entry.directive)
+        brought.entry.vis brought.entry.name ns item) }
+{
+    let Some(item) = item else {
+        return Ok(());
+    };
+    if !keeps_ns(brought.directive.import.kind, ns) {
+        return Ok(());
+    }
+    entries.push(Entry {
+        name: brought.name,
+        ns,
+        def: item.def,
+        vis: lesser_or_import(order, item.vis, brought.vis),
+        origin: Some(brought.directive.origin()),
+    })?;
+    Ok(())
 }
 
 /// What stands for an import that was recorded once more, if it may be again.

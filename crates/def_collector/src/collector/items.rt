@@ -1,16 +1,17 @@
 //! What each kind of item does.
 ghost use Rattle.std.specs.Prelude.{◌≡◌, ◌∷◌, ◌++◌, [], length, map, IfOk, OnOk};
 ghost use Rattle.def_ids.specs.Session.{Grows, session_of};
-ghost use Rattle.def_collector.specs.Collector.{AreKnown, Handled, inner_of, pending_of, performed, queued, site_of, state_of, waiting};
-ghost use Rattle.def_collector.specs.State.{Put, order};
+ghost use Rattle.def_collector.specs.Collector.{AreKnown, Handled, Performs, Updated, inner_of, pending_of, queued, site_of, state_of, waiting};
+ghost use Rattle.def_collector.specs.State.{order};
 ghost use Rattle.def_ids.specs.declared.interner.Interner.{Interner};
-ghost use Rattle.def_collector.specs.Items.{ctor_vis, declared_effect, least_in, least_of, position_of, put_declared, struct_effect, written_vis};
+ghost use Rattle.def_map.specs.Oracle.{Oracle};
+ghost use Rattle.def_collector.specs.Items.{ctor_vis, declared_effect, declared_entry, least_in, least_of, position_of, struct_effect, written_vis};
 
 use super::DefCollector;
 use super::directive::ImportDirective;
 use super::modules::ModuleItem;
 use super::walk::{Frame, Site};
-use def_bindings::{Entry, Namespace, VisOrder, Visibility, lesser_or_import, put_entry};
+use def_bindings::{Entry, Namespace, VisOrder, Visibility, lesser_or_import};
 use def_ids::{
     ConstLoc, Def, EnumLoc, ExternBlockLoc, FunctionLoc, ImplLoc, Interner, ItemContainerId,
     Location, ModuleId, StaticLoc, StructLoc, TraitLoc, TypeAliasLoc, UnionLoc, UseId, UseLoc,
@@ -241,7 +242,7 @@ impl<'a> DefCollector<'a> {
     {
         self.def_map
             .resolve_visibility(
-                &self.table,
+                self.table.table(),
                 self.local(),
                 db,
                 session,
@@ -316,13 +317,14 @@ impl<'a> DefCollector<'a> {
         Some(least)
     }
 
-    /// Puts an entry in a module. On `Err` nothing but safety is promised.
-    pub fn put(&mut self, module_id: ModuleId, entry: Entry<Visibility>) -> Result<(), AllocError>
+    /// Puts entries in a module, and lets what changes travel along the edges of globs. On `Err`
+    /// nothing but safety is promised.
+    pub fn put(&mut self, module_id: ModuleId, list: &[Entry<Visibility>]) -> Result<(), AllocError>
         ensures frame { self.new ≡ record self.old { table = self.new.table } }
-        ensures state { OnOk result ((session : Interner) →
-            state_of self.new session ≡ performed (Put module_id entry ∷ []) (state_of self.old session)) }
+        ensures updated { OnOk result ((session : Interner) →
+            Updated module_id list.now (state_of self.old session) (state_of self.new session)) }
     {
-        put_entry(&mut self.table, &self.def_map.tree, module_id, &entry)?;
+        self.table.update(&self.def_map.tree, module_id, list)?;
         Ok(())
     }
 
@@ -336,18 +338,10 @@ impl<'a> DefCollector<'a> {
         vis: Visibility,
     ) -> Result<(), AllocError>
         ensures { OnOk result ((session : Interner) →
-            state_of self.new session ≡ performed (put_declared module_id name ns def vis ∷ []) (state_of self.old session)) }
+            Updated module_id (declared_entry name ns def vis ∷ []) (state_of self.old session) (state_of self.new session)) }
     {
-        self.put(
-            module_id,
-            Entry {
-                name: Some(name),
-                ns,
-                def,
-                vis,
-                origin: None,
-            },
-        )
+        self.put(module_id, &[declared(name, ns, def, vis)])?;
+        Ok(())
     }
 
     /// Declares a definition in one namespace. On `Err` nothing but safety is promised.
@@ -359,12 +353,13 @@ impl<'a> DefCollector<'a> {
         def: Def,
         vis: Visibility,
     ) -> Result<(), AllocError>
-        ensures { OnOk result ((session : Interner) →
+        ensures { OnOk result ((oracle : Oracle) (session : Interner) →
             let effect = declared_effect (state_of self.old session) module_id name ns def vis in
-            state_of self.new session ≡ performed effect.tasks effect.state) }
+            Performs oracle effect.tasks effect.state (state_of self.new session)) }
     {
         self.def_map.declare(module_id.index, def)?;
-        self.put_declared(module_id, name, ns, def, vis)
+        self.put_declared(module_id, name, ns, def, vis)?;
+        Ok(())
     }
 
     /// Declares a struct in types, and its constructor in values, which is at most as visible as
@@ -377,16 +372,37 @@ impl<'a> DefCollector<'a> {
         vis: Visibility,
         ctor_vis: Option<Visibility>,
     ) -> Result<(), AllocError>
-        ensures { OnOk result ((session : Interner) →
+        ensures { OnOk result ((oracle : Oracle) (session : Interner) →
             let effect = struct_effect (state_of self.old session) module_id name def vis ctor_vis in
-            state_of self.new session ≡ performed effect.tasks effect.state) }
+            Performs oracle effect.tasks effect.state (state_of self.new session)) }
     {
-        self.define(module_id, name, Namespace::Types, def, vis)?;
-        if let Some(ctor_vis) = ctor_vis {
-            let vis = lesser_or_import(&self.def_map.tree, ctor_vis, vis);
-            self.put_declared(module_id, name, Namespace::Values, def, vis)?;
+        self.def_map.declare(module_id.index, def)?;
+        let types = declared(name, Namespace::Types, def, vis);
+        match ctor_vis {
+            Some(ctor_vis) => {
+                let vis = lesser_or_import(&self.def_map.tree, ctor_vis, vis);
+                let values = declared(name, Namespace::Values, def, vis);
+                self.put(module_id, &[types, values])?;
+                Ok(())
+            }
+            None => {
+                self.put(module_id, &[types])?;
+                Ok(())
+            }
         }
-        Ok(())
+    }
+}
+
+/// The entry of a declaration.
+fn declared(name: Name, ns: Namespace, def: Def, vis: Visibility) -> Entry<Visibility>
+    ensures { result ≡ declared_entry name ns def vis }
+{
+    Entry {
+        name: Some(name),
+        ns,
+        def,
+        vis,
+        origin: None,
     }
 }
 

@@ -7,9 +7,9 @@ ghost use Rattle.def_ids.specs.declared.ids.Def.TheVariants as def_kind;
 ghost use Rattle.def_ids.specs.declared.interner.Interner.{Interner};
 ghost use Rattle.def_ids.specs.Session as sessions;
 ghost use Rattle.def_map.specs.declared.module_data.ModuleOrigin.TheVariants as origin_kind;
-ghost use Rattle.def_collector.specs.Collector.{AreKnown, IsDone, found_in, inner_of, performed, site_of, state_of};
+ghost use Rattle.def_collector.specs.Collector.{AreKnown, IsDone, Updated, found_in, inner_of, site_of, state_of};
 ghost use Rattle.def_collector.specs.Items as items;
-ghost use Rattle.def_collector.specs.Items.{add_module, diagnostic, module_item, next_module, outline_found, outline_item, put_declared, tree_cfg};
+ghost use Rattle.def_collector.specs.Items.{add_module, declared_entry, diagnostic, module_item, next_module, outline_found, outline_item, tree_cfg};
 ghost use Rattle.def_collector.specs.State.{reported};
 
 use super::DefCollector;
@@ -63,7 +63,7 @@ impl<'a> DefCollector<'a> {
         item: ModuleItem<'_>,
         contents: &'a ModContents,
     ) -> Result<Option<Frame<'a>>, AllocError>
-        ensures done { IfOk result (λ opened. IsDone
+        ensures done { IfOk result (λ opened. IsDone (D.oracle db.now)
             (module_item (D.oracle db.now) (state_of self.old session.now) (site_of item.entry.site) item.entry.node.now item.entry.name item.entry.vis contents.now)
             (state_of self.new session.now) (inner_of opened)) }
         ensures known { IfOk result (λ opened. AreKnown (D.oracle db.now) opened) }
@@ -84,7 +84,7 @@ impl<'a> DefCollector<'a> {
         item: ModuleItem<'_>,
         children: &'a [ModItemId],
     ) -> Result<Option<Frame<'a>>, AllocError>
-        ensures done { IfOk result (λ opened. IsDone
+        ensures done { IfOk result (λ opened. IsDone (D.oracle db.now)
             (module_item (D.oracle db.now) (state_of self.old session.now) (site_of item.entry.site) item.entry.node.now item.entry.name item.entry.vis (contents_kind.Inline children.now))
             (state_of self.new session.now) (inner_of opened)) }
         ensures known { IfOk result (λ opened. AreKnown (D.oracle db.now) opened) }
@@ -116,7 +116,7 @@ impl<'a> DefCollector<'a> {
         session: &Interner,
         item: ModuleItem<'_>,
     ) -> Result<Option<Frame<'a>>, AllocError>
-        ensures done { IfOk result (λ opened. IsDone
+        ensures done { IfOk result (λ opened. IsDone (D.oracle db.now)
             (module_item (D.oracle db.now) (state_of self.old session.now) (site_of item.entry.site) item.entry.node.now item.entry.name item.entry.vis contents_kind.Outline)
             (state_of self.new session.now) (inner_of opened)) }
         ensures known { IfOk result (λ opened. AreKnown (D.oracle db.now) opened) }
@@ -154,7 +154,7 @@ impl<'a> DefCollector<'a> {
         item: ModuleItem<'_>,
         found: FoundFile,
     ) -> Result<Option<Frame<'a>>, AllocError>
-        ensures done { IfOk result (λ opened. IsDone
+        ensures done { IfOk result (λ opened. IsDone (D.oracle db.now)
             (outline_item (D.oracle db.now) (state_of self.old session.now) (site_of item.entry.site) item.entry.node.now item.entry.name item.entry.vis (Ok (found_in found)))
             (state_of self.new session.now) (inner_of opened)) }
         ensures known { IfOk result (λ opened. AreKnown (D.oracle db.now) opened) }
@@ -216,9 +216,8 @@ impl<'a> DefCollector<'a> {
         ensures added { OnOk result ((session : Interner) →
             let s = state_of self.old session in
             let at = item.entry.site.module_id in
-            state_of self.new session
-            ≡ performed (put_declared at item.entry.name Types (def_kind.Module (next_module s)) item.entry.vis ∷ [])
-            (add_module s at item.entry.name item.entry.vis origin)) }
+            Updated at (declared_entry item.entry.name Types (def_kind.Module (next_module s)) item.entry.vis ∷ [])
+            (add_module s at item.entry.name item.entry.vis origin) (state_of self.new session)) }
     {
         let ModuleItem {
             site,

@@ -52,7 +52,7 @@ pub(crate) struct Segment {
 }
 
 /// The finished map of a block or a crate.
-pub(crate) fn finished_map<D: SourceDatabase>(db: &D, id: MapId) -> Option<&DefMap>
+pub fn finished_map<D: SourceDatabase>(db: &D, id: MapId) -> Option<&DefMap>
     ensures { option_map (λ m. view_of m.now) result ≡ finished_map_of (D.oracle db.now) id }
 {
     match id.block {

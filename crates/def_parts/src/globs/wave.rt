@@ -86,6 +86,10 @@ pub fn spread<T: BindingTable, O: VisOrder<Vis = T::Vis>>(
         (MendsPending (O.order order.now) «module» slots.items (T.content table.old)
         (T.content table.new)) }
 {
+    // Most modules have no edge, and then there is nothing to keep a stack for.
+    if table.edge_at(module, 0).is_none() {
+        return Ok(());
+    }
     let mut frames = Vec::new(alloc);
     frames.push(Frame {
         source: module,

@@ -290,7 +290,7 @@ fn lines_of(alloc: Global, vector: &Vector) -> Result<Vec<u8>, Fault> {
 }
 
 /// Whether a scripted crate has these lines.
-fn shows(alloc: Global, vector: &Vector, text: &str) -> Result<bool, Fault> {
+pub fn shows(alloc: Global, vector: &Vector, text: &str) -> Result<bool, Fault> {
     let lines = lines_of(alloc, vector)?;
     Ok(lines.as_slice() == text.as_bytes())
 }

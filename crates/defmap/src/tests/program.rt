@@ -57,7 +57,7 @@ fn shows_what_there_is(rt: HostRuntime) {
         alloc,
         &["list"],
         0,
-        "circular\nempty\nfields\nplain\nunderscore\n",
+        "attrs\ncircular\ncycle\nempty\nfields\nglob\nlist\nplain\nprivate\nunderscore\n",
         "",
     );
     expect_run(&rt, alloc, &["show", "plain"], 0, PLAIN, "");
@@ -104,7 +104,7 @@ fn a_refused_write_ends_a_run(rt: HostRuntime) {
     }
     assert_eq!(rt; said.len(), 0);
     assert_eq!(rt; narrow_status(alloc, &["show", "plain"], PLAIN.len(), 0), 0);
-    assert_eq!(rt; narrow_status(alloc, &["list"], 20, 0), 1);
+    assert_eq!(rt; narrow_status(alloc, &["list"], 62, 0), 1);
     assert_eq!(rt; narrow_status(alloc, &["show", "nothing"], 0, 0), 2);
     assert_eq!(rt; narrow_status(alloc, &[], 0, 0), 2);
 }

@@ -26,56 +26,56 @@ returns-in_ok-define_struct-in-Struct-clause-handled g c =
     let before : State = state_of c.args.self.now c.args.session.now in
     handled_struct (g.D.SourceDatabase.oracle c.args.db.now) before _ (session_of c.intern-in-Struct.new.session) (site_of c.args.site) c.args.node.now _ _ _ c.in_ok-id-in-Struct.id.0 c.position-in-Struct.result c.resolve_visibility-vis-in-Struct.result c.constructor_visibility-ctor_vis.result
     c.in-Struct.is c.in_ok-id-in-Struct.ensures.grows c.position-in-Struct.ensures c.in_ok-id-in-Struct.ensures.shown c.resolve_visibility-vis-in-Struct.ensures c.constructor_visibility-ctor_vis.ensures
-    (c.in_ok-define_struct-in-Struct.ensures c.intern-in-Struct.new.session)
+    (c.in_ok-define_struct-in-Struct.ensures (g.D.SourceDatabase.oracle c.args.db.now) c.intern-in-Struct.new.session) refl
 
 pub returns-in_ok-define-in-Union-clause-handled : goal.returns-in_ok-define-in-Union-clause-handled
 returns-in_ok-define-in-Union-clause-handled g c =
     let before : State = state_of c.args.self.now c.args.session.now in
     handled_union (g.D.SourceDatabase.oracle c.args.db.now) before _ (session_of c.intern-in-Union.new.session) (site_of c.args.site) c.args.node.now _ _ c.in_ok-id-in-Union.id.0 c.position-in-Union.result c.resolve_visibility-vis-in-Union.result
     c.in_ok-id-in-Union.ensures.grows c.position-in-Union.ensures c.resolve_visibility-vis-in-Union.ensures
-    c.in-Union.is c.in_ok-id-in-Union.ensures.shown (c.in_ok-define-in-Union.ensures c.intern-in-Union.new.session)
+    c.in-Union.is c.in_ok-id-in-Union.ensures.shown (c.in_ok-define-in-Union.ensures (g.D.SourceDatabase.oracle c.args.db.now) c.intern-in-Union.new.session) refl
 
 pub returns-in_ok-define-in-Enum-clause-handled : goal.returns-in_ok-define-in-Enum-clause-handled
 returns-in_ok-define-in-Enum-clause-handled g c =
     let before : State = state_of c.args.self.now c.args.session.now in
     handled_enum (g.D.SourceDatabase.oracle c.args.db.now) before _ (session_of c.intern-in-Enum.new.session) (site_of c.args.site) c.args.node.now _ _ c.in_ok-id-in-Enum.id.0 c.position-in-Enum.result c.resolve_visibility-vis-in-Enum.result
     c.in_ok-id-in-Enum.ensures.grows c.position-in-Enum.ensures c.resolve_visibility-vis-in-Enum.ensures
-    c.in-Enum.is c.in_ok-id-in-Enum.ensures.shown (c.in_ok-define-in-Enum.ensures c.intern-in-Enum.new.session)
+    c.in-Enum.is c.in_ok-id-in-Enum.ensures.shown (c.in_ok-define-in-Enum.ensures (g.D.SourceDatabase.oracle c.args.db.now) c.intern-in-Enum.new.session) refl
 
 pub returns-in_ok-define-in-Function-clause-handled : goal.returns-in_ok-define-in-Function-clause-handled
 returns-in_ok-define-in-Function-clause-handled g c =
     let before : State = state_of c.args.self.now c.args.session.now in
     handled_function (g.D.SourceDatabase.oracle c.args.db.now) before _ (session_of c.intern-in-Function.new.session) (site_of c.args.site) c.args.node.now _ _ c.in_ok-id-in-Function.id.0 c.position-in-Function.result c.resolve_visibility-vis-in-Function.result
     c.in_ok-id-in-Function.ensures.grows c.position-in-Function.ensures c.resolve_visibility-vis-in-Function.ensures
-    c.in-Function.is c.in_ok-id-in-Function.ensures.shown (c.in_ok-define-in-Function.ensures c.intern-in-Function.new.session)
+    c.in-Function.is c.in_ok-id-in-Function.ensures.shown (c.in_ok-define-in-Function.ensures (g.D.SourceDatabase.oracle c.args.db.now) c.intern-in-Function.new.session) refl
 
 pub returns-in_ok-define-in-Static-clause-handled : goal.returns-in_ok-define-in-Static-clause-handled
 returns-in_ok-define-in-Static-clause-handled g c =
     let before : State = state_of c.args.self.now c.args.session.now in
     handled_static (g.D.SourceDatabase.oracle c.args.db.now) before _ (session_of c.intern-in-Static.new.session) (site_of c.args.site) c.args.node.now _ _ c.in_ok-id-in-Static.id.0 c.position-in-Static.result c.resolve_visibility-vis-in-Static.result
     c.in_ok-id-in-Static.ensures.grows c.position-in-Static.ensures c.resolve_visibility-vis-in-Static.ensures
-    c.in-Static.is c.in_ok-id-in-Static.ensures.shown (c.in_ok-define-in-Static.ensures c.intern-in-Static.new.session)
+    c.in-Static.is c.in_ok-id-in-Static.ensures.shown (c.in_ok-define-in-Static.ensures (g.D.SourceDatabase.oracle c.args.db.now) c.intern-in-Static.new.session) refl
 
 pub returns-in_ok-define-in-Trait-clause-handled : goal.returns-in_ok-define-in-Trait-clause-handled
 returns-in_ok-define-in-Trait-clause-handled g c =
     let before : State = state_of c.args.self.now c.args.session.now in
     handled_trait (g.D.SourceDatabase.oracle c.args.db.now) before _ (session_of c.intern-in-Trait.new.session) (site_of c.args.site) c.args.node.now _ _ c.in_ok-id-in-Trait.id.0 c.position-in-Trait.result c.resolve_visibility-vis-in-Trait.result
     c.in_ok-id-in-Trait.ensures.grows c.position-in-Trait.ensures c.resolve_visibility-vis-in-Trait.ensures
-    c.in-Trait.is c.in_ok-id-in-Trait.ensures.shown (c.in_ok-define-in-Trait.ensures c.intern-in-Trait.new.session)
+    c.in-Trait.is c.in_ok-id-in-Trait.ensures.shown (c.in_ok-define-in-Trait.ensures (g.D.SourceDatabase.oracle c.args.db.now) c.intern-in-Trait.new.session) refl
 
 pub returns-in_ok-define-in-TypeAlias-clause-handled : goal.returns-in_ok-define-in-TypeAlias-clause-handled
 returns-in_ok-define-in-TypeAlias-clause-handled g c =
     let before : State = state_of c.args.self.now c.args.session.now in
     handled_type_alias (g.D.SourceDatabase.oracle c.args.db.now) before _ (session_of c.intern-in-TypeAlias.new.session) (site_of c.args.site) c.args.node.now _ _ c.in_ok-id-in-TypeAlias.id.0 c.position-in-TypeAlias.result c.resolve_visibility-vis-in-TypeAlias.result
     c.in_ok-id-in-TypeAlias.ensures.grows c.position-in-TypeAlias.ensures c.resolve_visibility-vis-in-TypeAlias.ensures
-    c.in-TypeAlias.is c.in_ok-id-in-TypeAlias.ensures.shown (c.in_ok-define-in-TypeAlias.ensures c.intern-in-TypeAlias.new.session)
+    c.in-TypeAlias.is c.in_ok-id-in-TypeAlias.ensures.shown (c.in_ok-define-in-TypeAlias.ensures (g.D.SourceDatabase.oracle c.args.db.now) c.intern-in-TypeAlias.new.session) refl
 
 pub returns-in_ok-define-in-Const-clause-handled : goal.returns-in_ok-define-in-Const-clause-handled
 returns-in_ok-define-in-Const-clause-handled g c =
     let before : State = state_of c.args.self.now c.args.session.now in
     handled_const (g.D.SourceDatabase.oracle c.args.db.now) before _ (session_of c.intern-in-Const.new.session) (site_of c.args.site) c.args.node.now _ _ c.in_ok-id-in-Const.id.0 c.position-in-Const.result c.resolve_visibility-vis-in-Const.result
     c.in_ok-id-in-Const.ensures.grows c.position-in-Const.ensures c.resolve_visibility-vis-in-Const.ensures
-    (c.in-Const.is ∙ ap (λ o. Const o c.in-Const.visibility) c.in-Some.is) c.in_ok-id-in-Const.ensures.shown (c.in_ok-define-in-Const.ensures c.intern-in-Const.new.session)
+    (c.in-Const.is ∙ ap (λ o. Const o c.in-Const.visibility) c.in-Some.is) c.in_ok-id-in-Const.ensures.shown (c.in_ok-define-in-Const.ensures (g.D.SourceDatabase.oracle c.args.db.now) c.intern-in-Const.new.session) refl
 
 pub returns-in_default-clause-handled : goal.returns-in_default-clause-handled
 returns-in_default-clause-handled g c =

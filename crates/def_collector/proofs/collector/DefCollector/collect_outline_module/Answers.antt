@@ -1,4 +1,4 @@
-use Rattle.std.proofs.Common.{ap, map, sym, ◌∙◌, Err}
+use Rattle.std.proofs.Common.{ap, map, subst, sym, ◌∙◌, Err}
 use Rattle.std.specs.Prelude.{string_bytes}
 use Rattle.def_parts.specs.Directories.{files_of, resolve_declaration}
 use Rattle.def_map.specs.declared.module_data.ModuleOrigin.TheVariants as origin
@@ -6,7 +6,7 @@ use Rattle.def_ids.specs.Session.{session_of}
 use Rattle.def_collector.specs.Collector.{site_of, state_of}
 use Rattle.def_collector.specs.Items.{name_text}
 use Rattle.def_collector.specs.State.{State}
-use Rattle.def_collector.proofs.ModulesLemmas.{asked_files, file_missing, pushed_module}
+use Rattle.def_collector.proofs.ModulesLemmas.{asked_files, file_missing, IsPushed}
 use Rattle.def_collector.proofs.collector.DefCollector.collect_outline_module.Goals as goal
 
 pub returns-in_ok-push_child_module-in-Err-clause-done : goal.returns-in_ok-push_child_module-in-Err-clause-done
@@ -22,4 +22,4 @@ returns-in_ok-push_child_module-in-Err-clause-done g c =
     (asked_files (files_of oracle) site.tree.file site.directory _ _ _ _ c.in_ok-file.field-0 c.in-Err.candidates c.name_text-text.ensures c.path_attr.ensures c.in-Err.is c.in_ok-file.ensures
     ∙ ap Err (sym (c.in_ok-candidates-in-Err.ensures ∙ ap (map string_bytes) c.as_slice.ensures.value)))
     (c.in_ok-report-in-Err.ensures session)
-    (c.in_ok-push_child_module-in-Err.ensures.added session ∙ ap (pushed_module told site c.args.item.name c.args.item.vis) c.inline_origin.ensures)
+    (subst (IsPushed told (state_of c.push_child_module.new.self session) site c.args.item.name c.args.item.vis) c.inline_origin.ensures (c.in_ok-push_child_module-in-Err.ensures.added session))

@@ -1,7 +1,10 @@
 use Rattle.std.proofs.Common.{ap, ◌∙◌}
 use Rattle.std.specs.Option.{unwrap_or}
 use Rattle.def_bindings.specs.declared.visibility.Visibility.TheVariants.{Public}
+use Rattle.def_map.specs.Locals.{local_view}
+use Rattle.def_map.specs.Maps.{facts_of}
 use Rattle.def_map.specs.Paths.{resolve_visibility}
+use Rattle.def_map.specs.Tables.{bound_by}
 use Rattle.def_collector.specs.Collector.{state_of}
 use Rattle.def_collector.specs.State.{world}
 use Rattle.def_collector.proofs.collector.DefCollector.resolve_visibility.Goals as goal
@@ -11,4 +14,5 @@ returns g c =
     c.unwrap_or.ensures
     ∙ ap (λ seen. unwrap_or seen Public)
     (c.resolve_visibility.ensures
+    ∙ ap (λ table. resolve_visibility (record (world (g.D.SourceDatabase.oracle c.args.db.now) (state_of c.args.self.now c.args.session.now)) { map = record { facts = facts_of c.args.self.now.def_map; content = bound_by table }; local = local_view c.local.result.now }) c.args.module_id c.args.visibility.now) c.table.ensures
     ∙ ap (λ local. resolve_visibility (record (world (g.D.SourceDatabase.oracle c.args.db.now) (state_of c.args.self.now c.args.session.now)) { local = local }) c.args.module_id c.args.visibility.now) c.local.ensures)

@@ -1,6 +1,6 @@
 use Rattle.std.proofs.Common.{refl}
 use Rattle.def_collector.specs.Collector.{state_of}
-use Rattle.def_collector.proofs.TriesLemmas.{moved_unresolved, stands_at, unready_here}
+use Rattle.def_collector.proofs.TriesLemmas.{moved_unresolved, stands_at, turns_kept, unready_here}
 use Rattle.def_collector.proofs.collector.DefCollector.try_unresolved_import.Goals as goal
 
 pub returns-then-is_missing-clause-unready : goal.returns-then-is_missing-clause-unready
@@ -14,4 +14,5 @@ returns-clause-moved g c = λ _.
     moved_unresolved (g.D.SourceDatabase.oracle c.args.db.now) c.args.session.now c.args.self.now c.record_resolved_import.new.self c.keep.new.self _ c.args.i c.in-Some.directive c.resolve_import-answer.result c.is_missing.result c.kept_after.result
     (stands_at c.args.self.now.unresolved_imports c.args.i c.index.result.now c.in-Some.directive c.requires c.index.ensures c.in-Some.is)
     c.resolve_import-answer.ensures c.is_missing.ensures c.if-is_missing.false
-    refl c.kept_after.ensures c.in_ok-keep.ensures.frame c.in_ok-keep.ensures.kept c.in_ok-record_resolved_import.ensures.state
+    refl c.kept_after.ensures c.in_ok-keep.ensures.frame c.in_ok-keep.ensures.kept c.in_ok-record_resolved_import.ensures.performs
+    (turns_kept c.args.session.now c.keep.new.self c.record_resolved_import.new.self c.record_resolved_import.ensures.frame)

@@ -40,3 +40,7 @@ returns-clause-run g c =
     let oracle = g.D.SourceDatabase.oracle c.args.db.now in
     subst (λ tasks. Leads oracle (walk (frame_site c.args.first) (left_of c.args.first)) (state_of c.args.self.now c.args.session.now) tasks (state_of c.frames.self c.frames.session))
     (ap (λ fs. agenda_of fs) (empty_list c.frames.frames.items (sym c.frames.frames.ok.0 ∙ c.in_default.ensures.cases.0)) ∙ agenda_of-none) c.frames.invariant.run
+
+pub returns-in_err-visit_next-clause-session : goal.returns-in_err-visit_next-clause-session
+returns-in_err-visit_next-clause-session g c =
+    grows_trans (session_of c.args.session.now) (session_of c.frames.session) (session_of c.visit_next.new.session) c.frames.invariant.grows c.visit_next.ensures.session

@@ -1,4 +1,4 @@
-use Rattle.def_parts.proofs.AddingLemmas.{adding_closed, adding_begins, adding_coherent, adding_edge, added}
+use Rattle.def_parts.specs.AddingLaws.{adding_closed, adding_begins, adding_coherent, adding_edge, added}
 use Rattle.def_parts.proofs.globs.Globs.add_edge.Goals as goal
 
 pub returns-clause-edge : goal.returns-clause-edge

@@ -1,0 +1,120 @@
+//! The prelude: the module whose names are seen everywhere in a crate.
+ghost use Rattle.std.specs.Prelude.{◌≡◌, ℕ, option_and_then, IfOk, OnOk};
+ghost use Rattle.def_ids.specs.declared.interner.Interner.{Interner};
+ghost use Rattle.def_map.specs.Paths as paths;
+ghost use Rattle.def_collector.specs.Collector.{state_of};
+ghost use Rattle.def_collector.specs.Crates as crates;
+ghost use Rattle.def_collector.specs.Start.{head_of, with_head, with_prelude};
+
+use super::DefCollector;
+use def_ids::{Def, Edition, Interner, ModuleId};
+use def_map::{BuiltinShadowMode, PerNs, SourceDatabase};
+use item_tree::{ModPath, Name, PathKind, Seq, sym};
+use std::alloc::AllocError;
+
+impl<'a> DefCollector<'a> {
+    /// Finds the prelude. On `Err` nothing but safety is promised.
+    pub fn inject_prelude<D: SourceDatabase>(
+        &mut self,
+        db: &D,
+        session: &Interner,
+    ) -> Result<(), AllocError>
+        ensures { OnOk result (let s = state_of self.old session.now in
+            state_of self.new session.now ≡ with_head s (with_prelude (D.oracle db.now) s (head_of s))) }
+    {
+        self.def_map.prelude = self.prelude_module(db, session)?;
+        Ok(())
+    }
+
+    /// The prelude, if there is one. A crate without `core` has none.
+    fn prelude_module<D: SourceDatabase>(
+        &self,
+        db: &D,
+        session: &Interner,
+    ) -> Result<Option<ModuleId>, AllocError>
+        ensures { IfOk result (λ found. found ≡ crates.prelude_module (D.oracle db.now) (state_of self.now session.now)) }
+    {
+        if self.def_map.no_core {
+            return Ok(None);
+        }
+        let path = self.prelude_path()?;
+        let root = ModuleId {
+            map: self.def_map.tree.map,
+            index: 0,
+        };
+        let (found, left) = self.def_map.resolve_path(
+            self.table.table(),
+            self.local(),
+            db,
+            session,
+            root,
+            &path,
+            BuiltinShadowMode::Module,
+            None,
+        );
+        Ok(module_reached(found, left))
+    }
+
+    /// The path of the prelude.
+    fn prelude_path(&self) -> Result<ModPath, AllocError>
+        ensures { IfOk result (λ path. (session : Interner) → path ≡ crates.prelude_path (state_of self.now session)) }
+    {
+        let edition = self.def_map.edition;
+        let mut segments = Seq::from_vec(Vec::new(self.alloc));
+        segments.push(self.prelude_crate())?;
+        segments.push(sym::PRELUDE)?;
+        segments.push(edition_name(edition))?;
+        Ok(ModPath {
+            kind: prelude_kind(edition),
+            segments,
+        })
+    }
+
+    /// The crate of the prelude. Where paths may not begin with `std`, it is `core`.
+    fn prelude_crate(&self) -> Name
+        ensures { (session : Interner) → result ≡ crates.prelude_crate (state_of self.now session) }
+    {
+        if self.def_map.no_std {
+            return sym::CORE;
+        }
+        match self.local().extern_entry(sym::STD) {
+            Some(_) => sym::STD,
+            None => sym::CORE,
+        }
+    }
+}
+
+/// The module of an edition in the prelude's crate.
+fn edition_name(edition: Edition) -> Name
+    ensures { result ≡ crates.edition_name edition }
+{
+    match edition {
+        Edition::Edition2015 => sym::RUST_2015,
+        Edition::Edition2018 => sym::RUST_2018,
+        Edition::Edition2021 => sym::RUST_2021,
+        Edition::Edition2024 => sym::RUST_2024,
+    }
+}
+
+/// How the prelude's path begins.
+fn prelude_kind(edition: Edition) -> PathKind
+    ensures { result ≡ crates.prelude_kind edition }
+{
+    match edition {
+        Edition::Edition2015 => PathKind::Plain,
+        Edition::Edition2018 | Edition::Edition2021 | Edition::Edition2024 => PathKind::Abs,
+    }
+}
+
+/// The module that a path reaches with no segment left.
+fn module_reached(found: PerNs, left: Option<usize>) -> Option<ModuleId>
+    ensures { result ≡ paths.module_reached found left }
+{
+    match (found.types, left) {
+        (Some(item), None) => match item.def {
+            Def::Module(place) => Some(place),
+            _ => None,
+        },
+        _ => None,
+    }
+}

@@ -1,0 +1,137 @@
+//! A database that answers from fields, so that no time goes into its answers.
+ghost use Rattle.defmap_bench.specs.Database.{answers_of};
+
+use def_ids::{BuiltinAttr, EnumLoc};
+use def_map::{
+    AssocItemsOwner, AssocList, AttrCallQuery, CallAnswer, CallQuery, CrateData, DefMap,
+    DeriveCallQuery, EnumVariant, LocalDefMap, MacroResolver, SourceDatabase, UnresolvedMacro,
+};
+use either::Either;
+use item_tree::{
+    BlockId, Crate, FileAstId, FileId, HirFileId, InFile, ItemTree, MacroCallId, MacroCallStyles,
+    Name, TreeId,
+};
+use std::alloc::{AllocError, Global};
+
+/// One crate in one file. Each question about a file or a crate is about these, and there are no
+/// macros.
+#[derive(Drop)]
+pub struct OneFile {
+    pub tree: ItemTree,
+    pub krate: CrateData,
+}
+
+impl SourceDatabase for OneFile {
+    ghost oracle = { answers_of };
+
+    fn item_tree(&self, _id: TreeId) -> Option<&ItemTree> {
+        Some(&self.tree)
+    }
+
+    fn crate_data(&self, _krate: Crate) -> Option<&CrateData> {
+        Some(&self.krate)
+    }
+
+    fn crate_def_map(&self, _krate: Crate) -> Option<&DefMap> {
+        None
+    }
+
+    fn outer_map(&self, _block: BlockId) -> Option<&DefMap> {
+        None
+    }
+
+    fn local_def_map(&self, _krate: Crate) -> Option<&LocalDefMap> {
+        None
+    }
+
+    fn resolve_path(&self, _anchor: FileId, _path: &str) -> Option<FileId> {
+        None
+    }
+
+    fn original_file(&self, _file: HirFileId) -> FileId {
+        FileId(0)
+    }
+
+    fn expansion_depth(&self, _file: HirFileId) -> u32 {
+        0
+    }
+
+    fn macro_call<R: MacroResolver>(
+        &self,
+        _alloc: Global,
+        query: CallQuery<'_>,
+        _resolver: &R,
+    ) -> Result<Result<CallAnswer, UnresolvedMacro>, AllocError> {
+        Ok(Err(UnresolvedMacro {
+            path: query.path.clone()?,
+        }))
+    }
+
+    fn make_attr_call(&self, _query: AttrCallQuery<'_>) -> MacroCallId {
+        MacroCallId(0)
+    }
+
+    fn make_derive_call(&self, _query: DeriveCallQuery) -> MacroCallId {
+        MacroCallId(0)
+    }
+
+    fn is_include(&self, _call: MacroCallId) -> bool {
+        false
+    }
+
+    fn enum_variants(&self, _loc: &EnumLoc) -> Option<&[EnumVariant]> {
+        None
+    }
+
+    fn assoc_items(&self, _owner: AssocItemsOwner) -> Option<&AssocList> {
+        None
+    }
+
+    fn rule_styles(&self, _position: InFile<FileAstId>, _krate: Crate) -> MacroCallStyles {
+        MacroCallStyles::FN_LIKE
+    }
+
+    fn proc_macros(&self, _krate: Crate) -> &[(Name, u32, bool)] {
+        &[]
+    }
+
+    fn find_builtin_macro(&self, _name: Name) -> Option<Either<u32, u32>> {
+        None
+    }
+
+    fn find_builtin_derive(&self, _name: Name) -> Option<u32> {
+        None
+    }
+
+    fn find_builtin_attr(&self, _name: Name) -> Option<BuiltinAttr> {
+        None
+    }
+
+    fn builtin_type(&self, _name: Name) -> Option<u32> {
+        None
+    }
+
+    fn is_builtin_attr(&self, _name: Name) -> bool {
+        false
+    }
+
+    fn has_builtin_derive_impl(&self, _derive: u32) -> bool {
+        false
+    }
+
+    fn derive_traits(&self, _derive: u32) -> &[u32] {
+        &[]
+    }
+
+    fn cfg_flag(&self, _krate: Crate, _name: Name) -> bool {
+        false
+    }
+
+    fn builtin_derive_fast_path(&self) -> bool {
+        false
+    }
+
+    fn expand_proc_attr_macros(&self) -> bool {
+        false
+    }
+}
