@@ -9,23 +9,24 @@ use Rattle.def_ids.specs.Session.{Session}
 use Rattle.def_bindings.specs.declared.visibility.Visibility.{Visibility}
 use Rattle.def_bindings.specs.Content.{Content, empty}
 use Rattle.def_map.specs.Fresh.{IsFresh, fresh_by}
-use Rattle.def_map.specs.MapState.{MapState, ModuleState}
-use Rattle.def_map.specs.MapView.{LocalView, empty_local}
-use Rattle.def_collector.specs.declared.collector.directive.ImportDirective.{ImportDirective}
-use Rattle.def_collector.specs.declared.collector.directive.PartialDirective.{PartialDirective}
-use Rattle.def_collector.specs.declared.diagnostics.DefDiagnostic.{DefDiagnostic}
+use Rattle.def_modules.specs.MapState.{MapState, ModuleState}
+use Rattle.def_modules.specs.MapView.{LocalView, empty_local}
+use Rattle.def_steps.specs.declared.directive.ImportDirective.{ImportDirective}
+use Rattle.def_steps.specs.declared.directive.PartialDirective.{PartialDirective}
+use Rattle.def_rules.specs.declared.diagnostics.DefDiagnostic.{DefDiagnostic}
 use Rattle.def_parts.specs.Directories.{Directory}
-use Rattle.def_collector.specs.Collector.{IsFinished, partial_of, pending_of, waiting}
-use Rattle.def_collector.specs.Crates.{is_proc_macro_crate}
-use Rattle.def_collector.specs.Globs.{Targets}
-use Rattle.def_collector.specs.Headline.{Answers}
-use Rattle.def_collector.specs.Imports.{NoneReady}
-use Rattle.def_collector.specs.Report.{Answer, NoneFailed}
-use Rattle.def_collector.specs.Start.{first_tasks, seeded_state, started}
-use Rattle.def_collector.specs.State.{Setting, State, PendingImport, PartialImport}
-use Rattle.def_collector.specs.Steps.{Leads}
-use Rattle.def_collector.proofs.BegunLemmas.{begins_own}
-use Rattle.def_collector.proofs.HeadlineLemmas.{answers}
+use Rattle.def_steps.specs.Shown.{partial_of, pending_of}
+use Rattle.def_collector.specs.Collector.{waiting}
+use Rattle.def_rules.specs.Crates.{is_proc_macro_crate}
+use Rattle.def_rules.specs.Globs.{Targets}
+use Rattle.def_rules.specs.Headline.{Answers}
+use Rattle.def_rules.specs.Imports.{NoneReady}
+use Rattle.def_rules.specs.Report.{Answer, NoneFailed, IsFinished}
+use Rattle.def_rules.specs.Start.{first_tasks, seeded_state, started}
+use Rattle.def_rules.specs.State.{Setting, State, PendingImport, PartialImport}
+use Rattle.def_rules.specs.Steps.{Leads}
+use Rattle.def_rules.specs.BegunLaws.{begins_own}
+use Rattle.def_rules.specs.HeadlineLaws.{answers}
 use Rattle.def_collector.proofs.WaitingLemmas.{waiting-nil}
 
 -- what holds of a value and follows from it

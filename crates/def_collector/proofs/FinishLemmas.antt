@@ -18,19 +18,20 @@ use Rattle.def_bindings.specs.IdLaws.{same_module_equal}
 use Rattle.def_bindings.specs.Link.{edge_of}
 use Rattle.def_bindings.specs.NumberedTable.{all_edges}
 use Rattle.def_bindings.specs.Numbers.{own_entries}
-use Rattle.def_map.specs.Tables.{Table, bound_by}
-use Rattle.def_collector.specs.declared.outcome.Edge.{Edge}
-use Rattle.def_map.specs.Maps.{with_module}
-use Rattle.def_map.specs.MapState.{MapState, ModuleState}
-use Rattle.def_map.specs.Scopes.{marked_failed}
-use Rattle.def_map.specs.Updates.{update_at}
-use Rattle.def_collector.specs.declared.collector.directive.ImportDirective.{ImportDirective}
-use Rattle.def_collector.specs.declared.diagnostics.DefDiagnostic.{DefDiagnostic}
-use Rattle.def_collector.specs.declared.outcome.LeftImport.{LeftImport}
-use Rattle.def_collector.specs.Collector.{IsFinished, left_in, marked_each, marked_once, pending_of, shown_edge, waiting}
-use Rattle.def_collector.specs.Imports.{bound_name}
-use Rattle.def_collector.specs.Report.{Answer, AreEdges, AreTargets, binds_name, is_left, leaves, left_import, listed_edge, marked, marked_from, NoneFailed, shown_targets, unresolved}
-use Rattle.def_collector.specs.State.{State, PendingImport}
+use Rattle.def_modules.specs.Tables.{Table, bound_by}
+use Rattle.def_rules.specs.declared.outcome.Edge.{Edge}
+use Rattle.def_modules.specs.Maps.{with_module}
+use Rattle.def_modules.specs.MapState.{MapState, ModuleState}
+use Rattle.def_modules.specs.Scopes.{marked_failed}
+use Rattle.def_modules.specs.Updates.{update_at}
+use Rattle.def_steps.specs.declared.directive.ImportDirective.{ImportDirective}
+use Rattle.def_rules.specs.declared.diagnostics.DefDiagnostic.{DefDiagnostic}
+use Rattle.def_rules.specs.declared.outcome.LeftImport.{LeftImport}
+use Rattle.def_collector.specs.Collector.{left_in, marked_each, marked_once, waiting}
+use Rattle.def_steps.specs.Shown.{pending_of, shown_edge}
+use Rattle.def_rules.specs.Imports.{bound_name}
+use Rattle.def_rules.specs.Report.{Answer, AreEdges, AreTargets, binds_name, is_left, leaves, left_import, listed_edge, marked, marked_from, NoneFailed, shown_targets, unresolved, IsFinished}
+use Rattle.def_rules.specs.State.{State, PendingImport}
 use Rattle.def_collector.proofs.WaitingLemmas.{waiting-nil, waiting_pushed, waiting_same}
 
 -- Marks

@@ -20,24 +20,26 @@ use Rattle.def_bindings.specs.declared.bindings.Entry.{Entry}
 use Rattle.def_bindings.specs.declared.bindings.Namespace.TheVariants.{Types, Values}
 use Rattle.def_bindings.specs.declared.visibility.Visibility.{Visibility}
 use Rattle.def_bindings.specs.Puts.{lessened}
-use Rattle.def_map.specs.declared.module_data.ModuleOrigin.{ModuleOrigin}
-use Rattle.def_map.specs.Maps.{pushed, with_module}
-use Rattle.def_map.specs.MapState.{MapState, ModuleState}
+use Rattle.def_modules.specs.declared.module_data.ModuleOrigin.{ModuleOrigin}
+use Rattle.def_modules.specs.Maps.{pushed, with_module}
+use Rattle.def_modules.specs.MapState.{MapState, ModuleState}
 use Rattle.def_map.specs.Oracle.{Oracle}
-use Rattle.def_map.specs.Scopes.{declared_in, empty_module, with_child, with_extern_block, with_impl, with_unnamed_const}
-use Rattle.def_collector.specs.declared.collector.directive.ImportDirective.{ImportDirective}
+use Rattle.def_modules.specs.Scopes.{declared_in, empty_module, with_child, with_extern_block, with_impl, with_unnamed_const}
+use Rattle.def_steps.specs.declared.directive.ImportDirective.{ImportDirective}
 use Rattle.def_collector.specs.declared.collector.items.Written.{Written}
-use Rattle.def_collector.specs.Collector.{Handled, IsDone, Performs, Updated, pending_of, queued}
-use Rattle.def_collector.specs.Items.{add_module, ctor_vis, declare, declared_entry, Handles, loc_of, module_item, next_module, pending_imports, position_of, put_declared, struct_effect, written_vis, container_of, declared_effect, Declares, noted_in, walk}
+use Rattle.def_rules.specs.Performs.{Handled, IsDone, Performs, Updated}
+use Rattle.def_steps.specs.Shown.{pending_of}
+use Rattle.def_collector.specs.Collector.{queued}
+use Rattle.def_rules.specs.Items.{add_module, ctor_vis, declare, declared_entry, Handles, loc_of, module_item, next_module, pending_imports, position_of, put_declared, struct_effect, written_vis, container_of, declared_effect, Declares, noted_in, walk}
 use Rattle.def_parts.specs.Directories.{Directory}
-use Rattle.def_collector.specs.State.{State, Effect, PendingImport, Site, Task, only, with_map, order, followed_by, module_site}
-use Rattle.def_collector.specs.Steps.{Leads}
+use Rattle.def_rules.specs.State.{State, Effect, PendingImport, Site, Task, only, with_map, order, followed_by, module_site}
+use Rattle.def_rules.specs.Steps.{Leads}
 use Rattle.item_tree.specs.declared.ids.ModItemId.{ModItemId}
 use Rattle.item_tree.specs.Trees.{children_of, children_of_kind}
 use Rattle.def_ids.specs.declared.ids.ItemContainerId.TheVariants as contained
 use Rattle.def_bindings.specs.declared.bindings.Namespace.{Namespace}
-use Rattle.def_map.specs.declared.module_data.ModuleOrigin.TheVariants.{Inline}
-use Rattle.def_collector.proofs.StepsLemmas.{leads_refl, performs_none, performs_updated}
+use Rattle.def_modules.specs.declared.module_data.ModuleOrigin.TheVariants.{Inline}
+use Rattle.def_rules.specs.StepsLaws.{leads_refl, performs_none, performs_updated}
 
 module _ (oracle : Oracle) (s s1 t : State) (at : ModuleId) (name : Name) (d : Def) (vis : Visibility) (given : Option Visibility) where
   -- the entries of a struct were put

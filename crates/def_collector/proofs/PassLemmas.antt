@@ -3,9 +3,10 @@ use Rattle.std.proofs.Common.{◌≡◌, ◌<◌, ◌+◌, ℕ, Bool, false, tru
 use Rattle.def_map.specs.Oracle.{Oracle}
 use Rattle.def_ids.specs.declared.interner.Interner.{Interner}
 use Rattle.def_collector.specs.declared.collector.DefCollector.{DefCollector}
-use Rattle.def_collector.specs.Collector.{Moves, state_of, turns_left}
-use Rattle.def_collector.specs.Steps.{Leads}
-use Rattle.def_collector.proofs.StepsLemmas.{leads_refl, leads_trans}
+use Rattle.def_rules.specs.Turns.{Moves, turns_left}
+use Rattle.def_collector.specs.Collector.{state_of}
+use Rattle.def_rules.specs.Steps.{Leads}
+use Rattle.def_rules.specs.StepsLaws.{leads_refl, leads_trans}
 
 -- what holds once the first of the imports were tried: `Stays` says of a collector and a place that the import there is not ready
 pub record TriedSoFar (oracle : Oracle) (session : Interner) (Stays : DefCollector → ℕ → Type 0) (old new : DefCollector) (moved : Bool) (count : ℕ) : Type 0 where

@@ -9,13 +9,16 @@ use Rattle.def_ids.specs.declared.interner.Interner.{Interner}
 use Rattle.def_map.specs.declared.path_resolution.asked.ResolvePathResult.{ResolvePathResult}
 use Rattle.def_map.specs.Oracle.{Oracle}
 use Rattle.def_collector.specs.declared.collector.DefCollector.{DefCollector}
-use Rattle.def_collector.specs.declared.collector.directive.ImportDirective.{ImportDirective}
-use Rattle.def_collector.specs.declared.collector.directive.NamespaceSet.{NamespaceSet}
-use Rattle.def_collector.specs.declared.collector.directive.PartialDirective.{PartialDirective}
-use Rattle.def_collector.specs.Collector.{IsUnready, IsUnreadyAgain, Moves, Performs, kept_of, missing_from, ns_set, partial_of, pending_of, state_of, turns_left, waiting}
-use Rattle.def_collector.specs.Imports.{NoneReady, after_pending, answer_now, is_missing, is_ready, is_ready_again, kept_after, kept_list, no_namespaces, record_effect}
-use Rattle.def_collector.specs.State.{State, PartialImport, PendingImport}
-use Rattle.def_collector.proofs.ImportsLemmas.{moves_partial, moves_pending}
+use Rattle.def_steps.specs.declared.directive.ImportDirective.{ImportDirective}
+use Rattle.def_steps.specs.declared.directive.NamespaceSet.{NamespaceSet}
+use Rattle.def_steps.specs.declared.directive.PartialDirective.{PartialDirective}
+use Rattle.def_collector.specs.Collector.{IsUnready, IsUnreadyAgain, state_of, waiting}
+use Rattle.def_steps.specs.Shown.{kept_of, ns_set, partial_of, pending_of}
+use Rattle.def_rules.specs.Turns.{Moves, missing_from, turns_left}
+use Rattle.def_rules.specs.Performs.{Performs}
+use Rattle.def_rules.specs.Imports.{NoneReady, after_pending, answer_now, is_missing, is_ready, is_ready_again, kept_after, kept_list, no_namespaces, record_effect}
+use Rattle.def_rules.specs.State.{State, PartialImport, PendingImport}
+use Rattle.def_rules.specs.ImportsLaws.{moves_partial, moves_pending}
 use Rattle.def_collector.proofs.WaitingLemmas.{Around, around, waiting-all}
 
 -- an entry that was read stands at its place

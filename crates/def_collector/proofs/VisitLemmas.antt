@@ -13,13 +13,14 @@ use Rattle.def_ids.specs.declared.interner.Interner.{Interner}
 use Rattle.def_ids.specs.Session.{session_of}
 use Rattle.def_map.specs.Oracle.{Oracle}
 use Rattle.def_collector.specs.declared.collector.walk.Frame.{Frame}
-use Rattle.def_collector.specs.Collector.{AreKnown, agenda_of, frame_site, inner_of, is_known, left_of, task_work, walk_measure, work}
-use Rattle.def_collector.specs.Items.{name_text, node_at, walk}
-use Rattle.def_collector.specs.State.{State, Task, Visit, entered}
-use Rattle.def_collector.specs.Steps.{Leads}
-use Rattle.def_collector.proofs.StepsLemmas.{leads_enter, leads_refl, leads_trans}
+use Rattle.def_collector.specs.Collector.{AreKnown, agenda_of, frame_site, inner_of, is_known, left_of, walk_measure}
+use Rattle.def_rules.specs.Work.{task_work, work}
+use Rattle.def_rules.specs.Items.{name_text, node_at, walk}
+use Rattle.def_rules.specs.State.{State, Task, Visit, entered}
+use Rattle.def_rules.specs.Steps.{Leads}
+use Rattle.def_rules.specs.StepsLaws.{leads_enter, leads_refl, leads_trans}
 use Rattle.def_collector.proofs.WalkLemmas.{after_turn, agenda_of-done, agenda_of-next, agenda_of-one, agenda_of-push, frame_tasks, measure_next, measure_pushed}
-use Rattle.def_collector.proofs.WorkLemmas.{walk_work}
+use Rattle.def_rules.specs.WorkLaws.{walk_work}
 
 -- what holds of a list and one more holds of the list
 pub all_below : {X : Type 0} (P : X → Type 0) (xs : List X) (x : X) → All P (xs ++ x ∷ []) → All P xs

@@ -8,9 +8,10 @@ use Rattle.item_tree.specs.declared.ids.ModItemId.{ModItemId}
 use Rattle.item_tree.specs.declared.name.Name.{Name}
 use Rattle.def_map.specs.Oracle.{Oracle}
 use Rattle.def_collector.specs.declared.collector.walk.Frame.{Frame}
-use Rattle.def_collector.specs.Collector.{agenda_of, frame_site, left_of, task_work, walk_measure, work}
-use Rattle.def_collector.specs.Items.{visits}
-use Rattle.def_collector.specs.State.{Task, Visit}
+use Rattle.def_collector.specs.Collector.{agenda_of, frame_site, left_of, walk_measure}
+use Rattle.def_rules.specs.Work.{task_work, work}
+use Rattle.def_rules.specs.Items.{visits}
+use Rattle.def_rules.specs.State.{Task, Visit}
 
 -- a frame's items
 abbrev pub frame_tasks : Frame → List Task

@@ -2,9 +2,9 @@
 #![tactic(auto)]
 
 mod collector;
-mod diagnostics;
-mod outcome;
 
 pub use collector::collect_defs;
-pub use diagnostics::{DefDiagnostic, DefDiagnosticKind, DefDiagnostics};
-pub use outcome::{Collected, Edge, LeftImport, LeftMacro, LeftMacroKind, Outcome};
+pub use def_rules::{
+    Collected, DefDiagnostic, DefDiagnosticKind, DefDiagnostics, Edge, LeftImport, LeftMacro,
+    LeftMacroKind, Outcome,
+};

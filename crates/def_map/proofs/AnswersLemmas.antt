@@ -14,7 +14,7 @@ use Rattle.def_map.specs.declared.path_resolution.asked.ResolvePathResult.{Resol
 use Rattle.def_map.specs.declared.per_ns.MacroSubNs.{MacroSubNs}
 use Rattle.def_map.specs.declared.per_ns.PerNs.{PerNs}
 use Rattle.def_map.specs.Answers.{missing, walk, answer_after, answer_from, leading, is_reached, joined, first_resolved}
-use Rattle.def_map.specs.MapView.{MapView}
+use Rattle.def_modules.specs.MapView.{MapView}
 use Rattle.def_map.specs.Items.{is_fitting}
 use Rattle.def_map.specs.OuterMaps.{is_alone, answer_outside, answers_outside}
 use Rattle.def_map.specs.PerNs.{Item, otherwise, is_nothing, per_namespace}

@@ -11,15 +11,15 @@ use Rattle.item_tree.specs.declared.name.Name.{Name}
 use Rattle.def_bindings.specs.Content.{is_name}
 use Rattle.def_bindings.specs.IdLaws.{name-refl}
 use Rattle.def_bindings.specs.declared.visibility.Visibility.TheVariants.{Public}
-use Rattle.def_map.specs.declared.module_data.DeriveKey.{DeriveKey}
-use Rattle.def_map.specs.declared.module_data.DeriveMacroInvocation.{DeriveMacroInvocation}
-use Rattle.def_map.specs.declared.module_data.Invocation.{Invocation}
-use Rattle.def_map.specs.declared.module_data.ModuleData.{ModuleData}
-use Rattle.def_map.specs.declared.module_data.ModuleOrigin.{ModuleOrigin}
-use Rattle.def_map.specs.Equality.{file_eq, position_eq, derive_key_eq, invocation_eq}
-use Rattle.def_map.specs.MapState.{Position}
-use Rattle.def_map.specs.ScopeMaps.{derive_state, derives_of, invoked_of}
-use Rattle.def_map.specs.Scopes.{module_state, empty_module}
+use Rattle.def_modules.specs.declared.module_data.DeriveKey.{DeriveKey}
+use Rattle.def_modules.specs.declared.module_data.DeriveMacroInvocation.{DeriveMacroInvocation}
+use Rattle.def_modules.specs.declared.module_data.Invocation.{Invocation}
+use Rattle.def_modules.specs.declared.module_data.ModuleData.{ModuleData}
+use Rattle.def_modules.specs.declared.module_data.ModuleOrigin.{ModuleOrigin}
+use Rattle.def_modules.specs.Equality.{file_eq, position_eq, derive_key_eq, invocation_eq}
+use Rattle.def_modules.specs.MapState.{Position}
+use Rattle.def_modules.specs.ScopeMaps.{derive_state, derives_of, invoked_of}
+use Rattle.def_modules.specs.Scopes.{module_state, empty_module}
 use Rattle.def_map.proofs.FreshLemmas.{no_keys, keys_none, no_members, members_none}
 
 file-refl : (f : HirFileId) → file_eq f f ≡ true

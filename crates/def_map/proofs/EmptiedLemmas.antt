@@ -13,15 +13,15 @@ use Rattle.def_ids.specs.contracts.ids.MacroIdPartialEq.TheImpl as macros
 use Rattle.def_bindings.specs.Content.{is_name}
 use Rattle.def_bindings.specs.IdLaws.{name-refl}
 use Rattle.def_bindings.specs.declared.visibility.Visibility.TheVariants.{Public}
-use Rattle.def_map.specs.declared.map.DeriveHelper.{DeriveHelper}
-use Rattle.def_map.specs.declared.map.MapData.{MapData}
-use Rattle.def_map.specs.Equality.{position_eq, function_eq, proc_macro_eq}
+use Rattle.def_modules.specs.declared.map.DeriveHelper.{DeriveHelper}
+use Rattle.def_modules.specs.declared.map.MapData.{MapData}
+use Rattle.def_modules.specs.Equality.{position_eq, function_eq, proc_macro_eq}
 use Rattle.def_map.specs.Fresh.{root_origin, known_tools, fresh_crate, fresh_state, block_crate, emptied, fresh_by, IsOfFreshCrate}
-use Rattle.def_map.specs.MapState.{MapState, Position}
-use Rattle.def_map.specs.Maps.{map_state, crate_state, helper_state, exported_of}
-use Rattle.def_map.specs.Scopes.{module_state, empty_module}
+use Rattle.def_modules.specs.MapState.{MapState, Position}
+use Rattle.def_modules.specs.Maps.{map_state, crate_state, helper_state, exported_of}
+use Rattle.def_modules.specs.Scopes.{module_state, empty_module}
 use Rattle.def_map.proofs.BareLemmas.{position-refl}
-use Rattle.def_map.proofs.EqualityLemmas.{derived_position_eq, positions_same, macros_same}
+use Rattle.def_modules.specs.EqualityLaws.{derived_position_eq, positions_same, macros_same}
 use Rattle.def_map.proofs.FreshLemmas.{no_keys, keys_none, no_members, members_none}
 
 -- a map holds nothing but what a block's takes over

@@ -1,7 +1,3 @@
-pub mod ScopesLemmas
-pub mod MapsLemmas
-pub mod EqualityLemmas
-pub mod CrateLemmas
 pub mod FreshLemmas
 pub mod BareLemmas
 pub mod EmptiedLemmas
@@ -9,5 +5,4 @@ pub mod SourcesLemmas
 pub mod AnswersLemmas
 pub mod PathsFacts
 pub mod IterLemmas
-pub mod LegacyLemmas
 mod MapsFacts

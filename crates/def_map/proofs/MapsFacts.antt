@@ -11,14 +11,14 @@ use Rattle.def_ids.specs.declared.ids.MacroId.TheVariants.{MacroRules}
 use Rattle.def_ids.specs.declared.ids.ModuleId.{ModuleId}
 use Rattle.def_ids.specs.declared.macro_def.Edition.TheVariants.{Edition2021}
 use Rattle.def_bindings.specs.declared.visibility.Visibility.TheVariants.{Public}
-use Rattle.def_map.specs.declared.module_data.ModuleOrigin.TheVariants.{CrateRoot, Block}
-use Rattle.def_map.specs.Equality.{file_eq, position_eq}
+use Rattle.def_modules.specs.declared.module_data.ModuleOrigin.TheVariants.{CrateRoot, Block}
+use Rattle.def_modules.specs.Equality.{file_eq, position_eq}
 use Rattle.def_map.specs.Fresh.{fresh_crate, fresh_state, fresh_by, block_crate, root_origin}
-use Rattle.def_map.specs.MapState.{MapState, ModuleState, Position, CrateState}
-use Rattle.def_map.specs.Maps.{known_parent, pushed, with_module, facts_in, limit_of}
-use Rattle.def_map.specs.ScopeMaps.{with_first, last_macros, defined_all, with_last}
-use Rattle.def_map.specs.Scopes.{empty_module, declared_in, with_child, with_textual, marked_failed}
-use Rattle.def_map.specs.Updates.{update_at}
+use Rattle.def_modules.specs.MapState.{MapState, ModuleState, Position, CrateState}
+use Rattle.def_modules.specs.Maps.{known_parent, pushed, with_module, facts_in, limit_of}
+use Rattle.def_modules.specs.ScopeMaps.{with_first, last_macros, defined_all, with_last}
+use Rattle.def_modules.specs.Scopes.{empty_module, declared_in, with_child, with_textual, marked_failed}
+use Rattle.def_modules.specs.Updates.{update_at}
 
 name : ℕ → Name
 name n = record { 0 = n }

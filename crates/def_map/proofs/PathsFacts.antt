@@ -18,7 +18,7 @@ use Rattle.def_map.specs.declared.path_resolution.asked.BuiltinShadowMode.TheVar
 use Rattle.def_map.specs.declared.path_resolution.asked.ResolveMode.TheVariants as mode
 use Rattle.def_map.specs.Answers.{missing, reached}
 use Rattle.def_map.specs.Items.{public_item, module_item}
-use Rattle.def_map.specs.MapView.{MapView}
+use Rattle.def_modules.specs.MapView.{MapView}
 use Rattle.def_map.specs.Oracle.{Oracle}
 use Rattle.def_map.specs.Paths.{World, asked_by, for_import, for_module, resolve, resolve_visibility}
 use Rattle.def_map.specs.PerNs.{Item, in_types, nothing}

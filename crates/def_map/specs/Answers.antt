@@ -11,7 +11,7 @@ use Rattle.def_map.specs.declared.path_resolution.asked.ResolvePathResult.{Resol
 use Rattle.def_map.specs.declared.per_ns.PerNs.{PerNs}
 use Rattle.def_map.specs.declared.source_database.EnumVariant.{EnumVariant}
 use Rattle.def_map.specs.Items.{public_item, module_item}
-use Rattle.def_map.specs.MapView.{MapView}
+use Rattle.def_modules.specs.MapView.{MapView}
 use Rattle.def_map.specs.PerNs.{Item, per_namespace, nothing, in_types, is_nothing}
 use Rattle.def_map.specs.Sources.{Question, found_in, scope_source, Beginning, at_module, by_sources}
 

@@ -3,10 +3,10 @@ use Rattle.def_ids.specs.Session.{session_of}
 use Rattle.def_bindings.specs.Content.{Content}
 use Rattle.def_bindings.specs.declared.visibility.Visibility.{Visibility}
 use Rattle.def_map.specs.declared.path_resolution.sources.Asking.{Asking}
-use Rattle.def_map.specs.declared.map.MapData.{MapData}
-use Rattle.def_map.specs.Locals.{local_view}
-use Rattle.def_map.specs.Maps.{facts_of}
-use Rattle.def_map.specs.MapView.{MapView}
+use Rattle.def_modules.specs.declared.map.MapData.{MapData}
+use Rattle.def_modules.specs.Locals.{local_view}
+use Rattle.def_modules.specs.Maps.{facts_of}
+use Rattle.def_modules.specs.MapView.{MapView}
 use Rattle.def_map.specs.Oracle.{Oracle}
 use Rattle.def_map.specs.Sources.{Question, question_of}
 

@@ -9,12 +9,12 @@ use Rattle.def_bindings.specs.declared.visibility.Visibility.{Visibility}
 use Rattle.def_bindings.specs.Content.{Content}
 use Rattle.def_map.specs.declared.block.BlockInfo.{BlockInfo}
 use Rattle.def_map.specs.declared.def_map.DefMap.{DefMap}
-use Rattle.def_map.specs.Equality.{function_eq, proc_macro_eq}
+use Rattle.def_modules.specs.Equality.{function_eq, proc_macro_eq}
 use Rattle.def_map.specs.Fresh.{fresh_crate, fresh_state}
-use Rattle.def_map.specs.MapState.{CrateState, MapState}
-use Rattle.def_map.specs.MapView.{MapView}
-use Rattle.def_map.specs.Maps.{map_state, facts_of, exported_of, features_of}
-use Rattle.def_map.specs.Tables.{bound_by}
+use Rattle.def_modules.specs.MapState.{CrateState, MapState}
+use Rattle.def_modules.specs.MapView.{MapView}
+use Rattle.def_modules.specs.Maps.{map_state, facts_of, exported_of, features_of}
+use Rattle.def_modules.specs.Tables.{bound_by}
 
 -- what a map shows beside its bindings
 abbrev pub state_of : DefMap → MapState

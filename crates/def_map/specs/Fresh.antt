@@ -8,10 +8,10 @@ use Rattle.def_ids.specs.declared.macro_def.Edition.{Edition}
 use Rattle.def_bindings.specs.declared.visibility.Visibility.{Visibility}
 use Rattle.def_bindings.specs.declared.visibility.Visibility.TheVariants.{Public}
 use Rattle.def_bindings.specs.Content.{Content, empty}
-use Rattle.def_map.specs.declared.module_data.ModuleOrigin.{ModuleOrigin}
-use Rattle.def_map.specs.declared.module_data.ModuleOrigin.TheVariants.{CrateRoot, Block}
-use Rattle.def_map.specs.MapState.{CrateState, MapState}
-use Rattle.def_map.specs.Scopes.{empty_module}
+use Rattle.def_modules.specs.declared.module_data.ModuleOrigin.{ModuleOrigin}
+use Rattle.def_modules.specs.declared.module_data.ModuleOrigin.TheVariants.{CrateRoot, Block}
+use Rattle.def_modules.specs.MapState.{CrateState, MapState}
+use Rattle.def_modules.specs.Scopes.{empty_module}
 
 -- a name by its number
 abbrev name_of : ℕ → Name

@@ -16,7 +16,7 @@ use Rattle.def_map.specs.declared.path_resolution.asked.ResolveMode.{ResolveMode
 use Rattle.def_map.specs.declared.path_resolution.asked.ResolveMode.TheVariants as mode
 use Rattle.def_map.specs.declared.per_ns.MacroSubNs.{MacroSubNs}
 use Rattle.def_map.specs.declared.per_ns.MacroSubNs.TheVariants as sub
-use Rattle.def_map.specs.MapView.{ExternCrateEntry}
+use Rattle.def_modules.specs.MapView.{ExternCrateEntry}
 use Rattle.def_map.specs.PerNs.{Item}
 
 -- a public declaration

@@ -21,8 +21,8 @@ use Rattle.def_map.specs.declared.source_database.CrateData.{CrateData}
 use Rattle.def_map.specs.declared.source_database.DeriveCallQuery.{DeriveCallQuery}
 use Rattle.def_map.specs.declared.source_database.EnumVariant.{EnumVariant}
 use Rattle.def_map.specs.declared.source_database.UnresolvedMacro.{UnresolvedMacro}
-use Rattle.def_map.specs.MapState.{Position}
-use Rattle.def_map.specs.MapView.{MapView, LocalView}
+use Rattle.def_modules.specs.MapState.{Position}
+use Rattle.def_modules.specs.MapView.{MapView, LocalView}
 use Rattle.def_map.specs.Queries.{PlainCall, PlainAttrCall}
 
 -- which macro a resolver finds for each path

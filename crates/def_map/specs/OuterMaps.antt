@@ -12,7 +12,7 @@ use Rattle.def_map.specs.declared.path_resolution.asked.ResolvePathResult.{Resol
 use Rattle.def_map.specs.declared.per_ns.MacroSubNs.{MacroSubNs}
 use Rattle.def_map.specs.Answers.{answer_from, joined}
 use Rattle.def_map.specs.Items.{is_fitting}
-use Rattle.def_map.specs.MapView.{MapView}
+use Rattle.def_modules.specs.MapView.{MapView}
 use Rattle.def_map.specs.Sources.{Question, beginning, finished_map}
 
 -- a path of one segment

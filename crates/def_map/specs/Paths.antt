@@ -16,7 +16,7 @@ use Rattle.def_map.specs.declared.path_resolution.asked.ResolvePathResult.{Resol
 use Rattle.def_map.specs.declared.per_ns.MacroSubNs.{MacroSubNs}
 use Rattle.def_map.specs.declared.per_ns.PerNs.{PerNs}
 use Rattle.def_map.specs.Items.{module_of_def, macro_of_def}
-use Rattle.def_map.specs.MapView.{MapView}
+use Rattle.def_modules.specs.MapView.{MapView}
 use Rattle.def_map.specs.Oracle.{Meaning}
 use Rattle.def_map.specs.OuterMaps.{answer_of}
 use Rattle.def_map.specs.PerNs.{per_namespace}

@@ -9,7 +9,7 @@ use Rattle.item_tree.specs.declared.mod_path.ModPath.{ModPath}
 use Rattle.def_ids.specs.declared.macro_def.MacroDefId.{MacroDefId}
 use Rattle.def_map.specs.declared.source_database.AttrCallQuery.{AttrCallQuery}
 use Rattle.def_map.specs.declared.source_database.CallQuery.{CallQuery}
-use Rattle.def_map.specs.MapState.{Position}
+use Rattle.def_modules.specs.MapState.{Position}
 
 -- a macro call that is asked for
 pub record PlainCall : Type 0 where

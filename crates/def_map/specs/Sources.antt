@@ -16,7 +16,7 @@ use Rattle.def_bindings.specs.declared.bindings.Namespace.TheVariants.{Types, Va
 use Rattle.def_map.specs.declared.path_resolution.asked.Asked.{Asked}
 use Rattle.def_map.specs.declared.per_ns.PerNs.{PerNs}
 use Rattle.def_map.specs.Items.{public_item, extern_item, is_module_item, is_2015, is_for_import, is_builtin_first}
-use Rattle.def_map.specs.MapView.{MapView, LocalView, ExternCrateEntry}
+use Rattle.def_modules.specs.MapView.{MapView, LocalView, ExternCrateEntry}
 use Rattle.def_map.specs.Oracle.{Oracle}
 use Rattle.def_map.specs.PerNs.{Item, kept, kept_in, otherwise, per_namespace}
 

@@ -4,9 +4,9 @@ ghost use Rattle.std.specs.Option.{option_map_or};
 ghost use Rattle.def_bindings.specs.Tree.{are_apart};
 
 use crate::def_map::DefMap;
-use crate::map::{MapData, UnstableFeatures};
 use def_bindings::ModuleTree;
 use def_ids::{FunctionId, MacroId, MapId, ModuleId, ProcMacroId};
+use def_modules::{MapData, UnstableFeatures};
 use indexmap::IndexMap;
 use item_tree::{BlockId, Crate, Name, Seq};
 use std::alloc::{AllocError, Global};
@@ -33,7 +33,7 @@ pub struct BlockInfo {
 impl BlockInfo {
     ghost use Rattle.def_map.specs.DefMaps.{state_of, block_map_id, info_state};
     ghost use Rattle.def_map.specs.Fresh.{fresh_state, block_crate};
-    ghost use Rattle.def_map.specs.Maps.{map_state};
+    ghost use Rattle.def_modules.specs.Maps.{map_state};
     ghost use Rattle.def_ids.specs.declared.macro_def.Edition.{Edition};
 
     /// A block of a map's crate, within these modules, the innermost first. None where two of them

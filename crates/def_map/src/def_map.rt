@@ -1,23 +1,21 @@
 //! A map of definitions, whole: its data and its table.
 ghost use Rattle.std.specs.Prelude.{◌≡◌, IfOk};
-ghost use Rattle.def_map.specs.Maps.{map_state};
-ghost use Rattle.def_map.specs.Tables.{bound_by};
+ghost use Rattle.def_modules.specs.Maps.{map_state};
+ghost use Rattle.def_modules.specs.Tables.{bound_by};
 ghost use Rattle.std.specs.Prelude.{true, ◌∷◌, [], map};
 ghost use Rattle.def_bindings.specs.Tree.{are_apart};
 ghost use Rattle.def_bindings.specs.declared.visibility.Visibility.TheVariants.{Public};
-ghost use Rattle.def_map.specs.Scopes.{module_state, empty_module};
+ghost use Rattle.def_modules.specs.Scopes.{module_state, empty_module};
 ghost use Rattle.def_map.specs.Fresh.{known_tools, fresh_state, fresh_crate, IsFresh};
 ghost use Rattle.def_map.specs.DefMaps.{state_of, content_of, info_state, crate_map_id};
-ghost use Rattle.def_map.specs.declared.module_data.ModuleOrigin.TheVariants.{Block};
+ghost use Rattle.def_modules.specs.declared.module_data.ModuleOrigin.TheVariants.{Block};
 ghost use Rattle.def_bindings.specs.Content.{empty as none_bound};
 
 use crate::block::BlockInfo;
-use crate::keyed_lists::no_items;
-use crate::map::{MapData, UnstableFeatures};
-use crate::module_data::{ModuleData, ModuleOrigin};
 use crate::table::Table;
 use def_bindings::{ModuleTree, Visibility};
 use def_ids::{Edition, MapId, ModuleId};
+use def_modules::{MapData, ModuleData, ModuleOrigin, UnstableFeatures};
 use indexmap::{IndexMap, IndexSet};
 use item_tree::{Crate, Name, Seq};
 use std::alloc::{AllocError, Global};
@@ -75,6 +73,13 @@ impl DefMap {
     {
         DefMap { data, table }
     }
+}
+
+/// The list without elements.
+fn no_items<T>(alloc: Global) -> Seq<T>
+    ensures { result ≡ [] }
+{
+    Seq::from_vec(Vec::new(alloc))
 }
 
 /// The tree of one root.

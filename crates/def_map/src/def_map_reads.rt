@@ -4,28 +4,18 @@ ghost use Rattle.indexmap.specs.IndexMap.{get};
 ghost use Rattle.def_bindings.specs.Content.{is_name};
 ghost use Rattle.def_bindings.specs.Tree.{module_of, parent_of};
 ghost use Rattle.def_map.specs.DefMaps.{state_of, content_of};
-ghost use Rattle.def_map.specs.Maps.{exported_of, features_of, helper_state, limit_of};
-ghost use Rattle.def_map.specs.Scopes.{module_state};
-ghost use Rattle.def_map.specs.Tables.{bound_by};
+ghost use Rattle.def_modules.specs.Maps.{exported_of, features_of, helper_state, limit_of};
+ghost use Rattle.def_modules.specs.Scopes.{module_state};
+ghost use Rattle.def_modules.specs.Tables.{bound_by};
 
 use crate::def_map::DefMap;
 use crate::item_scope::ItemScope;
-use crate::map::{DeriveHelper, UnstableFeatures};
-use crate::module_data::{ModuleData, Position};
 use crate::table::Table;
 use def_bindings::{BindingTable, EdgeTo, Visibility};
 use def_ids::{FunctionId, MacroId, MapId, ModuleId, ProcMacroId};
+use def_modules::{DeriveHelper, ModuleData, Position, UnstableFeatures};
 use indexmap::IndexMap;
 use item_tree::{Name, Seq};
-
-impl UnstableFeatures {
-    /// Whether the crate enables this feature.
-    pub fn is_enabled(&self, name: Name) -> bool
-        ensures { result ≡ features_of self.now name }
-    {
-        self.names.contains(&name)
-    }
-}
 
 impl DefMap {
     ghost use Rattle.def_map.specs.ItemScopes.{IsScopeOf};

@@ -4,13 +4,12 @@ ghost use Rattle.std.specs.List.{list_all};
 ghost use Rattle.indexmap.specs.IndexMap.{get};
 ghost use Rattle.def_bindings.specs.declared.visibility.Visibility.TheVariants.{Public};
 ghost use Rattle.def_map.specs.Fresh.{root_origin, known_tools, emptied, IsOfFreshCrate, IsFresh};
-ghost use Rattle.def_map.specs.Scopes.{module_state, empty_module};
-ghost use Rattle.def_map.specs.Maps.{map_state};
+ghost use Rattle.def_modules.specs.Scopes.{module_state, empty_module};
+ghost use Rattle.def_modules.specs.Maps.{map_state};
 
 use crate::def_map::DefMap;
-use crate::map::MapData;
-use crate::module_data::{ModuleData, ModuleOrigin};
 use def_bindings::Visibility;
+use def_modules::{MapData, ModuleData, ModuleOrigin};
 use indexmap::IndexMap;
 use item_tree::{BlockId, Name, Seq};
 use std::hash::Hash;
@@ -57,29 +56,27 @@ fn is_root_origin(origin: ModuleOrigin, block: Option<BlockId>) -> bool
     }
 }
 
-impl ModuleData {
-    /// Whether this is the root of such a map with nothing in it.
-    pub(crate) fn is_bare_root(&self, block: Option<BlockId>) -> bool
-        ensures { IsTrue result ↔ (module_state self.now ≡ empty_module None (root_origin block) Public) }
-    {
-        let tests = [
-            self.name.is_none(),
-            is_root_origin(self.origin, block),
-            is_public(self.visibility),
-            self.children.is_empty(),
-            are_lists_empty(&self.scope.legacy_macros),
-            self.scope.declarations.is_empty(),
-            self.scope.extern_crates.is_empty(),
-            self.scope.unnamed_consts.is_empty(),
-            self.scope.impls.is_empty(),
-            self.scope.builtin_derive_impls.is_empty(),
-            self.scope.extern_blocks.is_empty(),
-            self.scope.derives.is_empty(),
-            self.scope.invocations.is_empty(),
-            self.scope.failed.is_empty(),
-        ];
-        are_all(&tests)
-    }
+/// Whether a module is the root of such a map with nothing in it.
+fn is_bare_root(root: &ModuleData, block: Option<BlockId>) -> bool
+    ensures { IsTrue result ↔ (module_state root.now ≡ empty_module None (root_origin block) Public) }
+{
+    let tests = [
+        root.name.is_none(),
+        is_root_origin(root.origin, block),
+        is_public(root.visibility),
+        root.children.is_empty(),
+        are_lists_empty(&root.scope.legacy_macros),
+        root.scope.declarations.is_empty(),
+        root.scope.extern_crates.is_empty(),
+        root.scope.unnamed_consts.is_empty(),
+        root.scope.impls.is_empty(),
+        root.scope.builtin_derive_impls.is_empty(),
+        root.scope.extern_blocks.is_empty(),
+        root.scope.derives.is_empty(),
+        root.scope.invocations.is_empty(),
+        root.scope.failed.is_empty(),
+    ];
+    are_all(&tests)
 }
 
 /// Whether there is one module, and it has no parent.
@@ -97,7 +94,7 @@ fn is_one_bare_root(modules: &[ModuleData], block: Option<BlockId>) -> bool
     ensures { IsTrue result ↔ (map module_state modules.now ≡ empty_module None (root_origin block) Public ∷ []) }
 {
     match modules {
-        [root] => root.is_bare_root(block),
+        [root] => is_bare_root(root, block),
         _ => false,
     }
 }
@@ -118,40 +115,38 @@ fn are_known_tools(tools: &Seq<Name>) -> bool
     }
 }
 
-impl MapData {
-    /// Whether a map has nothing but what a block's takes over.
-    fn is_emptied(&self) -> bool
-        ensures { IsTrue result ↔ (map_state self.now ≡ emptied (map_state self.now)) }
-    {
-        let tests = [
-            is_one_root(&self.tree.parents),
-            is_one_bare_root(self.modules.as_slice(), self.tree.map.block),
-            are_lists_empty(&self.derive_helpers),
-            self.macro_by_position.is_empty(),
-            self.macro_use_prelude.is_empty(),
-            self.prelude.is_none(),
-        ];
-        are_all(&tests)
-    }
+/// Whether a map has nothing but what a block's takes over.
+fn is_emptied(map: &MapData) -> bool
+    ensures { IsTrue result ↔ (map_state map.now ≡ emptied (map_state map.now)) }
+{
+    let tests = [
+        is_one_root(&map.tree.parents),
+        is_one_bare_root(map.modules.as_slice(), map.tree.map.block),
+        are_lists_empty(&map.derive_helpers),
+        map.macro_by_position.is_empty(),
+        map.macro_use_prelude.is_empty(),
+        map.prelude.is_none(),
+    ];
+    are_all(&tests)
+}
 
-    /// Whether a map stands in no module and knows nothing of its crate.
-    fn is_of_fresh_crate(&self) -> bool
-        ensures { IsTrue result ↔ IsOfFreshCrate (map_state self.now) }
-    {
-        let tests = [
-            self.tree.containing.is_empty(),
-            self.recursion_limit.is_none(),
-            !self.no_core,
-            !self.no_std,
-            !self.rustc_coherence_is_core,
-            self.features.names.is_empty(),
-            are_known_tools(&self.registered_tools),
-            are_lists_empty(&self.exported_derives),
-            self.fn_as_proc_macro.is_empty(),
-            self.proc_macro_as_fn.is_empty(),
-        ];
-        are_all(&tests)
-    }
+/// Whether a map stands in no module and knows nothing of its crate.
+fn is_of_fresh_crate(map: &MapData) -> bool
+    ensures { IsTrue result ↔ IsOfFreshCrate (map_state map.now) }
+{
+    let tests = [
+        map.tree.containing.is_empty(),
+        map.recursion_limit.is_none(),
+        !map.no_core,
+        !map.no_std,
+        !map.rustc_coherence_is_core,
+        map.features.names.is_empty(),
+        are_known_tools(&map.registered_tools),
+        are_lists_empty(&map.exported_derives),
+        map.fn_as_proc_macro.is_empty(),
+        map.proc_macro_as_fn.is_empty(),
+    ];
+    are_all(&tests)
 }
 
 impl DefMap {
@@ -165,11 +160,11 @@ impl DefMap {
         if !self.table.is_empty() {
             return false;
         }
-        if !self.data.is_emptied() {
+        if !is_emptied(&self.data) {
             return false;
         }
         match self.data.tree.map.block {
-            None => self.data.is_of_fresh_crate(),
+            None => is_of_fresh_crate(&self.data),
             Some(_) => true,
         }
     }

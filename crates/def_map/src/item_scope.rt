@@ -2,9 +2,8 @@
 ghost use Rattle.std.specs.Prelude.{◌≡◌, reverse};
 ghost use Rattle.indexmap.specs.IndexMap.{get};
 ghost use Rattle.def_map.specs.ItemScopes.{place_of, scope_content, scope_state, meaning, resolutions_from, unnamed_from};
-ghost use Rattle.def_map.specs.ScopeMaps.{textual_of, derives_of, invoked_of};
+ghost use Rattle.def_modules.specs.ScopeMaps.{textual_of, derives_of, invoked_of};
 
-use crate::module_data::{DeriveKey, DeriveMacroInvocation, Invocation, ModuleData};
 use crate::per_ns::PerNs;
 use crate::table::Table;
 use def_bindings::{BindingTable, Namespace, Visibility};
@@ -12,6 +11,7 @@ use def_ids::{
     BuiltinDeriveImplId, ConstId, Def, ExternBlockId, ExternCrateId, ImplId, MacroId, ModuleId,
     TraitId,
 };
+use def_modules::{DeriveKey, DeriveMacroInvocation, Invocation, ModuleData};
 use indexmap::{IndexMap, IndexSet};
 use item_tree::{Name, Seq};
 use std::marker::Model;

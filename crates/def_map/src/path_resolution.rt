@@ -4,7 +4,7 @@ ghost use Rattle.def_ids.specs.Session.{session_of};
 ghost use Rattle.def_map.specs.declared.path_resolution.asked.ResolveMode.TheVariants.{Other};
 ghost use Rattle.def_map.specs.Asking.{map_with};
 ghost use Rattle.def_map.specs.DefMaps.{view_of};
-ghost use Rattle.def_map.specs.Locals.{local_view};
+ghost use Rattle.def_modules.specs.Locals.{local_view};
 ghost use Rattle.def_map.specs.Modes.{asked_by};
 ghost use Rattle.def_map.specs.Paths.{resolve, resolve_visibility as visibility_of};
 ghost use Rattle.def_map.specs.Paths.{module_reached as module_reached_by};
@@ -15,8 +15,6 @@ mod asked;
 mod sources;
 
 use crate::def_map::DefMap;
-use crate::local_def_map::LocalDefMap;
-use crate::map::MapData;
 use crate::per_ns::{MacroSubNs, PerNs};
 use crate::source_database::SourceDatabase;
 pub use asked::{
@@ -24,114 +22,115 @@ pub use asked::{
 };
 use def_bindings::{BindingTable, Visibility};
 use def_ids::{Def, Interner, ModuleId};
+use def_modules::{LocalDefMap, MapData};
 use item_tree::{ModPath, RawVisibility};
 use sources::Asking;
 pub use sources::finished_map;
 
-impl MapData {
-    /// What a path means, asked from a module of this map, whose bindings stand in `table`. Of a
-    /// name that stands alone, `shadow` says whether a builtin type goes before a module, and only
-    /// the macros of `expected_macro_subns` count, if that is given.
-    pub fn resolve_path_fp_with_macro<D: SourceDatabase, T: BindingTable<Vis = Visibility>>(
-        &self,
-        table: &T,
-        local_def_map: &LocalDefMap,
-        db: &D,
-        session: &Interner,
-        mode: ResolveMode,
-        original_module: ModuleId,
-        path: &ModPath,
-        shadow: BuiltinShadowMode,
-        expected_macro_subns: Option<MacroSubNs>,
-    ) -> ResolvePathResult
-        ensures { let oracle = D.oracle db.now in
-            let map = map_with self.now (T.content table.now) in
-            let w = world_of oracle (session_of session.now) map (local_view local_def_map.now) in
-            result ≡ resolve w (asked_by mode shadow expected_macro_subns) original_module path.now }
-    {
-        let asking = Asking {
-            db,
-            session,
-            local: local_def_map,
-            asked: Asked {
-                mode,
-                shadow,
-                sub: expected_macro_subns,
-            },
-            own: self,
-            table,
-        };
-        asking.resolve(original_module, path)
-    }
-
-    /// What a path that is no import's means, and the first segment that is left where it ends at a
-    /// definition without names.
-    pub fn resolve_path<D: SourceDatabase, T: BindingTable<Vis = Visibility>>(
-        &self,
-        table: &T,
-        local_def_map: &LocalDefMap,
-        db: &D,
-        session: &Interner,
-        original_module: ModuleId,
-        path: &ModPath,
-        shadow: BuiltinShadowMode,
-        expected_macro_subns: Option<MacroSubNs>,
-    ) -> (PerNs, Option<usize>)
-        ensures { let oracle = D.oracle db.now in
-            let map = map_with self.now (T.content table.now) in
-            let w = world_of oracle (session_of session.now) map (local_view local_def_map.now) in
-            let asked = asked_by Other shadow expected_macro_subns in
-            let answer = resolve w asked original_module path.now in
-            result ≡ (answer.resolved_def, answer.segment_index) }
-    {
-        let answer = self.resolve_path_fp_with_macro(
-            table,
-            local_def_map,
-            db,
-            session,
-            ResolveMode::Other,
-            original_module,
-            path,
+/// What a path means, asked from a module of a map whose bindings stand in `table`. Of a
+/// name that stands alone, `shadow` says whether a builtin type goes before a module, and only
+/// the macros of `expected_macro_subns` count, if that is given.
+pub fn resolve_path_fp_with_macro<D: SourceDatabase, T: BindingTable<Vis = Visibility>>(
+    map: &MapData,
+    table: &T,
+    local_def_map: &LocalDefMap,
+    db: &D,
+    session: &Interner,
+    mode: ResolveMode,
+    original_module: ModuleId,
+    path: &ModPath,
+    shadow: BuiltinShadowMode,
+    expected_macro_subns: Option<MacroSubNs>,
+) -> ResolvePathResult
+    ensures { let oracle = D.oracle db.now in
+        let m = map_with map.now (T.content table.now) in
+        let w = world_of oracle (session_of session.now) m (local_view local_def_map.now) in
+        result ≡ resolve w (asked_by mode shadow expected_macro_subns) original_module path.now }
+{
+    let asking = Asking {
+        db,
+        session,
+        local: local_def_map,
+        asked: Asked {
+            mode,
             shadow,
-            expected_macro_subns,
-        );
-        (answer.resolved_def, answer.segment_index)
-    }
+            sub: expected_macro_subns,
+        },
+        own: map,
+        table,
+    };
+    asking.resolve(original_module, path)
+}
 
-    /// What a visibility means that is written in a module. `None` where its path leads to no module.
-    pub fn resolve_visibility<D: SourceDatabase, T: BindingTable<Vis = Visibility>>(
-        &self,
-        table: &T,
-        local_def_map: &LocalDefMap,
-        db: &D,
-        session: &Interner,
-        original_module: ModuleId,
-        visibility: &RawVisibility,
-    ) -> Option<Visibility>
-        ensures { let oracle = D.oracle db.now in
-            let map = map_with self.now (T.content table.now) in
-            let w = world_of oracle (session_of session.now) map (local_view local_def_map.now) in
-            result ≡ visibility_of w original_module visibility.now }
-    {
-        match visibility {
-            RawVisibility::Public => Some(Visibility::Public),
-            RawVisibility::PubCrate => Some(Visibility::PubCrate),
-            RawVisibility::PubSelf => Some(Visibility::Module(original_module)),
-            RawVisibility::In(path) => {
-                let (found, left) = self.resolve_path(
-                    table,
-                    local_def_map,
-                    db,
-                    session,
-                    original_module,
-                    path,
-                    BuiltinShadowMode::Module,
-                    None,
-                );
-                match module_reached(found, left) {
-                    Some(limit) => Some(Visibility::Module(limit)),
-                    None => None,
-                }
+/// What a path that is no import's means, and the first segment that is left where it ends at a
+/// definition without names.
+pub fn resolve_path<D: SourceDatabase, T: BindingTable<Vis = Visibility>>(
+    map: &MapData,
+    table: &T,
+    local_def_map: &LocalDefMap,
+    db: &D,
+    session: &Interner,
+    original_module: ModuleId,
+    path: &ModPath,
+    shadow: BuiltinShadowMode,
+    expected_macro_subns: Option<MacroSubNs>,
+) -> (PerNs, Option<usize>)
+    ensures { let oracle = D.oracle db.now in
+        let m = map_with map.now (T.content table.now) in
+        let w = world_of oracle (session_of session.now) m (local_view local_def_map.now) in
+        let asked = asked_by Other shadow expected_macro_subns in
+        let answer = resolve w asked original_module path.now in
+        result ≡ (answer.resolved_def, answer.segment_index) }
+{
+    let answer = resolve_path_fp_with_macro(
+        map,
+        table,
+        local_def_map,
+        db,
+        session,
+        ResolveMode::Other,
+        original_module,
+        path,
+        shadow,
+        expected_macro_subns,
+    );
+    (answer.resolved_def, answer.segment_index)
+}
+
+/// What a visibility means that is written in a module. `None` where its path leads to no module.
+pub fn resolve_visibility<D: SourceDatabase, T: BindingTable<Vis = Visibility>>(
+    map: &MapData,
+    table: &T,
+    local_def_map: &LocalDefMap,
+    db: &D,
+    session: &Interner,
+    original_module: ModuleId,
+    visibility: &RawVisibility,
+) -> Option<Visibility>
+    ensures { let oracle = D.oracle db.now in
+        let m = map_with map.now (T.content table.now) in
+        let w = world_of oracle (session_of session.now) m (local_view local_def_map.now) in
+        result ≡ visibility_of w original_module visibility.now }
+{
+    match visibility {
+        RawVisibility::Public => Some(Visibility::Public),
+        RawVisibility::PubCrate => Some(Visibility::PubCrate),
+        RawVisibility::PubSelf => Some(Visibility::Module(original_module)),
+        RawVisibility::In(path) => {
+            let (found, left) = resolve_path(
+                map,
+                table,
+                local_def_map,
+                db,
+                session,
+                original_module,
+                path,
+                BuiltinShadowMode::Module,
+                None,
+            );
+            match module_reached(found, left) {
+                Some(limit) => Some(Visibility::Module(limit)),
+                None => None,
             }
         }
     }
@@ -169,7 +168,8 @@ impl DefMap {
             let w = world_of oracle (session_of session.now) (view_of self.now) (local_view local_def_map.now) in
             result ≡ resolve w (asked_by mode shadow expected_macro_subns) original_module path.now }
     {
-        self.data.resolve_path_fp_with_macro(
+        resolve_path_fp_with_macro(
+            &self.data,
             &self.table,
             local_def_map,
             db,
@@ -200,7 +200,8 @@ impl DefMap {
             let answer = resolve w asked original_module path.now in
             result ≡ (answer.resolved_def, answer.segment_index) }
     {
-        self.data.resolve_path(
+        resolve_path(
+            &self.data,
             &self.table,
             local_def_map,
             db,
@@ -225,7 +226,8 @@ impl DefMap {
             let w = world_of oracle (session_of session.now) (view_of self.now) (local_view local_def_map.now) in
             result ≡ visibility_of w original_module visibility.now }
     {
-        self.data.resolve_visibility(
+        resolve_visibility(
+            &self.data,
             &self.table,
             local_def_map,
             db,

@@ -3,9 +3,9 @@ ghost use Rattle.std.specs.Prelude.{◌≡◌, map, option_map, IfOk};
 ghost use Rattle.std.specs.Option.{option_copied};
 
 use crate::def_map::DefMap;
-use crate::local_def_map::LocalDefMap;
 use crate::macro_resolver::MacroResolver;
 use def_ids::{BuiltinAttr, EnumLoc, ImplId, MacroDefId, TraitId, VariantId};
+use def_modules::LocalDefMap;
 use either::Either;
 use item_tree::{
     AttrId, AttrInput, AttrsOrCfg, BlockId, Crate, ExpandTo, FileAstId, FileId, HirFileId, InFile,
@@ -156,7 +156,7 @@ pub struct AssocList {
 pub trait SourceDatabase {
     ghost use Rattle.def_ids.specs.Session.{in_module};
     ghost use Rattle.def_map.specs.DefMaps.{view_of};
-    ghost use Rattle.def_map.specs.Locals.{local_view};
+    ghost use Rattle.def_modules.specs.Locals.{local_view};
     ghost use Rattle.def_map.specs.Oracle.{Oracle};
     ghost use Rattle.def_map.specs.Queries.{plain_call, plain_attr_call};
 

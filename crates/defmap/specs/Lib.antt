@@ -1,4 +1,1 @@
-pub mod Command
-pub mod Scripted
-pub mod Workspace
 pub mod Levels

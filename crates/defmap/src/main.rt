@@ -1,19 +1,10 @@
 //! Prints the map of definitions of a scripted crate.
 #![tactic(auto)]
 
-mod command;
-mod fault;
-mod lines;
-mod script;
-mod scripted;
 #[cfg(test)]
 mod tests;
-mod trees;
-mod vectors;
-mod workspace;
 
-use command::out_of_memory;
-pub use command::run;
+use def_workspace::{out_of_memory, run};
 use std::alloc::{AllocError, Global};
 use std::process::ExitCode;
 use std::{env, io};

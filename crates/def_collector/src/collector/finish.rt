@@ -1,22 +1,16 @@
 //! The end of a run: what is left over is marked, answered and reported.
 ghost use Rattle.std.specs.Prelude.{◌≡◌, ◌++◌, map, IfOk, OnOk};
 ghost use Rattle.def_ids.specs.declared.interner.Interner.{Interner};
-ghost use Rattle.def_map.specs.Maps.{map_state};
-ghost use Rattle.indexmap.specs.IndexMap.{IsUnique};
-ghost use Rattle.def_ids.specs.Equality.{glob_eq};
-ghost use Rattle.def_bindings.specs.NumberedTable.{all_edges};
-ghost use Rattle.def_collector.specs.Collector.{IsFinished, left_in, marked_each, shown, shown_edge, state_of};
-ghost use Rattle.def_collector.specs.Report.{left_import, shown_targets, unresolved};
+ghost use Rattle.def_modules.specs.Maps.{map_state};
+ghost use Rattle.def_collector.specs.Collector.{left_in, marked_each, shown, state_of};
+ghost use Rattle.def_rules.specs.Report.{left_import, unresolved, IsFinished};
 
 use super::DefCollector;
-use super::directive::{ImportDirective, import_name};
-use crate::diagnostics::{DefDiagnostic, DefDiagnosticKind};
-use crate::outcome::{Collected, Edge, LeftImport, Outcome};
-use def_ids::{Def, GlobId};
-use def_map::{DefMap, LocalDefMap, MapData, Table};
-use indexmap::IndexMap;
+use def_map::{DefMap, MapData};
+use def_rules::{Collected, DefDiagnostic, DefDiagnosticKind, LeftImport, Outcome};
+use def_steps::{ImportDirective, edges_of, import_name, targets_of};
 use item_tree::Seq;
-use std::alloc::{AllocError, Global};
+use std::alloc::AllocError;
 
 /// The parts of a map and an outcome, as they are finished.
 #[derive(Drop)]
@@ -74,54 +68,6 @@ impl<'a> DefCollector<'a> {
             diagnostics: Seq::from_vec(diagnostics),
         })
     }
-}
-
-/// All edges of a table, in order of recording.
-fn edges_of(alloc: Global, table: &Table) -> Result<Vec<Edge>, AllocError>
-    ensures { IfOk result (λ edges. edges.items ≡ map shown_edge (all_edges table.now)) }
-{
-    let mut edges = Vec::new(alloc);
-    let mut number = 0;
-    'edges: while let Some((source, edge)) = table.numbered_edge(number) {
-        edges.push(Edge {
-            source,
-            importer: edge.importer,
-            vis: edge.vis,
-            glob: edge.glob,
-        })?;
-        number += 1;
-    }
-    Ok(edges)
-}
-
-/// The definitions of a list.
-fn copy_of(alloc: Global, defs: &[Def]) -> Result<Vec<Def>, AllocError>
-    ensures { IfOk result (λ list. list.items ≡ defs.now) }
-{
-    let mut list = Vec::new(alloc);
-    'defs: for def in defs {
-        list.push(*def)?;
-    }
-    Ok(list)
-}
-
-/// What each glob was recorded with, in order.
-fn targets_of(
-    alloc: Global,
-    targets: &IndexMap<GlobId, Seq<Def>>,
-) -> Result<Vec<(GlobId, Vec<Def>)>, AllocError>
-    ensures listed { IfOk result (λ list. map shown_targets list.items ≡ targets.now.entries) }
-    ensures once { IsUnique glob_eq targets.now }
-{
-    let mut list = Vec::new(alloc);
-    let mut number = 0;
-    let _ = targets.len();
-    'targets: while let Some((glob, defs)) = targets.get_index(number) {
-        let copy = copy_of(alloc, defs.as_slice())?;
-        list.push((*glob, copy))?;
-        number += 1;
-    }
-    Ok(list)
 }
 
 impl Finish {

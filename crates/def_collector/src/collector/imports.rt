@@ -4,19 +4,25 @@ ghost use Rattle.item_tree.specs.declared.items.ImportKind.TheVariants.{Plain};
 ghost use Rattle.def_ids.specs.declared.interner.Interner.{Interner};
 ghost use Rattle.def_bindings.specs.ModuleTree.{chain_in};
 ghost use Rattle.def_bindings.specs.Visibility.{order_over};
-ghost use Rattle.def_collector.specs.Collector.{IsUnready, IsUnreadyAgain, Moves, Performs, kept_of, partial_of, pending_of, state_of, turns_left, waiting};
-ghost use Rattle.def_collector.specs.Imports.{answer_now, bound_name, entry_of, import_vis, kept_list, named_entries, record_effect, record_tasks, NoneReady};
-ghost use Rattle.def_collector.specs.State.{order};
-ghost use Rattle.def_collector.specs.Steps.{Leads};
+ghost use Rattle.def_collector.specs.Collector.{IsUnready, IsUnreadyAgain, state_of, waiting};
+ghost use Rattle.def_steps.specs.Shown.{kept_of, partial_of, pending_of};
+ghost use Rattle.def_rules.specs.Turns.{Moves, turns_left};
+ghost use Rattle.def_rules.specs.Performs.{Performs};
+ghost use Rattle.def_rules.specs.Imports.{answer_now, bound_name, entry_of, import_vis, kept_list, named_entries, record_effect, record_tasks, NoneReady};
+ghost use Rattle.def_rules.specs.State.{order};
+ghost use Rattle.def_rules.specs.Steps.{Leads};
 
 use super::DefCollector;
-use super::directive::{
+use def_bindings::{Entry, ModuleTree, Namespace, Visibility, lesser_or_import};
+use def_ids::Interner;
+use def_map::{
+    BuiltinShadowMode, Item, ResolveMode, ResolvePathResult, SourceDatabase,
+    resolve_path_fp_with_macro,
+};
+use def_steps::{
     ImportDirective, NamespaceSet, PartialDirective, import_name, is_missing, is_ready_again,
     keeps_ns, kept_after, kept_item,
 };
-use def_bindings::{Entry, ModuleTree, Namespace, Visibility, lesser_or_import};
-use def_ids::Interner;
-use def_map::{BuiltinShadowMode, Item, ResolveMode, ResolvePathResult, SourceDatabase};
 use item_tree::{ImportKind, Name};
 use std::alloc::AllocError;
 
@@ -178,7 +184,8 @@ impl<'a> DefCollector<'a> {
     ) -> ResolvePathResult
         ensures { result ≡ answer_now (D.oracle db.now) (state_of self.now session.now) (pending_of directive.now) }
     {
-        self.def_map.resolve_path_fp_with_macro(
+        resolve_path_fp_with_macro(
+            &self.def_map,
             self.table.table(),
             self.local(),
             db,

@@ -1,14 +1,15 @@
 //! What each kind of item does.
 ghost use Rattle.std.specs.Prelude.{◌≡◌, ◌∷◌, ◌++◌, [], length, map, IfOk, OnOk};
 ghost use Rattle.def_ids.specs.Session.{Grows, session_of};
-ghost use Rattle.def_collector.specs.Collector.{AreKnown, Handled, Performs, Updated, inner_of, pending_of, queued, site_of, state_of, waiting};
-ghost use Rattle.def_collector.specs.State.{order};
+ghost use Rattle.def_collector.specs.Collector.{AreKnown, inner_of, queued, site_of, state_of, waiting};
+ghost use Rattle.def_steps.specs.Shown.{pending_of};
+ghost use Rattle.def_rules.specs.Performs.{Handled, Performs, Updated};
+ghost use Rattle.def_rules.specs.State.{order};
 ghost use Rattle.def_ids.specs.declared.interner.Interner.{Interner};
 ghost use Rattle.def_map.specs.Oracle.{Oracle};
-ghost use Rattle.def_collector.specs.Items.{ctor_vis, declared_effect, declared_entry, least_in, least_of, position_of, struct_effect, written_vis};
+ghost use Rattle.def_rules.specs.Items.{ctor_vis, declared_effect, declared_entry, least_in, least_of, position_of, struct_effect, written_vis};
 
 use super::DefCollector;
-use super::directive::ImportDirective;
 use super::modules::ModuleItem;
 use super::walk::{Frame, Site};
 use def_bindings::{Entry, Namespace, VisOrder, Visibility, lesser_or_import};
@@ -16,7 +17,8 @@ use def_ids::{
     ConstLoc, Def, EnumLoc, ExternBlockLoc, FunctionLoc, ImplLoc, Interner, ItemContainerId,
     Location, ModuleId, StaticLoc, StructLoc, TraitLoc, TypeAliasLoc, UnionLoc, UseId, UseLoc,
 };
-use def_map::SourceDatabase;
+use def_map::{SourceDatabase, resolve_visibility};
+use def_steps::ImportDirective;
 use item_tree::{
     CtorVisibility, FileAstId, InFile, ItemNode, ModItemKind, Name, RawVisibility, UseImport,
 };
@@ -240,16 +242,16 @@ impl<'a> DefCollector<'a> {
     ) -> Visibility
         ensures { result ≡ written_vis (D.oracle db.now) (state_of self.now session.now) module_id visibility.now }
     {
-        self.def_map
-            .resolve_visibility(
-                self.table.table(),
-                self.local(),
-                db,
-                session,
-                module_id,
-                visibility,
-            )
-            .unwrap_or(Visibility::Public)
+        resolve_visibility(
+            &self.def_map,
+            self.table.table(),
+            self.local(),
+            db,
+            session,
+            module_id,
+            visibility,
+        )
+        .unwrap_or(Visibility::Public)
     }
 
     /// The visibility of a struct's constructor, if it has one.

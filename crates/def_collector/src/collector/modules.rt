@@ -6,19 +6,20 @@ ghost use Rattle.def_bindings.specs.declared.bindings.Namespace.TheVariants.{Typ
 ghost use Rattle.def_ids.specs.declared.ids.Def.TheVariants as def_kind;
 ghost use Rattle.def_ids.specs.declared.interner.Interner.{Interner};
 ghost use Rattle.def_ids.specs.Session as sessions;
-ghost use Rattle.def_map.specs.declared.module_data.ModuleOrigin.TheVariants as origin_kind;
-ghost use Rattle.def_collector.specs.Collector.{AreKnown, IsDone, Updated, found_in, inner_of, site_of, state_of};
-ghost use Rattle.def_collector.specs.Items as items;
-ghost use Rattle.def_collector.specs.Items.{add_module, declared_entry, diagnostic, module_item, next_module, outline_found, outline_item, tree_cfg};
-ghost use Rattle.def_collector.specs.State.{reported};
+ghost use Rattle.def_modules.specs.declared.module_data.ModuleOrigin.TheVariants as origin_kind;
+ghost use Rattle.def_collector.specs.Collector.{AreKnown, found_in, inner_of, site_of, state_of};
+ghost use Rattle.def_rules.specs.Performs.{IsDone, Updated};
+ghost use Rattle.def_rules.specs.Items as items;
+ghost use Rattle.def_rules.specs.Items.{add_module, declared_entry, diagnostic, module_item, next_module, outline_found, outline_item, tree_cfg};
+ghost use Rattle.def_rules.specs.State.{reported};
 
 use super::DefCollector;
 use super::walk::{Frame, Site};
-use crate::diagnostics::{DefDiagnostic, DefDiagnosticKind};
 use def_bindings::{Namespace, Visibility};
 use def_ids::{Def, Interner, ItemContainerId, ModuleId};
 use def_map::{ModuleData, ModuleOrigin, SourceDatabase};
 use def_parts::ModDir;
+use def_rules::{DefDiagnostic, DefDiagnosticKind};
 use item_tree::{
     CfgExpr, FileId, HirFileId, ItemNode, ItemTree, ModContents, ModItemId, Name, Seq, Text, TreeId,
 };

@@ -3,12 +3,12 @@ ghost use Rattle.std.specs.Prelude.{◌≡◌, ℕ, option_and_then, IfOk, OnOk}
 ghost use Rattle.def_ids.specs.declared.interner.Interner.{Interner};
 ghost use Rattle.def_map.specs.Paths as paths;
 ghost use Rattle.def_collector.specs.Collector.{state_of};
-ghost use Rattle.def_collector.specs.Crates as crates;
-ghost use Rattle.def_collector.specs.Start.{head_of, with_head, with_prelude};
+ghost use Rattle.def_rules.specs.Crates as crates;
+ghost use Rattle.def_rules.specs.Start.{head_of, with_head, with_prelude};
 
 use super::DefCollector;
 use def_ids::{Def, Edition, Interner, ModuleId};
-use def_map::{BuiltinShadowMode, PerNs, SourceDatabase};
+use def_map::{BuiltinShadowMode, PerNs, SourceDatabase, resolve_path};
 use item_tree::{ModPath, Name, PathKind, Seq, sym};
 use std::alloc::AllocError;
 
@@ -42,7 +42,8 @@ impl<'a> DefCollector<'a> {
             map: self.def_map.tree.map,
             index: 0,
         };
-        let (found, left) = self.def_map.resolve_path(
+        let (found, left) = resolve_path(
+            &self.def_map,
             self.table.table(),
             self.local(),
             db,

@@ -4,16 +4,17 @@ ghost use Rattle.std.specs.Option.{option_copied};
 ghost use Rattle.item_tree.specs.Trees.{item_at};
 ghost use Rattle.def_ids.specs.declared.interner.Interner.{Interner};
 ghost use Rattle.def_ids.specs.Session.{Grows, session_of};
-ghost use Rattle.def_collector.specs.Collector.{AreKnown, agenda_of, frame_site, inner_of, is_known, left_of, state_of, task_work, walk_measure, work};
-ghost use Rattle.def_collector.specs.Items.{name_text, walk};
-ghost use Rattle.def_collector.specs.State.{Task, Visit, entered};
-ghost use Rattle.def_collector.specs.Steps.{Leads};
+ghost use Rattle.def_collector.specs.Collector.{AreKnown, agenda_of, frame_site, inner_of, is_known, left_of, state_of, walk_measure};
+ghost use Rattle.def_rules.specs.Work.{task_work, work};
+ghost use Rattle.def_rules.specs.Items.{name_text, walk};
+ghost use Rattle.def_rules.specs.State.{Task, Visit, entered};
+ghost use Rattle.def_rules.specs.Steps.{Leads};
 
 use super::DefCollector;
-use crate::diagnostics::DefDiagnosticKind;
 use def_ids::{Interner, ItemContainerId, ModuleId};
 use def_map::SourceDatabase;
 use def_parts::ModDir;
+use def_rules::DefDiagnosticKind;
 use item_tree::{ItemNode, ItemTree, ModItemId, TreeId};
 use std::alloc::AllocError;
 

@@ -11,13 +11,12 @@ ghost use Rattle.def_map.specs.Sources.{macro_use_source, prelude_source, scope_
 ghost use Rattle.def_map.specs.Sources.{plain_sources, root_sources, absolute_sources, relative_sources};
 
 use crate::def_map::DefMap;
-use crate::local_def_map::LocalDefMap;
-use crate::map::MapData;
 use crate::path_resolution::asked::Asked;
 use crate::per_ns::{MacroSubNs, PerNs, public_item};
 use crate::source_database::SourceDatabase;
 use def_bindings::{Binding, BindingTable, ImportOrExternCrate, Namespace, Visibility};
 use def_ids::{Def, Edition, Interner, MapId, ModuleId};
+use def_modules::{LocalDefMap, MapData};
 use item_tree::Name;
 
 /// What each step of a resolution reads: the answers, the session, and the map that is asked.

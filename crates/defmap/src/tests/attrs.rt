@@ -1,13 +1,10 @@
 //! What the attributes of a root file say of a crate.
 #![tactic(auto)]
 
-use crate::fault::Fault;
-use crate::script::{AttrText, CrateText, ItemText, Line, Vector};
 use crate::tests::kinds::shows;
-use crate::vectors;
-use crate::workspace::Workspace;
 use def_ids::Edition;
 use def_map::DefMap;
+use def_workspace::{AttrText, CrateText, Fault, ItemText, Line, Vector, Workspace, find};
 use item_tree::Name;
 use std::alloc::Global;
 use std::process::Abort;
@@ -50,7 +47,7 @@ fn is_as_said(workspace: &mut Workspace) -> Result<bool, Fault> {
 
 #[test]
 fn a_root_file_says_what_its_crate_is(rt: HostRuntime) -> Result<(), Fault> {
-    let Some(vector) = vectors::find("attrs") else {
+    let Some(vector) = find("attrs") else {
         assert!(rt; false);
         return Ok(());
     };

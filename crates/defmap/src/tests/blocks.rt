@@ -1,13 +1,13 @@
 //! Blocks over scripted crates.
 #![tactic(auto)]
 
-use crate::script::{CrateText, CtorText, ImportText, ItemText, Line, PathText, Vector, VisText};
-use crate::trees::tree_of;
-use crate::workspace::Workspace;
 use def_bindings::{Binding, ImportOrExternCrate, Visibility};
 use def_collector::{Collected, collect_defs};
 use def_ids::{Def, Edition, ImportId, MapId, ModuleId, StructId, UseId};
 use def_map::{BlockInfo, DefMap, PerNs};
+use def_workspace::{
+    CrateText, CtorText, ImportText, ItemText, Line, PathText, Vector, VisText, Workspace, tree_of,
+};
 use item_tree::{BlockId, Crate, FileId, HirFileId, ImportKind, PathKind, TreeId};
 use std::alloc::{AllocError, Global};
 use std::test::Fail;

@@ -1,16 +1,12 @@
 //! Crates that others depend on, and preludes.
 #![tactic(auto)]
 
-use crate::command::show;
-use crate::fault::Fault;
-use crate::lines::print;
-use crate::script::{
-    AttrText, CrateText, CtorText, DependencyText, ImportText, ItemText, Line, PathText, Vector,
-    VisText,
-};
-use crate::workspace::Workspace;
 use def_ids::Edition;
 use def_map::LangCrate;
+use def_workspace::{
+    AttrText, CrateText, CtorText, DependencyText, Fault, ImportText, ItemText, Line, PathText,
+    Vector, VisText, Workspace, print, show,
+};
 use item_tree::{Crate, ImportKind, PathKind};
 use std::alloc::Global;
 

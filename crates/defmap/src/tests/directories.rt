@@ -1,7 +1,7 @@
 //! Where the files of modules are looked for.
 
-use crate::scripted::Scripted;
 use def_parts::ModDir;
+use def_workspace::Scripted;
 use indexmap::IndexMap;
 use item_tree::{FileId, HirFileId};
 use std::alloc::{AllocError, Global};

@@ -1,10 +1,8 @@
 //! Modules in files of their own, and what cfg disables.
 #![tactic(auto)]
 
-use crate::command::{run, show};
-use crate::fault::Fault;
-use crate::script::{CrateText, CtorText, ItemText, Line, Vector, VisText};
 use def_ids::Edition;
+use def_workspace::{CrateText, CtorText, Fault, ItemText, Line, Vector, VisText, run, show};
 use std::alloc::Global;
 use std::io::Write;
 use std::process::Abort;

@@ -1,10 +1,10 @@
 //! Glob imports of scripted crates, as lines.
 #![tactic(auto)]
 
-use crate::command::{run, show};
-use crate::fault::Fault;
-use crate::script::{CrateText, CtorText, ImportText, ItemText, Line, PathText, Vector, VisText};
 use def_ids::Edition;
+use def_workspace::{
+    CrateText, CtorText, Fault, ImportText, ItemText, Line, PathText, Vector, VisText, run, show,
+};
 use item_tree::{ImportKind, PathKind};
 use std::alloc::Global;
 use std::process::Abort;

@@ -1,12 +1,12 @@
 //! Globs of what is no module: the variants of an enum are brought, and of a trait nothing.
 #![tactic(auto)]
 
-use crate::fault::Fault;
-use crate::script::{
-    CrateText, ImportText, ItemText, Line, PathText, PlainKind, VariantsText, Vector, VisText,
-};
 use crate::tests::kinds::shows;
 use def_ids::Edition;
+use def_workspace::{
+    CrateText, Fault, ImportText, ItemText, Line, PathText, PlainKind, VariantsText, Vector,
+    VisText,
+};
 use item_tree::{ImportKind, PathKind};
 
 /// pub enum E {} use E::*; where E has V with a constructor and W without one

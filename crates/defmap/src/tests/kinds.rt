@@ -1,14 +1,11 @@
 //! Items of all kinds over scripted crates.
 #![tactic(auto)]
 
-use crate::command::show;
-use crate::fault::Fault;
-use crate::script::{
-    CrateText, CtorText, ImportText, ItemText, Line, PathText, PlainKind, VariantsText, Vector,
-    VisText,
-};
-use crate::vectors::find;
 use def_ids::Edition;
+use def_workspace::{
+    CrateText, CtorText, Fault, ImportText, ItemText, Line, PathText, PlainKind, VariantsText,
+    Vector, VisText, find, show,
+};
 use item_tree::{ImportKind, PathKind};
 use std::alloc::Global;
 

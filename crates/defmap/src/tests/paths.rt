@@ -1,12 +1,11 @@
 //! Paths over scripted crates.
 #![tactic(auto)]
 
-use crate::command::show;
-use crate::fault::Fault;
-use crate::script::{
-    BuiltinText, CrateText, CtorText, ImportText, ItemText, Line, PathText, Vector, VisText,
-};
 use def_ids::Edition;
+use def_workspace::{
+    BuiltinText, CrateText, CtorText, Fault, ImportText, ItemText, Line, PathText, Vector, VisText,
+    show,
+};
 use item_tree::{ImportKind, PathKind};
 use std::alloc::Global;
 

@@ -1,7 +1,7 @@
 //! The program's runs.
 #![tactic(auto)]
 
-use crate::command::run;
+use def_workspace::run;
 use std::alloc::Global;
 use std::io;
 use std::process::Abort;

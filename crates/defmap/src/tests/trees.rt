@@ -1,10 +1,9 @@
 //! The faults of item trees.
 #![tactic(auto)]
 
-use crate::trees::no_attrs;
 use item_tree::{
-    FileAstId, ItemNode, ItemTree, ModContents, ModItemId, ModItemKind, Name, RawVisibility, Seq,
-    TreeFault,
+    Attrs, AttrsOrCfg, FileAstId, ItemNode, ItemTree, ModContents, ModItemId, ModItemKind, Name,
+    RawVisibility, Seq, TreeFault,
 };
 use std::alloc::{AllocError, Global};
 use std::test::Fail;
@@ -28,6 +27,13 @@ fn module(alloc: Global, number: usize, children: &[usize]) -> Result<ItemNode, 
             visibility: RawVisibility::PubSelf,
             contents: ModContents::Inline(Seq::from_vec(ids(alloc, children)?)),
         },
+    })
+}
+
+/// The attributes of a file without any.
+fn no_attrs(alloc: Global) -> AttrsOrCfg {
+    AttrsOrCfg::Enabled(Attrs {
+        list: Seq::from_vec(Vec::new(alloc)),
     })
 }
 

@@ -1,12 +1,12 @@
 use Rattle.std.proofs.Common.{ap, option_map, refl, ◌∙◌}
 use Rattle.def_ids.specs.Session.{session_of}
 use Rattle.def_map.specs.DefMaps as whole
-use Rattle.def_map.specs.Locals.{local_view}
-use Rattle.def_map.specs.Tables.{bound_by}
+use Rattle.def_modules.specs.Locals.{local_view}
+use Rattle.def_modules.specs.Tables.{bound_by}
 use Rattle.def_collector.specs.Collector.{setting_of, shown, state_of}
-use Rattle.def_collector.specs.Crates.{is_proc_macro_crate}
+use Rattle.def_rules.specs.Crates.{is_proc_macro_crate}
 use Rattle.def_collector.proofs.CollectLemmas.{collected_answers, if_ok, no_imports, no_partial}
-use Rattle.def_collector.proofs.GlobsLemmas.{no_targets}
+use Rattle.def_rules.specs.GlobsLaws.{no_targets}
 use Rattle.def_collector.proofs.collector.collect_defs.Goals as goal
 
 pub returns-clause-answers : goal.returns-clause-answers

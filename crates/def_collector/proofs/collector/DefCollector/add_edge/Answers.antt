@@ -1,6 +1,6 @@
 use Rattle.std.proofs.Common.{ap}
 use Rattle.def_collector.specs.Collector.{state_of}
-use Rattle.def_collector.specs.State.{with_content}
+use Rattle.def_rules.specs.State.{with_content}
 use Rattle.def_collector.proofs.collector.DefCollector.add_edge.Goals as goal
 
 pub returns-clause-added : goal.returns-clause-added

@@ -1,11 +1,11 @@
 use Rattle.std.proofs.Common.{ap, subst, sym, ◌∙◌}
 use Rattle.def_parts.specs.Directories.{descend, text_in}
-use Rattle.def_map.specs.declared.module_data.ModuleOrigin.TheVariants as origin
+use Rattle.def_modules.specs.declared.module_data.ModuleOrigin.TheVariants as origin
 use Rattle.def_ids.specs.Session.{session_of}
 use Rattle.def_collector.specs.Collector.{site_of, state_of}
-use Rattle.def_collector.specs.Items.{name_text}
-use Rattle.def_collector.specs.State.{State}
-use Rattle.def_collector.proofs.ModulesLemmas.{inline_opened, inline_too_deep, IsPushed}
+use Rattle.def_rules.specs.Items.{name_text}
+use Rattle.def_rules.specs.State.{State}
+use Rattle.def_rules.specs.ModulesLaws.{inline_opened, inline_too_deep, IsPushed}
 use Rattle.def_collector.proofs.collector.DefCollector.collect_inline_module.Goals as goal
 
 pub returns-in_default-clause-done : goal.returns-in_default-clause-done

@@ -2,7 +2,7 @@ use Rattle.std.proofs.Common.{ap, refl, ◌∙◌}
 use Rattle.std.specs.Prelude.{◌++◌}
 use Rattle.def_ids.specs.Session.{session_of}
 use Rattle.def_collector.specs.Collector.{inner_of, site_of, state_of}
-use Rattle.def_collector.specs.State.{State, with_map}
+use Rattle.def_rules.specs.State.{State, with_map}
 use Rattle.def_collector.proofs.CollectLemmas.{if_ok}
 use Rattle.def_collector.proofs.ItemsLemmas.{handled_module, handled_struct, handled_use, imports_at, handled_const, handled_enum, handled_extern_block, handled_function, handled_impl, handled_static, handled_trait, handled_type_alias, handled_union, handled_unnamed_const}
 use Rattle.def_collector.proofs.collector.DefCollector.collect_item.Goals as goal

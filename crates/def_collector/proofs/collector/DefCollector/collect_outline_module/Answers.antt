@@ -1,12 +1,12 @@
 use Rattle.std.proofs.Common.{ap, map, subst, sym, ◌∙◌, Err}
 use Rattle.std.specs.Prelude.{string_bytes}
 use Rattle.def_parts.specs.Directories.{files_of, resolve_declaration}
-use Rattle.def_map.specs.declared.module_data.ModuleOrigin.TheVariants as origin
+use Rattle.def_modules.specs.declared.module_data.ModuleOrigin.TheVariants as origin
 use Rattle.def_ids.specs.Session.{session_of}
 use Rattle.def_collector.specs.Collector.{site_of, state_of}
-use Rattle.def_collector.specs.Items.{name_text}
-use Rattle.def_collector.specs.State.{State}
-use Rattle.def_collector.proofs.ModulesLemmas.{asked_files, file_missing, IsPushed}
+use Rattle.def_rules.specs.Items.{name_text}
+use Rattle.def_rules.specs.State.{State}
+use Rattle.def_rules.specs.ModulesLaws.{asked_files, file_missing, IsPushed}
 use Rattle.def_collector.proofs.collector.DefCollector.collect_outline_module.Goals as goal
 
 pub returns-in_ok-push_child_module-in-Err-clause-done : goal.returns-in_ok-push_child_module-in-Err-clause-done

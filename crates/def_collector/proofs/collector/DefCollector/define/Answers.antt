@@ -1,6 +1,6 @@
 use Rattle.std.proofs.Common.{ap}
 use Rattle.def_collector.specs.Collector.{state_of}
-use Rattle.def_collector.specs.State.{with_map}
+use Rattle.def_rules.specs.State.{with_map}
 use Rattle.def_collector.proofs.ItemsLemmas.{declared_put}
 use Rattle.def_collector.proofs.collector.DefCollector.define.Goals as goal
 

@@ -1,6 +1,6 @@
 use Rattle.std.proofs.Common.{ap}
 use Rattle.def_collector.specs.Collector.{state_of}
-use Rattle.def_collector.specs.State.{with_map}
+use Rattle.def_rules.specs.State.{with_map}
 use Rattle.def_collector.proofs.ItemsLemmas.{struct_put, struct_put_both}
 use Rattle.def_collector.proofs.collector.DefCollector.define_struct.Goals as goal
 

@@ -1,11 +1,11 @@
 use Rattle.std.proofs.Common.{arith, ap, false, refl, map, ◌∙◌}
-use Rattle.def_map.specs.Tables.{bound_by}
-use Rattle.def_map.specs.Maps.{map_state}
+use Rattle.def_modules.specs.Tables.{bound_by}
+use Rattle.def_modules.specs.Maps.{map_state}
 use Rattle.def_collector.specs.Collector.{state_of}
-use Rattle.def_collector.specs.Report.{Answer, AreEdges, AreTargets, shown_targets}
-use Rattle.def_collector.specs.State.{State}
+use Rattle.def_rules.specs.Report.{Answer, AreEdges, AreTargets, shown_targets}
+use Rattle.def_rules.specs.State.{State}
 use Rattle.def_map.specs.DefMaps as whole
-use Rattle.def_map.specs.Locals.{local_view}
+use Rattle.def_modules.specs.Locals.{local_view}
 use Rattle.def_collector.proofs.FinishLemmas.{edges_listed, finished, left_more, left_none, left_whole, targets_listed}
 use Rattle.def_collector.proofs.collector.DefCollector.finish.Goals as goal
 

@@ -1,5 +1,5 @@
 use Rattle.std.proofs.Common.{◌≡◌, take}
-use Rattle.def_map.specs.Maps.{map_state}
+use Rattle.def_modules.specs.Maps.{map_state}
 use Rattle.def_collector.proofs.FinishLemmas.{LeftSoFar}
 use Rattle.def_collector.proofs.collector.DefCollector.finish.Given as goal
 

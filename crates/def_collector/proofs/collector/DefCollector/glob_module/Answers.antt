@@ -1,8 +1,8 @@
 use Rattle.std.proofs.Common.{ap, sym, ◌∙◌}
 use Rattle.def_collector.specs.declared.collector.DefCollector.{DefCollector}
 use Rattle.def_collector.specs.Collector.{state_of}
-use Rattle.def_collector.specs.Imports.{is_own_crate}
-use Rattle.def_collector.proofs.GlobsLemmas.{performs_foreign, performs_own}
+use Rattle.def_rules.specs.Imports.{is_own_crate}
+use Rattle.def_rules.specs.GlobsLaws.{performs_foreign, performs_own}
 use Rattle.def_collector.proofs.collector.DefCollector.glob_module.Goals as goal
 
 pub returns-then-not-is_own_crate-clause-performs :

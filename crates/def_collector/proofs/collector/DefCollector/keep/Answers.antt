@@ -1,7 +1,8 @@
 use Rattle.std.proofs.Common.{ap, ◌∙◌, sym}
 use Rattle.std.specs.Prelude.{map, ◌++◌}
-use Rattle.def_collector.specs.Collector.{kept_of, partial_of, pending_of, waiting}
-use Rattle.def_collector.specs.Imports.{kept_list}
+use Rattle.def_steps.specs.Shown.{kept_of, partial_of, pending_of}
+use Rattle.def_collector.specs.Collector.{waiting}
+use Rattle.def_rules.specs.Imports.{kept_list}
 use Rattle.def_collector.proofs.WaitingLemmas.{waiting_pushed}
 use Rattle.def_collector.proofs.collector.DefCollector.keep.Goals as goal
 

@@ -2,8 +2,8 @@ use Rattle.std.proofs.Common.{◌≡◌, List, map, drop}
 use Rattle.item_tree.specs.declared.items.RawVisibility.{RawVisibility}
 use Rattle.def_bindings.specs.declared.visibility.Visibility.{Visibility}
 use Rattle.def_collector.specs.Collector.{state_of}
-use Rattle.def_collector.specs.Items.{least_of, written_vis}
-use Rattle.def_collector.specs.State.{State, order}
+use Rattle.def_rules.specs.Items.{least_of, written_vis}
+use Rattle.def_rules.specs.State.{State, order}
 use Rattle.def_collector.proofs.collector.DefCollector.least_with.Given as goal
 
 abbrev pub invariant-fields : goal.invariant-fields

@@ -1,10 +1,10 @@
 use Rattle.std.proofs.Common.{ap, sym, ◌∙◌}
 use Rattle.def_map.specs.DefMaps.{view_of}
-use Rattle.def_map.specs.Tables.{bound_by}
+use Rattle.def_modules.specs.Tables.{bound_by}
 use Rattle.def_collector.specs.Collector.{state_of}
-use Rattle.def_collector.specs.State.{order}
+use Rattle.def_rules.specs.State.{order}
 use Rattle.def_collector.proofs.CollectLemmas.{if_ok}
-use Rattle.def_collector.proofs.GlobsLemmas.{entries_elsewhere, entries_here}
+use Rattle.def_rules.specs.GlobsLaws.{entries_elsewhere, entries_here}
 use Rattle.def_collector.proofs.collector.DefCollector.module_entries.Goals as goal
 
 pub returns-then-eq : goal.returns-then-eq

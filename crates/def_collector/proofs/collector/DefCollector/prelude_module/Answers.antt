@@ -1,11 +1,11 @@
 use Rattle.std.proofs.Common.{ap, ◌∙◌}
-use Rattle.def_map.specs.Locals.{local_view}
-use Rattle.def_map.specs.Maps.{facts_of}
+use Rattle.def_modules.specs.Locals.{local_view}
+use Rattle.def_modules.specs.Maps.{facts_of}
 use Rattle.def_map.specs.Paths.{for_module, resolve}
-use Rattle.def_map.specs.Tables.{bound_by}
+use Rattle.def_modules.specs.Tables.{bound_by}
 use Rattle.def_collector.specs.Collector.{state_of}
-use Rattle.def_collector.specs.State.{root, world}
-use Rattle.def_collector.proofs.StartLemmas.{prelude_found}
+use Rattle.def_rules.specs.State.{root, world}
+use Rattle.def_rules.specs.StartLaws.{prelude_found}
 use Rattle.def_collector.proofs.collector.DefCollector.prelude_module.Goals as goal
 
 pub returns : goal.returns

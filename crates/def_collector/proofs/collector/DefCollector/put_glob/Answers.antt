@@ -1,9 +1,10 @@
 use Rattle.std.proofs.Common.{◌≡◌, List, [], Some, ap, inl, inr, refl, subst, sym, ◌∙◌}
 use Rattle.def_ids.specs.declared.ids.Def.{Def}
-use Rattle.def_collector.specs.Collector.{Performs, state_of}
-use Rattle.def_collector.specs.Imports.{glob_tasks}
-use Rattle.def_collector.specs.State.{Task, world}
-use Rattle.def_collector.proofs.StepsLemmas.{performs_listed, performs_none}
+use Rattle.def_rules.specs.Performs.{Performs}
+use Rattle.def_collector.specs.Collector.{state_of}
+use Rattle.def_rules.specs.Imports.{glob_tasks}
+use Rattle.def_rules.specs.State.{Task, world}
+use Rattle.def_rules.specs.StepsLaws.{performs_listed, performs_none}
 use Rattle.def_collector.proofs.collector.DefCollector.put_glob.Goals as goal
 
 pub returns-in_ok-glob_module-in-Module-clause-performs : goal.returns-in_ok-glob_module-in-Module-clause-performs

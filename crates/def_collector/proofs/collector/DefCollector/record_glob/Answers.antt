@@ -2,9 +2,10 @@ use Rattle.std.proofs.Common.{ap, sym, ◌∙◌}
 use Rattle.std.specs.Prelude.{option_map}
 use Rattle.def_bindings.specs.declared.bindings.EdgeTo.{EdgeTo}
 use Rattle.def_bindings.specs.declared.visibility.Visibility.{Visibility}
-use Rattle.def_collector.specs.Collector.{pending_of, state_of}
-use Rattle.def_collector.specs.Globs.{Targets}
-use Rattle.def_collector.proofs.GlobsLemmas.{glob_nothing, glob_recorded}
+use Rattle.def_steps.specs.Shown.{pending_of}
+use Rattle.def_collector.specs.Collector.{state_of}
+use Rattle.def_rules.specs.Globs.{Targets}
+use Rattle.def_rules.specs.GlobsLaws.{glob_nothing, glob_recorded}
 use Rattle.def_collector.proofs.collector.DefCollector.record_glob.Goals as goal
 
 pub returns-in_default-clause-performs : goal.returns-in_default-clause-performs

@@ -1,6 +1,6 @@
 use Rattle.std.proofs.Common.{◌∙◌}
 use Rattle.def_collector.specs.Collector.{state_of}
-use Rattle.def_collector.proofs.StepsLemmas.{performs_listed}
+use Rattle.def_rules.specs.StepsLaws.{performs_listed}
 use Rattle.def_collector.proofs.collector.DefCollector.record_named.Goals as goal
 
 pub returns-clause-performs : goal.returns-clause-performs

@@ -1,6 +1,7 @@
 use Rattle.item_tree.specs.declared.items.ImportKind.TheVariants as kind
-use Rattle.def_collector.specs.Collector.{pending_of, state_of}
-use Rattle.def_collector.proofs.GlobsLemmas.{recorded_as, recorded_named}
+use Rattle.def_steps.specs.Shown.{pending_of}
+use Rattle.def_collector.specs.Collector.{state_of}
+use Rattle.def_rules.specs.GlobsLaws.{recorded_as, recorded_named}
 use Rattle.def_collector.proofs.collector.DefCollector.record_resolved_import.Goals as goal
 
 pub returns-in_ok-record_named-in-Plain-clause-performs :

@@ -1,6 +1,6 @@
 use Rattle.std.proofs.Common.{[]}
 use Rattle.def_collector.specs.Collector.{state_of}
-use Rattle.def_collector.proofs.StepsLemmas.{leads_refl, leads_trans}
+use Rattle.def_rules.specs.StepsLaws.{leads_refl, leads_trans}
 use Rattle.def_collector.proofs.collector.DefCollector.resolution_loop.Goals as goal
 
 pub resolve_imports-init : goal.resolve_imports-init

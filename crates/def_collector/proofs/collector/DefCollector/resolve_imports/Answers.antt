@@ -1,7 +1,8 @@
 use Rattle.std.proofs.Common.{◌≡◌, ◌<◌, ◌||◌, [], ap, sym, subst, ◌∙◌}
-use Rattle.def_collector.specs.Collector.{state_of, turns_left}
-use Rattle.def_collector.specs.Steps.{Leads}
-use Rattle.def_collector.proofs.StepsLemmas.{leads_trans}
+use Rattle.def_collector.specs.Collector.{state_of}
+use Rattle.def_rules.specs.Turns.{turns_left}
+use Rattle.def_rules.specs.Steps.{Leads}
+use Rattle.def_rules.specs.StepsLaws.{leads_trans}
 use Rattle.def_collector.proofs.TriesLemmas.{fewer_after_both, settled_after_both}
 use Rattle.def_collector.proofs.collector.DefCollector.resolve_imports.Goals as goal
 use Rattle.def_collector.proofs.collector.DefCollector.resolve_imports.Goals.{then-unresolved, else-unresolved}

@@ -1,12 +1,12 @@
 use Rattle.std.proofs.Common.{ap, ◌∙◌}
 use Rattle.std.specs.Option.{unwrap_or}
 use Rattle.def_bindings.specs.declared.visibility.Visibility.TheVariants.{Public}
-use Rattle.def_map.specs.Locals.{local_view}
-use Rattle.def_map.specs.Maps.{facts_of}
+use Rattle.def_modules.specs.Locals.{local_view}
+use Rattle.def_modules.specs.Maps.{facts_of}
 use Rattle.def_map.specs.Paths.{resolve_visibility}
-use Rattle.def_map.specs.Tables.{bound_by}
+use Rattle.def_modules.specs.Tables.{bound_by}
 use Rattle.def_collector.specs.Collector.{state_of}
-use Rattle.def_collector.specs.State.{world}
+use Rattle.def_rules.specs.State.{world}
 use Rattle.def_collector.proofs.collector.DefCollector.resolve_visibility.Goals as goal
 
 pub returns : goal.returns

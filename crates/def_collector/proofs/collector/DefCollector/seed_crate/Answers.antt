@@ -1,5 +1,5 @@
 use Rattle.def_collector.specs.Collector.{state_of}
-use Rattle.def_collector.proofs.StartLemmas.{crate_seeded}
+use Rattle.def_rules.specs.StartLaws.{crate_seeded}
 use Rattle.def_collector.proofs.collector.DefCollector.seed_crate.Goals as goal
 
 pub returns : goal.returns

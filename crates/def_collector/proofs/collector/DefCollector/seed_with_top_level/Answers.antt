@@ -1,7 +1,7 @@
 use Rattle.std.proofs.Common.{◌∙◌}
 use Rattle.def_collector.specs.Collector.{state_of}
-use Rattle.def_collector.proofs.RecordLemmas.{on_ok}
-use Rattle.def_collector.proofs.StartLemmas.{attrs_of, cfg_of, starts_disabled, starts_walked, tops_of}
+use Rattle.def_rules.specs.RecordLaws.{on_ok}
+use Rattle.def_rules.specs.StartLaws.{attrs_of, cfg_of, starts_disabled, starts_walked, tops_of}
 use Rattle.def_collector.proofs.collector.DefCollector.seed_with_top_level.Goals as goal
 
 pub returns-in-Some-clause-run : goal.returns-in-Some-clause-run

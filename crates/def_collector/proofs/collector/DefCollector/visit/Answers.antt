@@ -1,11 +1,11 @@
 use Rattle.std.proofs.Common.{ap, refl, sym, ◌∙◌}
 use Rattle.def_ids.specs.Session.{session_of}
 use Rattle.def_collector.specs.Collector.{frame_site, inner_of, state_of}
-use Rattle.def_collector.specs.Items.{name_text}
+use Rattle.def_rules.specs.Items.{name_text}
 use Rattle.def_collector.proofs.CollectLemmas.{if_ok}
-use Rattle.def_collector.proofs.StepsLemmas.{leads_disabled, leads_handled, leads_nothing}
+use Rattle.def_rules.specs.StepsLaws.{leads_disabled, leads_handled, leads_nothing}
 use Rattle.def_collector.proofs.VisitLemmas.{node_of, texts_same}
-use Rattle.def_collector.proofs.WorkLemmas.{handled_less, nothing_less}
+use Rattle.def_rules.specs.WorkLaws.{handled_less, nothing_less}
 use Rattle.def_collector.proofs.collector.DefCollector.visit.Goals as goal
 
 pub returns-in_default-clause-run : goal.returns-in_default-clause-run

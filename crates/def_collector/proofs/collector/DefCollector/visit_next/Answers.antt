@@ -2,7 +2,7 @@ use Rattle.std.proofs.Common.{sym}
 use Rattle.def_ids.specs.Session.{session_of}
 use Rattle.def_collector.proofs.VisitLemmas.{all_below, all_last, closed_fewer, done_fewer, opened_fewer, opened_known, stands_at, turn_closed, turn_done, turn_known, turn_opened}
 use Rattle.def_collector.specs.Collector.{is_known, state_of}
-use Rattle.def_collector.specs.Items.{name_text}
+use Rattle.def_rules.specs.Items.{name_text}
 use Rattle.def_collector.proofs.collector.DefCollector.visit_next.Goals as goal
 
 pub returns-in_default-clause-run : goal.returns-in_default-clause-run

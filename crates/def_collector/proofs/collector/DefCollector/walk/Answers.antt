@@ -2,9 +2,9 @@ use Rattle.std.proofs.Common.{ap, refl, subst, sym, ◌∙◌, ◌++◌, ◌∷�
 use Rattle.def_ids.specs.Session.{session_of}
 use Rattle.def_ids.specs.SessionLaws.{grows_refl, grows_trans}
 use Rattle.def_collector.specs.Collector.{agenda_of, frame_site, is_known, left_of, state_of}
-use Rattle.def_collector.specs.Items.{walk}
-use Rattle.def_collector.specs.Steps.{Leads}
-use Rattle.def_collector.proofs.StepsLemmas.{leads_trans}
+use Rattle.def_rules.specs.Items.{walk}
+use Rattle.def_rules.specs.Steps.{Leads}
+use Rattle.def_rules.specs.StepsLaws.{leads_trans}
 use Rattle.def_collector.proofs.VisitLemmas.{all_none, all_pushed, empty_list, fewer_still, walk_begins}
 use Rattle.def_collector.proofs.WalkLemmas.{agenda_of-none}
 use Rattle.def_collector.proofs.collector.DefCollector.walk.Goals as goal

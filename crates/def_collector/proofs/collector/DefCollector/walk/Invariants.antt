@@ -1,8 +1,8 @@
 use Rattle.std.proofs.Common.{◌≡◌, All}
 use Rattle.def_ids.specs.Session.{Grows, session_of}
 use Rattle.def_collector.specs.Collector.{agenda_of, frame_site, is_known, left_of, state_of, walk_measure}
-use Rattle.def_collector.specs.Items.{name_text, walk}
-use Rattle.def_collector.specs.Steps.{Leads}
+use Rattle.def_rules.specs.Items.{name_text, walk}
+use Rattle.def_rules.specs.Steps.{Leads}
 use Rattle.def_collector.proofs.collector.DefCollector.walk.Given as goal
 
 abbrev pub invariant-frames : goal.invariant-frames

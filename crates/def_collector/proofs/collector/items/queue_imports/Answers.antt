@@ -1,5 +1,5 @@
 use Rattle.std.proofs.Common.{refl}
-use Rattle.def_collector.specs.Collector.{pending_of}
+use Rattle.def_steps.specs.Shown.{pending_of}
 use Rattle.def_collector.proofs.ItemsLemmas.{queued_more}
 use Rattle.def_collector.proofs.WaitingLemmas.{waiting_pushed}
 use Rattle.def_collector.proofs.collector.items.queue_imports.Goals as goal

@@ -1,5 +1,6 @@
 use Rattle.std.proofs.Common.{◌≡◌, ◌++◌, map, take}
-use Rattle.def_collector.specs.Collector.{pending_of, queued, waiting}
+use Rattle.def_steps.specs.Shown.{pending_of}
+use Rattle.def_collector.specs.Collector.{queued, waiting}
 use Rattle.def_collector.proofs.collector.items.queue_imports.Given as goal
 
 abbrev pub invariant-imports : goal.invariant-imports

@@ -1,6 +1,6 @@
 use Rattle.std.proofs.Common.{◌≡◌, refl, sym, subst}
 use Rattle.def_map.specs.Fresh.{fresh_by}
-use Rattle.def_map.specs.MapState.{MapState}
+use Rattle.def_modules.specs.MapState.{MapState}
 use Rattle.def_map.proofs.def_map.DefMap.seed.Goals as goal
 
 pub returns-in_ok-crate_data-in-None-clause-fresh : goal.returns-in_ok-crate_data-in-None-clause-fresh

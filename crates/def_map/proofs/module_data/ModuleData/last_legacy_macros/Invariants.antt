@@ -1,6 +1,0 @@
-use Rattle.std.proofs.Common.{◌≡◌, take}
-use Rattle.def_map.specs.ScopeMaps.{last_macros}
-use Rattle.def_map.proofs.module_data.ModuleData.last_legacy_macros.Given as goal
-
-abbrev pub invariant-loop-i : goal.invariant-loop-i
-invariant-loop-i l = l.last.items ≡ last_macros (take l.i l.macros.entries)

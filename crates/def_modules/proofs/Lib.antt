@@ -1,0 +1,4 @@
+pub mod ScopesLemmas
+pub mod MapsLemmas
+pub mod CrateLemmas
+pub mod LegacyLemmas

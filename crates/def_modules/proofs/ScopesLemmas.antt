@@ -1,0 +1,78 @@
+-- Maps read by key after a write.
+use Rattle.std.proofs.Common.{subst, sym, rules, ℕ, ◌≡◌, Bool, true, false, cond, List, [], ◌∷◌, ◌++◌, Option, Some, None, refl, ap, ◌∙◌}
+use Rattle.std.specs.Prelude.{IsSome, reverse, unwrap_or}
+use Rattle.std.specs.Option.{option_map_or}
+use Rattle.std.proofs.lemmas.List.{reverse-append}
+use Rattle.std.specs.Prelude.{option_map}
+use Rattle.indexmap.specs.IndexMap.{IndexMap, get}
+use Rattle.indexmap.specs.IndexSet.{IndexSet, contains}
+use Rattle.item_tree.specs.declared.ids.AttrId.{AttrId}
+use Rattle.item_tree.specs.declared.ids.MacroCallId.{MacroCallId}
+use Rattle.item_tree.specs.declared.name.Name.{Name}
+use Rattle.def_modules.specs.declared.module_data.DeriveKey.{DeriveKey}
+use Rattle.def_modules.specs.declared.module_data.DeriveMacroInvocation.{DeriveMacroInvocation}
+use Rattle.def_modules.specs.declared.module_data.Invocation.{Invocation}
+use Rattle.def_modules.specs.Equality.{derive_key_eq, invocation_eq}
+use Rattle.def_modules.specs.KeyedLists.{PushesUnder}
+use Rattle.def_modules.specs.MapState.{Position, DeriveCall}
+use Rattle.def_ids.specs.declared.ids.MacroId.{MacroId}
+use Rattle.def_bindings.specs.Content.{is_name}
+use Rattle.def_modules.specs.ScopeMaps.{textual_of, with_first, derive_state, derives_of, derive_set, derive_called, with_call, is_derive_of, invoked_of, invoked_with}
+
+-- an option that has a value
+pub some_there : {X : Type 0} {o : Option X} {x : X} → o ≡ Some x → IsSome o
+some_there {o = o} {x = x} h = subst IsSome (sym h) (search rules)
+
+-- a textual macro that shadows the others of its name
+pub textual-shadowed : {S : Type 0} (old new : IndexMap Name (List MacroId) S) (name : Name) (id : MacroId) → PushesUnder is_name (get is_name old) (get is_name new) name id
+    → textual_of new ≡ with_first (textual_of old) name id
+textual-shadowed old new name id after = λ i q. at q i
+  where
+    shown : (o : Option (List MacroId)) → reverse (unwrap_or o [] ++ id ∷ []) ≡ id ∷ option_map_or reverse o []
+    shown None = refl
+    shown (Some xs) = reverse-append xs (id ∷ [])
+
+    by : (b : Bool) (o : Option (List MacroId)) → option_map_or reverse (cond b (Some (unwrap_or (get is_name old name) [] ++ id ∷ [])) o) [] ≡ cond b (id ∷ textual_of old name) (option_map_or reverse o [])
+    by true o = shown (get is_name old name)
+    by false o = refl
+
+    at : (q : Name) → textual_of new q ≡ with_first (textual_of old) name id q
+    at q = ap (λ o. option_map_or reverse o []) (after q) ∙ by (is_name name q) (get is_name old q)
+
+-- the derives after one is recorded
+pub derives-set : {S : Type 0} (old new : IndexMap DeriveKey DeriveMacroInvocation S) (position : Position) (attr : AttrId) (d : DeriveMacroInvocation) (eq : DeriveKey → DeriveKey → Bool) → eq ≡ derive_key_eq
+    → ((q : DeriveKey) → get eq new q ≡ cond (eq (record { position = position; attr = attr }) q) (Some d) (get eq old q))
+    → derives_of new ≡ derive_set (derives_of old) position attr (Some (derive_state d))
+derives-set old new position attr d eq same written = λ i p a. at p a i
+  where
+    after : (q : DeriveKey) → get derive_key_eq new q ≡ cond (derive_key_eq (record { position = position; attr = attr }) q) (Some d) (get derive_key_eq old q)
+    after = let P : (DeriveKey → DeriveKey → Bool) → Type 0 = λ e. (q : DeriveKey) → get e new q ≡ cond (e (record { position = position; attr = attr }) q) (Some d) (get e old q) in subst P same written
+
+    by : (b : Bool) (o : Option DeriveMacroInvocation) → option_map derive_state (cond b (Some d) o) ≡ cond b (Some (derive_state d)) (option_map derive_state o)
+    by true o = refl
+    by false o = refl
+
+    at : (p : Position) (a : AttrId) → derives_of new p a ≡ derive_set (derives_of old) position attr (Some (derive_state d)) p a
+    at p a = ap (option_map derive_state) (after (record { position = p; attr = a })) ∙ by (is_derive_of position attr p a) (get derive_key_eq old (record { position = p; attr = a }))
+
+-- the calls after one is recorded
+pub invoked-set : {S : Type 0} (old new : IndexSet Invocation S) (position : Position) (call : MacroCallId) (eq : Invocation → Invocation → Bool) → eq ≡ invocation_eq
+    → ((q : Invocation) → contains eq new q ≡ cond (eq (record { position = position; call = call }) q) true (contains eq old q))
+    → invoked_of new ≡ invoked_with (invoked_of old) position call
+invoked-set old new position call eq same written = λ i p c. after (record { position = p; call = c }) i
+  where
+    after : (q : Invocation) → contains invocation_eq new q ≡ cond (invocation_eq (record { position = position; call = call }) q) true (contains invocation_eq old q)
+    after = let P : (Invocation → Invocation → Bool) → Type 0 = λ e. (q : Invocation) → contains e new q ≡ cond (e (record { position = position; call = call }) q) true (contains e old q) in subst P same written
+
+-- the derives after one call of a recorded one is set
+pub derives-called : {S : Type 0} (old new : IndexMap DeriveKey DeriveMacroInvocation S) (position : Position) (attr : AttrId) (pos : ℕ) (call : DeriveCall) (was now : DeriveMacroInvocation) (eq : DeriveKey → DeriveKey → Bool) → eq ≡ derive_key_eq
+    → get eq old (record { position = position; attr = attr }) ≡ Some was
+    → derive_state now ≡ with_call pos call (derive_state was)
+    → ((q : DeriveKey) → get eq new q ≡ cond (eq (record { position = position; attr = attr }) q) (Some now) (get eq old q))
+    → derives_of new ≡ derive_called (derives_of old) position attr pos call
+derives-called old new position attr pos call was now eq same there called written =
+    let before : derives_of old position attr ≡ Some (derive_state was) =
+    ap (option_map derive_state) (ap (λ e. get e old (record { position = position; attr = attr })) (sym same) ∙ there) in
+    let found : Some (derive_state now) ≡ option_map (with_call pos call) (derives_of old position attr) =
+    ap Some called ∙ ap (option_map (with_call pos call)) (sym before) in
+    derives-set old new position attr now eq same written ∙ ap (derive_set (derives_of old) position attr) found

@@ -1,0 +1,11 @@
+pub mod MapView
+pub mod MapState
+pub mod Updates
+pub mod KeyedLists
+pub mod Equality
+pub mod ScopeMaps
+pub mod Scopes
+pub mod Maps
+pub mod Tables
+pub mod Locals
+pub mod EqualityLaws

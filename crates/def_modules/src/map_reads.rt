@@ -1,0 +1,66 @@
+//! What paths and the collector read of a map's data.
+ghost use Rattle.std.specs.Prelude.{◌≡◌};
+ghost use Rattle.def_modules.specs.Maps.{map_state, facts_of, first_of_list, limit_of, features_of};
+ghost use Rattle.def_modules.specs.Scopes.{module_state};
+
+use crate::map::{MapData, UnstableFeatures};
+use crate::module_data::ModuleData;
+use def_ids::{MacroId, ModuleId};
+use item_tree::Name;
+
+impl ModuleData {
+    /// The last textual macro of a name.
+    pub fn last_legacy_macro(&self, name: Name) -> Option<MacroId>
+        ensures { result ≡ first_of_list ((module_state self.now).textual name) }
+    {
+        match self.scope.legacy_macros.get(&name) {
+            Some(macros) => macros.as_slice().last().copied(),
+            None => None,
+        }
+    }
+}
+
+impl MapData {
+    /// The last textual macro of a name in a module.
+    pub fn textual_macro(&self, place: ModuleId, name: Name) -> Option<MacroId>
+        ensures { result ≡ (facts_of self.now).textual_macro place name }
+    {
+        match self.modules.get(place.index) {
+            Some(found) => found.last_legacy_macro(name),
+            None => None,
+        }
+    }
+
+    /// The macro of a name that an extern crate brought.
+    pub fn macro_use(&self, name: Name) -> Option<MacroId>
+        ensures { result ≡ (facts_of self.now).macro_use name }
+    {
+        self.macro_use_prelude.get(&name).copied()
+    }
+
+    /// The helper attributes that other crates see of a derive macro.
+    pub fn exported_helpers(&self, id: MacroId) -> &[Name]
+        ensures { result.now ≡ (facts_of self.now).exported_helpers id }
+    {
+        match self.exported_derives.get(&id) {
+            Some(names) => names.as_slice(),
+            None => &[],
+        }
+    }
+
+    /// How deep expansions may nest: 128 where the crate states nothing.
+    pub fn recursion_limit(&self) -> u32
+        ensures { result ≡ limit_of (map_state self.now).krate }
+    {
+        self.recursion_limit.unwrap_or(128)
+    }
+}
+
+impl UnstableFeatures {
+    /// Whether the crate enables this feature.
+    pub fn is_enabled(&self, name: Name) -> bool
+        ensures { result ≡ features_of self.now name }
+    {
+        self.names.contains(&name)
+    }
+}

@@ -1,0 +1,278 @@
+//! A module of a map, and what its scope holds beside its bindings.
+ghost use Rattle.std.specs.Prelude.{◌≡◌, OnOk, IfOk};
+ghost use Rattle.def_modules.specs.ScopeMaps.{derive_state, with_call};
+
+use crate::keyed_lists::{no_items, push_under};
+use def_bindings::Visibility;
+use def_ids::{BuiltinDeriveImplId, ConstId, Def, ExternBlockId, ExternCrateId, ImplId, MacroId};
+use either::Either;
+use indexmap::{IndexMap, IndexSet};
+use item_tree::{AttrId, FileAstId, FileId, InFile, MacroCallId, Name, Seq, TreeId};
+use std::alloc::{AllocError, Global};
+
+/// An item's place in its file.
+pub type Position = InFile<FileAstId>;
+
+/// A call that a derive gave, or the impl of a builtin derive.
+pub type DeriveCall = Either<MacroCallId, BuiltinDeriveImplId>;
+
+/// What made a module. The tree is that of its declaration.
+#[derive(Clone, Copy, PartialEq, Eq, Debug)]
+pub enum ModuleOrigin {
+    /// The root of a crate's map.
+    CrateRoot,
+    /// The root of a block's map.
+    Block,
+    /// A module with its items in braces.
+    Inline {
+        definition: FileAstId,
+        tree: TreeId,
+    },
+    /// A module in a file of its own; `is_mod_rs` for a `mod.rs`.
+    File {
+        declaration: FileAstId,
+        tree: TreeId,
+        file: FileId,
+        is_mod_rs: bool,
+    },
+}
+
+/// A derive attribute: its item, and its place among the item's attributes.
+#[derive(Clone, Copy, PartialEq, Eq, Hash)]
+pub struct DeriveKey {
+    pub position: Position,
+    pub attr: AttrId,
+}
+
+/// The call of a derive attribute, and what each path of its list gave, if anything yet.
+#[derive(Drop)]
+pub struct DeriveMacroInvocation {
+    pub call: MacroCallId,
+    pub calls: Vec<Option<DeriveCall>>,
+}
+
+/// A macro call, and the item that it stands at.
+#[derive(Clone, Copy, PartialEq, Eq, Hash)]
+pub struct Invocation {
+    pub position: Position,
+    pub call: MacroCallId,
+}
+
+/// What a module's scope holds beside its bindings. Lists are in the order of recording.
+#[derive(Drop)]
+pub struct ScopeData {
+    pub declarations: Seq<Def>,
+    /// The textual macros of each name; the last one shadows the others.
+    pub legacy_macros: IndexMap<Name, Seq<MacroId>>,
+    pub extern_crates: Seq<ExternCrateId>,
+    pub extern_blocks: Seq<ExternBlockId>,
+    pub unnamed_consts: Seq<ConstId>,
+    /// Each impl, and whether it is one of a trait.
+    pub impls: Seq<(ImplId, bool)>,
+    pub builtin_derive_impls: Seq<BuiltinDeriveImplId>,
+    pub derives: IndexMap<DeriveKey, DeriveMacroInvocation>,
+    pub invocations: IndexSet<Invocation>,
+    /// The names that an import left over would have bound.
+    pub failed: IndexSet<Name>,
+}
+
+/// A module of a map. Its parent stands in the map's tree alone.
+pub struct ModuleData {
+    /// None for a root.
+    pub name: Option<Name>,
+    pub origin: ModuleOrigin,
+    pub visibility: Visibility,
+    /// The indices of its child modules.
+    pub children: IndexMap<Name, usize>,
+    pub scope: ScopeData,
+}
+
+impl Drop for ModuleData {
+    fn drop(self) {
+        let ModuleData {
+            name: _,
+            origin: _,
+            visibility: _,
+            children: _,
+            scope: _,
+        } = self;
+    }
+}
+
+impl DeriveMacroInvocation {
+    /// Records the call of one path, if there is such a path.
+    fn set_call(&mut self, pos: usize, call: DeriveCall)
+        ensures { derive_state self.new ≡ with_call pos call (derive_state self.old) }
+    {
+        if let Some(place) = self.calls.get_mut(pos) {
+            *place = Some(call);
+        }
+    }
+}
+
+/// A copy of textual macros.
+fn copied_macros(
+    macros: &IndexMap<Name, Seq<MacroId>>,
+) -> Result<IndexMap<Name, Seq<MacroId>>, AllocError>
+    ensures { IfOk result (λ copy. copy.entries ≡ macros.now.entries) }
+{
+    macros.clone()
+}
+
+impl ModuleData {
+    ghost use Rattle.def_modules.specs.Scopes.{module_state, empty_module, declared_in, with_child, with_textual, with_extern_crate, with_extern_block, with_unnamed_const, with_impl, with_derive_impl, with_derive, called_at, with_textual_of, with_invocation, marked_failed};
+
+    /// A module with nothing in it.
+    pub fn new(
+        alloc: Global,
+        name: Option<Name>,
+        origin: ModuleOrigin,
+        visibility: Visibility,
+    ) -> ModuleData
+        ensures { module_state result ≡ empty_module name origin visibility }
+    {
+        ModuleData {
+            name,
+            origin,
+            visibility,
+            children: IndexMap::new(alloc),
+            scope: ScopeData {
+                declarations: no_items(alloc),
+                legacy_macros: IndexMap::new(alloc),
+                extern_crates: no_items(alloc),
+                extern_blocks: no_items(alloc),
+                unnamed_consts: no_items(alloc),
+                impls: no_items(alloc),
+                builtin_derive_impls: no_items(alloc),
+                derives: IndexMap::new(alloc),
+                invocations: IndexSet::new(alloc),
+                failed: IndexSet::new(alloc),
+            },
+        }
+    }
+
+    /// Adds a declaration behind the others.
+    pub fn declare(&mut self, def: Def) -> Result<(), AllocError>
+        ensures { OnOk result (module_state self.new ≡ declared_in def (module_state self.old)) }
+    {
+        self.scope.declarations.push(def)?;
+        Ok(())
+    }
+
+    /// Leads a child's name to its index.
+    pub fn set_child(&mut self, name: Name, child: usize) -> Result<(), AllocError>
+        ensures { OnOk result (module_state self.new ≡ with_child name child (module_state self.old)) }
+    {
+        self.children.insert(name, child)?;
+        Ok(())
+    }
+
+    /// Defines a textual macro, which shadows the earlier ones of its name.
+    pub fn define_legacy_macro(&mut self, name: Name, macro_id: MacroId) -> Result<(), AllocError>
+        ensures { OnOk result (module_state self.new ≡ with_textual name macro_id (module_state self.old)) }
+    {
+        push_under(&mut self.scope.legacy_macros, name, macro_id)?;
+        Ok(())
+    }
+
+    /// Records an `extern crate` item.
+    pub fn define_extern_crate_decl(&mut self, id: ExternCrateId) -> Result<(), AllocError>
+        ensures { OnOk result (module_state self.new ≡ with_extern_crate id (module_state self.old)) }
+    {
+        self.scope.extern_crates.push(id)?;
+        Ok(())
+    }
+
+    /// Records an extern block.
+    pub fn define_extern_block(&mut self, id: ExternBlockId) -> Result<(), AllocError>
+        ensures { OnOk result (module_state self.new ≡ with_extern_block id (module_state self.old)) }
+    {
+        self.scope.extern_blocks.push(id)?;
+        Ok(())
+    }
+
+    /// Records a constant without a name.
+    pub fn define_unnamed_const(&mut self, id: ConstId) -> Result<(), AllocError>
+        ensures { OnOk result (module_state self.new ≡ with_unnamed_const id (module_state self.old)) }
+    {
+        self.scope.unnamed_consts.push(id)?;
+        Ok(())
+    }
+
+    /// Records an impl, and whether it is one of a trait.
+    pub fn define_impl(&mut self, id: ImplId, is_trait_impl: bool) -> Result<(), AllocError>
+        ensures { OnOk result (module_state self.new ≡ with_impl id is_trait_impl (module_state self.old)) }
+    {
+        self.scope.impls.push((id, is_trait_impl))?;
+        Ok(())
+    }
+
+    /// Records the impl of a builtin derive.
+    pub fn define_builtin_derive_impl(&mut self, id: BuiltinDeriveImplId) -> Result<(), AllocError>
+        ensures { OnOk result (module_state self.new ≡ with_derive_impl id (module_state self.old)) }
+    {
+        self.scope.builtin_derive_impls.push(id)?;
+        Ok(())
+    }
+
+    /// Records a derive attribute's call and what each path of its list gave, in the place of an
+    /// earlier record of the same attribute.
+    pub fn set_derive(
+        &mut self,
+        position: Position,
+        attr: AttrId,
+        derive: DeriveMacroInvocation,
+    ) -> Result<(), AllocError>
+        ensures { OnOk result (module_state self.new ≡ with_derive position attr (derive_state derive) (module_state self.old)) }
+    {
+        self.scope
+            .derives
+            .insert(DeriveKey { position, attr }, derive)?;
+        Ok(())
+    }
+
+    /// Records the call of one path of a derive attribute, where the attribute has such a path.
+    pub fn set_derive_call(
+        &mut self,
+        position: Position,
+        attr: AttrId,
+        pos: usize,
+        call: DeriveCall,
+    )
+        ensures { module_state self.new ≡ called_at position attr pos call (module_state self.old) }
+    {
+        if let Some(derive) = self.scope.derives.get_mut(&DeriveKey { position, attr }) {
+            derive.set_call(pos, call);
+        }
+    }
+
+    /// Takes over the textual macros of a module around this one, in the place of its own.
+    pub fn inherit_legacy_macros(&mut self, parent: &ModuleData) -> Result<(), AllocError>
+        ensures { OnOk result (module_state self.new ≡ with_textual_of (module_state parent.now).textual (module_state self.old)) }
+    {
+        self.scope.legacy_macros = copied_macros(&parent.scope.legacy_macros)?;
+        Ok(())
+    }
+
+    /// Records a macro call at its position.
+    pub fn add_macro_invoc(
+        &mut self,
+        position: Position,
+        call: MacroCallId,
+    ) -> Result<(), AllocError>
+        ensures { OnOk result (module_state self.new ≡ with_invocation position call (module_state self.old)) }
+    {
+        self.scope
+            .invocations
+            .insert(Invocation { position, call })?;
+        Ok(())
+    }
+
+    /// Marks a name that an import left over would have bound.
+    pub fn mark_failed(&mut self, name: Name) -> Result<(), AllocError>
+        ensures { OnOk result (module_state self.new ≡ marked_failed name (module_state self.old)) }
+    {
+        self.scope.failed.insert(name)?;
+        Ok(())
+    }
+}

@@ -1,0 +1,42 @@
+-- The headline: what `collect_defs` answers ends a run of the machine.
+use Rattle.std.specs.Prelude.{◌≡◌, []}
+use Rattle.def_ids.specs.Session.{Session}
+use Rattle.def_bindings.specs.Closure.{IsClosed, IsCoherent}
+use Rattle.def_rules.specs.Closed.{none_left_out, target_of}
+use Rattle.def_rules.specs.State.{Setting, Moment, order}
+use Rattle.def_rules.specs.Steps.{Reaches}
+use Rattle.def_rules.specs.Start.{start}
+use Rattle.def_rules.specs.Settled.{IsDeclared, ExplicitStays, IsSettled, HasEveryNamespace}
+use Rattle.def_rules.specs.Report.{Answer, IsAnswerOf, report}
+
+-- a run, from its start to an end at which nothing is left to do
+pub record Run (w : Setting) (before : Session) : Type 0 where
+  pub end : Moment
+  pub runs : Reaches w.oracle (start w before) end
+  -- every reached item is handled
+  pub done : end.tasks ≡ []
+
+-- one moment of the run comes before another
+pub record IsOnRun (w : Setting) (before : Session) (end a b : Moment) : Type 0 where
+  pub begins : Reaches w.oracle (start w before) a
+  pub goes_on : Reaches w.oracle a b
+  pub ends : Reaches w.oracle b end
+
+-- What is answered ends a run in which every reached item is handled, is closed and coherent along the recorded globs, and has no import left over that resolves;
+-- its diagnostics are the run's and those of the leftovers.
+pub record Answers (w : Setting) (before after : Session) (answer : Answer) : Type 0 where
+  pub run : Run w before
+  pub session : run.end.state.session ≡ after
+  pub answered : IsAnswerOf run.end.state answer
+  -- what a module binds and an importer of it sees, the importer binds too, along each recorded edge
+  pub closed : IsClosed (order run.end.state) none_left_out answer.content
+  -- what a glob bound that was recorded with one module of this map, that module binds too, to the same definition or unseen
+  pub coherent : IsCoherent (order run.end.state) none_left_out (target_of run.end.state.map.id run.end.state.targets) answer.content
+  -- each declaration stands at its place, or an explicit binding made before it does
+  pub declared : IsDeclared run.end.events run.end.state.content
+  -- no explicit binding is ever replaced
+  pub explicit_stays : (a b : Moment) → IsOnRun w before run.end a b → ExplicitStays a b
+  pub settled : IsSettled w.oracle run.end.state
+  -- each namespace of each recorded import is bound
+  pub every_namespace : HasEveryNamespace w.oracle run.end
+  pub reported : answer.diagnostics ≡ report run.end.state

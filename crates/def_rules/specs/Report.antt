@@ -1,0 +1,112 @@
+-- What is answered of a run's end, and what is reported.
+use Rattle.std.specs.Prelude.{◌≡◌, ℕ, suc, Bool, false, ◌&&◌, ◌||◌, nat_eq, All, List, [], ◌∷◌, ◌++◌, filter, map, Option, Some, Vec}
+use Rattle.std.specs.declared.alloc.Global.{Global}
+use Rattle.std.specs.List.{IsDistinct}
+use Rattle.std.specs.Map.{keys_of, lookup}
+use Rattle.item_tree.specs.declared.name.Name.{Name}
+use Rattle.item_tree.specs.KnownNames.{name_eq}
+use Rattle.def_ids.specs.declared.ids.Def.{Def}
+use Rattle.def_ids.specs.declared.ids.GlobId.{GlobId}
+use Rattle.def_ids.specs.declared.ids.ModuleId.{ModuleId}
+use Rattle.def_ids.specs.Equality.{glob_eq}
+use Rattle.def_ids.specs.Ids.{is_same_module}
+use Rattle.def_bindings.specs.declared.bindings.EdgeTo.{EdgeTo}
+use Rattle.def_bindings.specs.declared.visibility.Visibility.{Visibility}
+use Rattle.def_bindings.specs.Content.{Content}
+use Rattle.def_modules.specs.MapState.{MapState, ModuleState}
+use Rattle.def_modules.specs.MapView.{LocalView}
+use Rattle.def_rules.specs.declared.diagnostics.DefDiagnostic.{DefDiagnostic}
+use Rattle.def_rules.specs.declared.diagnostics.DefDiagnosticKind.TheVariants.{UnresolvedImport}
+use Rattle.def_rules.specs.declared.outcome.Edge.{Edge}
+use Rattle.def_rules.specs.declared.outcome.LeftImport.{LeftImport}
+use Rattle.def_rules.specs.declared.outcome.Outcome.{Outcome}
+use Rattle.def_rules.specs.Imports.{bound_name}
+use Rattle.def_rules.specs.Globs.{Targets}
+use Rattle.def_rules.specs.State.{State, PendingImport}
+
+-- all that a run answers
+pub record Answer : Type 0 where
+  pub map : MapState
+  pub content : Content Visibility
+  pub local : LocalView
+  pub outcome : Outcome
+  pub diagnostics : List DefDiagnostic
+
+-- whether an import binds this name
+abbrev pub binds_name : Option (Option Name) → Name → Bool
+binds_name (Some (Some bound)) name = name_eq bound name
+binds_name _ name = false
+
+-- whether an import of the module with this number, and of this name, is left over
+abbrev pub is_left : List PendingImport → ℕ → Name → Bool
+is_left [] index name = false
+is_left (p ∷ rest) index name = (nat_eq p.scope.index index && binds_name (bound_name p.import) name) || is_left rest index name
+
+-- the modules from this number on, each with the names that failed to import there
+abbrev pub marked_from : List PendingImport → ℕ → List ModuleState → List ModuleState
+marked_from left index [] = []
+marked_from left index (d ∷ ds) = record d { failed = is_left left index } ∷ marked_from left (suc index) ds
+
+-- the map in which exactly the names of the imports left over are marked as failed
+abbrev pub marked : MapState → List PendingImport → MapState
+marked m left = record m { modules = marked_from left 0 m.modules }
+
+-- an import as it is left over
+abbrev pub left_import : PendingImport → LeftImport
+left_import p = record { «module» = p.scope; ast_id = p.position; idx = p.import.idx; path = p.import.path }
+
+-- an edge as it is listed
+abbrev pub listed_edge : ModuleId → EdgeTo Visibility → Edge
+listed_edge source edge = record { source = source; importer = edge.importer; vis = edge.vis; glob = edge.glob }
+
+-- whether an edge leaves this module
+abbrev pub leaves : ModuleId → Edge → Bool
+leaves source edge = is_same_module source edge.source
+
+-- each edge once: of each source its edges, in order of recording
+abbrev pub AreEdges : Content Visibility → List Edge → Type 0
+AreEdges content edges = (source : ModuleId) → filter (leaves source) edges ≡ map (listed_edge source) (content.edges source)
+
+-- each recorded glob once, with what it was recorded with
+pub record AreTargets (targets : Targets) (listed : List (GlobId × List Def)) : Type 0 where
+  pub once : IsDistinct glob_eq (keys_of listed)
+  pub all : (glob : GlobId) → lookup (glob_eq glob) listed ≡ targets glob
+
+-- a glob's targets as a list
+abbrev pub shown_targets : GlobId × Vec Def Global → GlobId × List Def
+shown_targets t = (t.0, t.1.items)
+
+-- how a run ended: the imports left over, in order, the edges of globs, and what each glob was recorded with
+pub record IsOutcome (end : State) (outcome : Outcome) : Type 0 where
+  pub imports : outcome.imports.items ≡ map left_import end.imports
+  pub macros : outcome.macros.items ≡ []
+  pub edges : AreEdges end.content outcome.edges.items
+  pub targets : AreTargets end.targets (map shown_targets outcome.targets.items)
+  pub limit : outcome.limit_met ≡ false
+
+-- an import that is left over is reported
+abbrev pub unresolved : PendingImport → DefDiagnostic
+unresolved p = record { «module» = p.scope; ast_id = p.position; kind = UnresolvedImport p.import.idx }
+
+-- the run's diagnostics, and then one for each import left over
+abbrev pub report : State → List DefDiagnostic
+report end = end.diagnostics ++ map unresolved end.imports
+
+-- the answer is what the end has, with the failed names marked
+pub record IsAnswerOf (end : State) (answer : Answer) : Type 0 where
+  pub map : answer.map ≡ marked end.map end.imports
+  pub content : answer.content ≡ end.content
+  pub local : answer.local ≡ end.local
+  pub outcome : IsOutcome end answer.outcome
+
+-- no name is marked as failed
+abbrev pub NoneFailed : MapState → Type 0
+NoneFailed m = All (λ d. (name : Name) → d.failed name ≡ false) m.modules
+
+-- what is answered of this state: failed names are marked, and what is left over is answered and reported
+pub record IsFinished (end : State) (answer : Answer) : Type 0 where
+  pub map : NoneFailed end.map → answer.map ≡ marked end.map end.imports
+  pub content : answer.content ≡ end.content
+  pub local : answer.local ≡ end.local
+  pub outcome : IsOutcome end answer.outcome
+  pub reported : answer.diagnostics ≡ report end

@@ -1,0 +1,61 @@
+-- What holds of a run and of its end.
+use Rattle.std.specs.Prelude.{◌≡◌, ◌⊎◌, true, false, List, ◌∷◌, ◌++◌, Option, None, Some, Contains, IsSome}
+use Rattle.item_tree.specs.declared.name.Name.{Name}
+use Rattle.def_ids.specs.declared.ids.ExternCrateId.{ExternCrateId}
+use Rattle.def_ids.specs.declared.ids.ModuleId.{ModuleId}
+use Rattle.def_bindings.specs.declared.bindings.Binding.{Binding}
+use Rattle.def_bindings.specs.declared.bindings.ImportOrExternCrate.{ImportOrExternCrate}
+use Rattle.def_bindings.specs.declared.bindings.ImportOrExternCrate.TheVariants.{ExternCrate}
+use Rattle.def_bindings.specs.declared.bindings.Namespace.{Namespace}
+use Rattle.def_bindings.specs.declared.visibility.Visibility.{Visibility}
+use Rattle.def_bindings.specs.Content.{Content}
+use Rattle.def_bindings.specs.Puts.{Origin, IsExplicit}
+use Rattle.def_map.specs.Oracle.{Oracle}
+use Rattle.def_map.specs.PerNs.{in_namespace}
+use Rattle.def_rules.specs.State.{State, PendingImport, Event, PutExplicit, Recorded, Moment}
+use Rattle.def_rules.specs.Imports.{NoneReady, is_ready, answer_now, bound_name, keeps_ns}
+
+-- no import is ready
+pub record IsSettled (oracle : Oracle) (end : State) : Type 0 where
+  pub imports : NoneReady oracle end
+
+-- an extern crate brought it
+abbrev pub IsExternCrate : ImportOrExternCrate → Type 0
+IsExternCrate (ExternCrate id) = Unit {0}
+IsExternCrate _ = ⊥
+
+-- a declaration or an extern crate brought it
+abbrev pub IsDeclaredOrigin : Origin → Type 0
+IsDeclaredOrigin None = Unit {0}
+IsDeclaredOrigin (Some import) = IsExternCrate import
+
+-- each declaration and extern crate that was put stands at its place, or an explicit binding put there before does
+abbrev pub IsDeclared : List Event → Content Visibility → Type 0
+IsDeclared events content =
+    (before after : List Event) (at : ModuleId) (name : Name) (ns : Namespace) (held : Binding Visibility)
+    → events ≡ before ++ PutExplicit at name ns held ∷ after → IsDeclaredOrigin held.import
+    → (stands : Binding Visibility) × (content.binding at name ns ≡ Some stands) × ((stands ≡ held) ⊎ Contains before (PutExplicit at name ns stands))
+
+-- an explicit binding stays as it is
+abbrev pub ExplicitStays : Moment → Moment → Type 0
+ExplicitStays a b =
+    (at : ModuleId) (name : Name) (ns : Namespace) (held : Binding Visibility)
+    → a.state.content.binding at name ns ≡ Some held → IsExplicit held.import → b.state.content.binding at name ns ≡ Some held
+
+-- an import was once recorded from another crate
+abbrev pub IsForeignImport : List Event → PendingImport → Type 0
+IsForeignImport events p = Contains events (Recorded p true)
+
+-- an import that was recorded, always from this crate, and that binds this name
+pub record IsNamedImport (end : Moment) (p : PendingImport) (name : Name) : Type 0 where
+  pub recorded : Contains end.events (Recorded p false)
+  pub own : ¬ IsForeignImport end.events p
+  pub name_bound : bound_name p.import ≡ Some (Some name)
+
+-- each namespace that a recorded named import's path gives, and its kind keeps, is bound at its name
+abbrev pub HasEveryNamespace : Oracle → Moment → Type 0
+HasEveryNamespace oracle end =
+    (p : PendingImport) (name : Name) (ns : Namespace)
+    → IsNamedImport end p name → is_ready (answer_now oracle end.state p) ≡ true
+    → IsSome (in_namespace (answer_now oracle end.state p).resolved_def ns) → keeps_ns p.import.kind ns ≡ true
+    → IsSome (end.state.content.binding p.scope name ns)

@@ -1,0 +1,181 @@
+-- The state of a run, and what a run is given.
+use Rattle.std.specs.Prelude.{◌≡◌, Bool, List, [], ◌∷◌, ◌++◌, map, Option, Some, unwrap_or, IsPermutation}
+use Rattle.item_tree.specs.declared.ids.FileAstId.{FileAstId}
+use Rattle.item_tree.specs.declared.ids.InFile.{InFile}
+use Rattle.item_tree.specs.declared.ids.ModItemId.{ModItemId}
+use Rattle.item_tree.specs.declared.ids.TreeId.{TreeId}
+use Rattle.item_tree.specs.declared.items.RawVisibility.{RawVisibility}
+use Rattle.item_tree.specs.declared.items.UseImport.{UseImport}
+use Rattle.item_tree.specs.declared.name.Name.{Name}
+use Rattle.def_ids.specs.declared.ids.ItemContainerId.{ItemContainerId}
+use Rattle.def_ids.specs.declared.ids.ItemContainerId.TheVariants.{Module}
+use Rattle.def_ids.specs.declared.ids.ModuleId.{ModuleId}
+use Rattle.def_ids.specs.declared.ids.UseId.{UseId}
+use Rattle.def_ids.specs.Ids.{is_same_module}
+use Rattle.def_ids.specs.Session.{Session}
+use Rattle.def_bindings.specs.declared.bindings.Binding.{Binding}
+use Rattle.def_bindings.specs.declared.bindings.EdgeTo.{EdgeTo}
+use Rattle.def_bindings.specs.declared.bindings.Entry.{Entry}
+use Rattle.def_bindings.specs.declared.bindings.Namespace.{Namespace}
+use Rattle.def_bindings.specs.declared.visibility.Visibility.{Visibility}
+use Rattle.def_bindings.specs.Content.{Content}
+use Rattle.def_bindings.specs.Order.{Order}
+use Rattle.def_bindings.specs.Visibility.{order_over}
+use Rattle.def_modules.specs.MapState.{MapState}
+use Rattle.def_modules.specs.MapView.{MapView, LocalView}
+use Rattle.def_modules.specs.Maps.{facts_in}
+use Rattle.def_map.specs.Oracle.{Oracle}
+use Rattle.def_map.specs.Sources.{World}
+use Rattle.def_modules.specs.Updates.{set_where}
+use Rattle.def_parts.specs.Directories.{Directory}
+use Rattle.def_rules.specs.declared.diagnostics.DefDiagnostic.{DefDiagnostic}
+use Rattle.def_rules.specs.Globs.{Targets}
+
+-- what a run is given: the oracle, the seeded map, the tree, and for a block the names of crates that its crate knows
+pub record Setting : Type 0 where
+  pub oracle : Oracle
+  pub seeded : MapState
+  pub tree : TreeId
+  pub crate_local : Option LocalView
+
+-- one import of a `use`, with the module and the item that it stands in
+pub record PendingImport : Type 0 where
+  pub scope : ModuleId
+  pub position : InFile FileAstId
+  pub use_id : UseId
+  pub import : UseImport
+  pub vis : RawVisibility
+
+-- a set of namespaces
+pub record NsSet : Type 0 where
+  pub types : Bool
+  pub values : Bool
+  pub macros : Bool
+
+-- an import that was recorded, from these namespaces so far
+pub record PartialImport : Type 0 where
+  pub pending : PendingImport
+  pub recorded : NsSet
+
+-- all that a run has so far
+pub record State : Type 0 where
+  pub session : Session
+  pub map : MapState
+  pub content : Content Visibility
+  -- what each glob was recorded with
+  pub targets : Targets
+  -- the names of crates that the map's own paths may begin with
+  pub local : LocalView
+  -- for a block, those that its crate knows, which stand in their place
+  pub outer : Option LocalView
+  -- whether the crate is one of procedural macros
+  pub is_proc_macro : Bool
+  -- the directory of each module that a walk began in
+  pub directories : ModuleId → Option Directory
+  pub imports : List PendingImport
+  pub partial : List PartialImport
+  pub diagnostics : List DefDiagnostic
+
+-- where the items of a list stand: their module, what contains them, the tree that holds them, and the directory of their modules' files
+pub record Site : Type 0 where
+  pub scope : ModuleId
+  -- the module, or an extern block in it
+  pub container : ItemContainerId
+  pub tree : TreeId
+  pub directory : Directory
+
+-- where a module's own items stand
+abbrev pub module_site : ModuleId → TreeId → Directory → Site
+module_site m tree directory = record { scope = m; container = Module m; tree = tree; directory = directory }
+
+-- work that is done in order
+pub data Task : Type 0 where
+  -- a walk begins: the module's directory is stored
+  Enter : ModuleId → Directory → Task
+  -- an item is visited
+  Visit : Site → ModItemId → Task
+  -- an entry is put into a module
+  Put : ModuleId → Entry Visibility → Task
+  -- an edge is added to a module
+  AddEdge : ModuleId → EdgeTo Visibility → Task
+
+-- each entry of a list is put into a module
+abbrev pub put_each : ModuleId → List (Entry Visibility) → List Task
+put_each at list = map (λ entry. Put at entry) list
+
+-- what happened in a run
+pub data Event : Type 0 where
+  -- an explicit binding was put
+  PutExplicit : ModuleId → Name → Namespace → Binding Visibility → Event
+  -- an import was recorded; true: from another crate
+  Recorded : PendingImport → Bool → Event
+
+-- what a rule does: the state after it, what is to be done next, and what happened
+pub record Effect : Type 0 where
+  pub state : State
+  pub tasks : List Task
+  pub events : List Event
+
+-- an effect with one more event
+abbrev pub noting : Event → Effect → Effect
+noting event effect = record effect { events = event ∷ effect.events }
+
+-- a change with nothing to follow
+abbrev pub only : State → Effect
+only s = record { state = s; tasks = []; events = [] }
+
+-- a change that tasks follow
+abbrev pub followed_by : State → List Task → Effect
+followed_by s tasks = record { state = s; tasks = tasks; events = [] }
+
+-- a moment of a run: what is to be done next, in order, the state, and what has happened so far
+pub record Moment : Type 0 where
+  pub tasks : List Task
+  pub state : State
+  pub events : List Event
+
+-- the moment after a rule: its own tasks go before the rest, and its events are added
+abbrev pub after : Moment → List Task → Effect → Moment
+after a rest effect = record { tasks = effect.tasks ++ rest; state = effect.state; events = a.events ++ effect.events }
+
+-- the moment with another state
+abbrev pub with_state : Moment → State → Moment
+with_state a s = record a { state = s }
+
+-- the state with another table
+abbrev pub with_content : State → Content Visibility → State
+with_content s content = record s { content = content }
+
+-- the state with another map
+abbrev pub with_map : State → MapState → State
+with_map s m = record s { map = m }
+
+-- the state with this directory for a module, in the place of an earlier one
+abbrev pub entered : State → ModuleId → Directory → State
+entered s at directory = record s { directories = set_where (is_same_module at) (Some directory) s.directories }
+
+-- the state with one more diagnostic
+abbrev pub reported : State → DefDiagnostic → State
+reported s diagnostic = record s { diagnostics = s.diagnostics ++ diagnostic ∷ [] }
+
+-- the order of visibilities so far
+abbrev pub order : State → Order Visibility
+order s = order_over (facts_in s.map).chain
+
+-- the map so far
+abbrev pub map_view : State → MapView
+map_view s = record { facts = facts_in s.map; content = s.content }
+
+-- what paths are read against
+abbrev pub world : Oracle → State → World
+world oracle s = record { oracle = oracle; session = s.session; map = map_view s; local = unwrap_or s.outer s.local }
+
+-- the map's root
+abbrev pub root : MapState → ModuleId
+root m = record { map = m.id; index = 0 }
+
+-- the same state with its bags in another order
+pub record Rearranges (old new : State) : Type 0 where
+  pub imports : IsPermutation old.imports new.imports
+  pub partial : IsPermutation old.partial new.partial
+  pub rest : new ≡ record old { imports = new.imports; partial = new.partial }

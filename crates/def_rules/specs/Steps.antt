@@ -1,0 +1,76 @@
+-- The machine of a run: one step from a moment to the next, and runs of them.
+use Rattle.std.specs.Prelude.{◌≡◌, List, [], ◌∷◌, ◌++◌, Option, None, Some, ℕ, slice_get}
+use Rattle.item_tree.specs.declared.name.Name.{Name}
+use Rattle.def_ids.specs.declared.ids.GlobId.{GlobId}
+use Rattle.def_ids.specs.declared.ids.ModuleId.{ModuleId}
+use Rattle.def_bindings.specs.declared.bindings.EdgeTo.{EdgeTo}
+use Rattle.def_bindings.specs.declared.bindings.Entry.{Entry}
+use Rattle.def_bindings.specs.declared.bindings.Slot.{Slot}
+use Rattle.def_bindings.specs.declared.visibility.Visibility.{Visibility}
+use Rattle.def_bindings.specs.Content.{Content}
+use Rattle.def_bindings.specs.Puts.{copied, glob_of, offered, put_entry}
+use Rattle.def_map.specs.Oracle.{Oracle}
+use Rattle.def_parts.specs.Globs.{with_recorded}
+use Rattle.def_rules.specs.State.{State, Effect, Task, Enter, Visit, Put, AddEdge, Event, PutExplicit, Moment, after, entered, only, with_state, with_content, order, Rearranges}
+use Rattle.def_rules.specs.Closed.{KeepsSound}
+use Rattle.def_rules.specs.Imports.{ImportStep}
+use Rattle.def_rules.specs.Items.{Visits}
+
+-- a put of a name that no glob brought
+abbrev pub event_of : ModuleId → Entry Visibility → Option GlobId → Option Name → List Event
+event_of at entry None (Some name) = PutExplicit at name entry.ns (offered entry) ∷ []
+event_of at entry _ _ = []
+
+-- an explicit binding of a name that is put
+abbrev pub put_event : ModuleId → Entry Visibility → List Event
+put_event at entry = event_of at entry (glob_of entry.origin) entry.name
+
+-- an entry is put into a module, and noted if it is explicit
+abbrev pub put_effect : State → ModuleId → Entry Visibility → Effect
+put_effect s at entry = record { state = with_content s (put_entry (order s) at entry s.content); tasks = []; events = put_event at entry }
+
+-- a task is performed
+abbrev pub Does : Oracle → State → Task → Effect → Type 0
+Does oracle s (Enter at directory) effect = effect ≡ only (entered s at directory)
+Does oracle s (Visit site id) effect = Visits oracle s site id effect
+Does oracle s (Put at entry) effect = effect ≡ put_effect s at entry
+Does oracle s (AddEdge source edge) effect = effect ≡ only (with_content s (with_recorded (order s) s.content source edge))
+
+-- one slot is copied along an edge of a glob: what its source binds now, if the importer sees it
+pub record Copies (s : State) (content : Content Visibility) : Type 0 where
+  pub source : ModuleId
+  pub index : ℕ
+  pub edge : EdgeTo Visibility
+  pub slot : Slot
+  pub stands : slice_get (s.content.edges source) index ≡ Some edge
+  pub after : content ≡ copied (order s) source edge slot s.content
+
+-- one step. What a rule leads to goes before the rest; no import has its turn before all that is to be done is done.
+pub data Step (oracle : Oracle) (a b : Moment) : Type 0 where
+  -- the first task is performed, and its own tasks come before the rest
+  performs : (task : Task) (rest : List Task) (effect : Effect) → a.tasks ≡ task ∷ rest → Does oracle a.state task effect → b ≡ after a rest effect → Step oracle a b
+  -- something is copied along an edge
+  copies : (content : Content Visibility) → Copies a.state content → b ≡ with_state a (with_content a.state content) → Step oracle a b
+  -- the bags are put into another order
+  rearranges : (state : State) → Rearranges a.state state → b ≡ with_state a state → Step oracle a b
+  -- where nothing is left to do, an import that is ready is recorded
+  records : (effect : Effect) → a.tasks ≡ [] → ImportStep oracle a.state effect → b ≡ after a [] effect → Step oracle a b
+
+-- steps in any order and number
+pub data Reaches (oracle : Oracle) : Moment → Moment → Type 0 where
+  here : {a : Moment} → Reaches oracle a a
+  one : {a b : Moment} → Step oracle a b → Reaches oracle a b
+  join : {a b c : Moment} → Reaches oracle a b → Reaches oracle b c → Reaches oracle a c
+
+-- a moment with these tasks, this state and these events
+abbrev pub at : List Task → State → List Event → Moment
+at tasks state events = record { tasks = tasks; state = state; events = events }
+
+-- from any moment with these tasks and this state a run leads to one with those
+abbrev pub Runs : Oracle → List Task → State → List Task → State → Type 0
+Runs oracle tasks s tasks' t = (before : List Event) → (now : List Event) × Reaches oracle (at tasks s before) (at tasks' t now)
+
+-- so does a run of whole waves: names that are closed and coherent along the globs stay so
+pub record Leads (oracle : Oracle) (tasks : List Task) (s : State) (tasks' : List Task) (t : State) : Type 0 where
+  pub runs : Runs oracle tasks s tasks' t
+  pub keeps : KeepsSound tasks s t

@@ -1,0 +1,201 @@
+//! Imports that wait, and the namespaces that they were recorded from.
+ghost use Rattle.std.specs.Prelude.{◌≡◌};
+ghost use Rattle.def_rules.specs.Imports as imports;
+ghost use Rattle.def_steps.specs.Shown.{kept_of, ns_set, pending_of};
+ghost use Rattle.def_rules.specs.Globs.{is_public};
+
+use def_bindings::{ImportOrExternCrate, Namespace, Visibility};
+use def_ids::{GlobId, ImportId, ModuleId, UseId};
+use def_map::{Item, PerNs, ReachedFixedPoint, ResolvePathResult};
+use item_tree::{FileAstId, ImportAlias, ImportKind, InFile, Name, RawVisibility, UseImport};
+
+/// One import of a `use` item that was reached, with the module and the item that it stands in.
+/// It refers to the item tree.
+#[derive(Clone, Copy)]
+pub struct ImportDirective<'a> {
+    pub module_id: ModuleId,
+    pub position: InFile<FileAstId>,
+    pub use_id: UseId,
+    pub import: &'a UseImport,
+    pub vis: &'a RawVisibility,
+}
+
+/// A set of namespaces.
+#[derive(Clone, Copy)]
+pub struct NamespaceSet {
+    pub types: bool,
+    pub values: bool,
+    pub macros: bool,
+}
+
+/// An import that was recorded, from these namespaces so far, and that may be recorded again.
+#[derive(Clone, Copy)]
+pub struct PartialDirective<'a> {
+    pub directive: ImportDirective<'a>,
+    pub recorded: NamespaceSet,
+}
+
+impl NamespaceSet {
+    /// No namespace.
+    pub const NONE: NamespaceSet = NamespaceSet {
+        types: false,
+        values: false,
+        macros: false,
+    };
+
+    /// The namespaces in which something was found.
+    pub fn given(found: &PerNs) -> NamespaceSet
+        ensures { ns_set result ≡ imports.given_set found.now }
+    {
+        NamespaceSet {
+            types: found.types.is_some(),
+            values: found.values.is_some(),
+            macros: found.macros.is_some(),
+        }
+    }
+
+    /// All three namespaces.
+    pub fn is_full(self) -> bool
+        ensures { result ≡ imports.is_full (ns_set self) }
+    {
+        self.types && self.values && self.macros
+    }
+
+    /// The namespaces of either set.
+    pub fn union(self, other: NamespaceSet) -> NamespaceSet
+        ensures { ns_set result ≡ imports.union (ns_set self) (ns_set other) }
+    {
+        NamespaceSet {
+            types: self.types || other.types,
+            values: self.values || other.values,
+            macros: self.macros || other.macros,
+        }
+    }
+
+    /// Whether the other set has a namespace that this one lacks.
+    pub fn is_extended_by(self, other: NamespaceSet) -> bool
+        ensures { result ≡ imports.is_extended (ns_set self) (ns_set other) }
+    {
+        (other.types && !self.types)
+            || (other.values && !self.values)
+            || (other.macros && !self.macros)
+    }
+}
+
+/// Whether a path gives nothing for an import: a prefix or everything is missing, or a segment is
+/// left.
+pub fn is_missing(answer: &ResolvePathResult) -> bool
+    ensures { result ≡ imports.is_missing answer.now }
+{
+    answer.reached_fixedpoint == ReachedFixedPoint::No
+        || answer.resolved_def.is_none()
+        || answer.segment_index.is_some()
+}
+
+/// What an import that is recorded stays partial with, after what it had recorded: nothing where
+/// another crate was entered, or where it has all three namespaces.
+pub fn kept_after(recorded: NamespaceSet, answer: &ResolvePathResult) -> Option<NamespaceSet>
+    ensures { kept_of result ≡ imports.kept_after (ns_set recorded) answer.now }
+{
+    if answer.prefix_info.differing_crate {
+        return None;
+    }
+    let all = recorded.union(NamespaceSet::given(&answer.resolved_def));
+    if all.is_full() { None } else { Some(all) }
+}
+
+/// Whether an import that was recorded from these namespaces is to be recorded once more.
+pub fn is_ready_again(recorded: NamespaceSet, answer: &ResolvePathResult) -> bool
+    ensures { result ≡ imports.is_ready_again (ns_set recorded) answer.now }
+{
+    !is_missing(answer)
+        && (answer.prefix_info.differing_crate
+            || recorded.is_extended_by(NamespaceSet::given(&answer.resolved_def)))
+}
+
+/// What is kept of an answer in one namespace: of another crate what is public.
+pub fn kept_item(answer: &ResolvePathResult, item: Option<Item>) -> Option<Item>
+    ensures { result ≡ imports.kept_item answer.now item }
+{
+    match item {
+        Some(found) => {
+            if !answer.prefix_info.differing_crate || is_public(found.vis) {
+                Some(found)
+            } else {
+                None
+            }
+        }
+        None => None,
+    }
+}
+
+/// Whether something is public.
+pub fn is_public(vis: Visibility) -> bool
+    ensures { result ≡ is_public vis }
+{
+    match vis {
+        Visibility::Public => true,
+        _ => false,
+    }
+}
+
+/// Whether an import of this kind keeps what it finds in a namespace.
+pub fn keeps_ns(kind: ImportKind, ns: Namespace) -> bool
+    ensures { result ≡ imports.keeps_ns kind ns }
+{
+    match kind {
+        ImportKind::Plain | ImportKind::Glob => true,
+        ImportKind::TypeOnly => match ns {
+            Namespace::Types => true,
+            Namespace::Values | Namespace::Macros => false,
+        },
+    }
+}
+
+/// The name that an import binds: its alias, else the last segment of its path. A glob binds none of
+/// its own.
+pub fn import_name(import: &UseImport) -> Option<Option<Name>>
+    ensures { result ≡ imports.bound_name import.now }
+{
+    match import.kind {
+        ImportKind::Plain | ImportKind::TypeOnly => plain_name(import),
+        ImportKind::Glob => None,
+    }
+}
+
+/// The alias of an import, else the last segment of its path.
+fn plain_name(import: &UseImport) -> Option<Option<Name>>
+    ensures { result ≡ imports.name_or import.now.alias import.now.path.segments }
+{
+    match import.alias {
+        Some(ImportAlias::Alias(name)) => Some(Some(name)),
+        Some(ImportAlias::Underscore) => Some(None),
+        None => match import.path.segments.as_slice().last() {
+            Some(name) => Some(Some(*name)),
+            None => None,
+        },
+    }
+}
+
+impl ImportDirective<'_> {
+    /// Its number, as a glob.
+    pub fn glob_id(&self) -> GlobId
+        ensures { result ≡ imports.glob_id (pending_of self.now) }
+    {
+        let idx = self.import.idx;
+        GlobId {
+            use_id: self.use_id,
+            idx,
+        }
+    }
+
+    /// What its bindings are brought by.
+    pub fn origin(&self) -> ImportOrExternCrate
+        ensures { result ≡ imports.origin_of (pending_of self.now) }
+    {
+        ImportOrExternCrate::Import(ImportId {
+            use_id: self.use_id,
+            idx: self.import.idx,
+        })
+    }
+}

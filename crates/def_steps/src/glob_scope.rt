@@ -1,0 +1,231 @@
+//! What a glob brings of a module or an enum.
+ghost use Rattle.std.specs.Prelude.{◌≡◌, ◌++◌, IfOk, OnOk};
+ghost use Rattle.std.specs.List.{flat_map};
+ghost use Rattle.def_bindings.specs.ModuleTree.{chain_in};
+ghost use Rattle.def_bindings.specs.Visibility.{order_over};
+ghost use Rattle.def_map.specs.Answers.{variant_found};
+ghost use Rattle.def_rules.specs.Globs.{brought, glob_sees, name_entries, scope_entries, seen, unnamed_entry, variant_entries};
+
+use crate::directive::is_public;
+use def_bindings::{
+    BindingTable, EdgeTo, Entry, ImportOrExternCrate, ModuleTree, Namespace, VisOrder, Visibility,
+    lesser_or_import,
+};
+use def_ids::{Def, ModuleId, TraitId};
+use def_map::{EnumVariant, Item, public_item};
+use item_tree::Name;
+use std::alloc::{AllocError, Global};
+
+/// A module as a glob sees it: of its own crate what its importer sees, of another crate what is
+/// public.
+#[derive(Drop)]
+pub struct GlobScope<'a, T> {
+    pub table: &'a T,
+    pub order: &'a ModuleTree,
+    pub glob: EdgeTo<Visibility>,
+    /// Whether the module is of the importer's crate.
+    pub own: bool,
+    pub source: ModuleId,
+}
+
+impl<'a, T: BindingTable<Vis = Visibility>> GlobScope<'a, T> {
+    /// Whether the glob sees this visibility.
+    fn sees(&self, vis: Visibility) -> bool
+        ensures { result ≡ glob_sees (order_over (chain_in self.now.order.now)) self.now.own self.now.glob.importer vis }
+    {
+        if self.own {
+            self.order.visible(vis, self.glob.importer)
+        } else {
+            is_public(vis)
+        }
+    }
+
+    /// What the module binds in a namespace, if the glob sees it.
+    fn seen(&self, name: Name, ns: Namespace) -> Option<Item>
+        ensures { result ≡ seen (order_over (chain_in self.now.order.now)) self.now.glob self.now.own (T.content self.now.table.now) self.now.source name ns }
+    {
+        match self.table.binding(self.source, name, ns) {
+            Some(item) => {
+                if self.sees(item.vis) {
+                    Some(item)
+                } else {
+                    None
+                }
+            }
+            None => None,
+        }
+    }
+
+    /// Appends the entries of a name, in types, values and macros.
+    fn push_name(&self, entries: &mut Vec<Entry<Visibility>>, name: Name) -> Result<(), AllocError>
+        ensures { OnOk result (entries.new.items ≡ entries.old.items
+            ++ name_entries (order_over (chain_in self.now.order.now)) self.now.glob self.now.own (T.content self.now.table.now) self.now.source name) }
+    {
+        let types = self.seen(name, Namespace::Types);
+        let values = self.seen(name, Namespace::Values);
+        let macros = self.seen(name, Namespace::Macros);
+        push_brought(
+            entries,
+            self.order,
+            self.glob,
+            name,
+            Namespace::Types,
+            types,
+        )?;
+        push_brought(
+            entries,
+            self.order,
+            self.glob,
+            name,
+            Namespace::Values,
+            values,
+        )?;
+        push_brought(
+            entries,
+            self.order,
+            self.glob,
+            name,
+            Namespace::Macros,
+            macros,
+        )?;
+        Ok(())
+    }
+
+    /// Appends the entry of an unnamed trait, if the glob sees it.
+    fn push_unnamed(
+        &self,
+        entries: &mut Vec<Entry<Visibility>>,
+        item: TraitId,
+        vis: Visibility,
+    ) -> Result<(), AllocError>
+        ensures { OnOk result (entries.new.items ≡ entries.old.items
+            ++ unnamed_entry (order_over (chain_in self.now.order.now)) self.now.glob self.now.own (item, vis)) }
+    {
+        if !self.sees(vis) {
+            return Ok(());
+        }
+        entries.push(Entry {
+            name: None,
+            ns: Namespace::Types,
+            def: Def::Trait(item),
+            vis: lesser_or_import(self.order, vis, self.glob.vis),
+            origin: Some(ImportOrExternCrate::Glob(self.glob.glob)),
+        })?;
+        Ok(())
+    }
+
+    /// Appends the entries of all names, in first-bound order.
+    fn push_names(&self, entries: &mut Vec<Entry<Visibility>>) -> Result<(), AllocError>
+        ensures { OnOk result (let content = T.content self.now.table.now in
+            entries.new.items ≡ entries.old.items
+            ++ flat_map (name_entries (order_over (chain_in self.now.order.now)) self.now.glob self.now.own content self.now.source) (content.names self.now.source)) }
+    {
+        let mut index = 0;
+        'names: while let Some(name) = self.table.name_at(self.source, index) {
+            self.push_name(entries, name)?;
+            index += 1;
+        }
+        Ok(())
+    }
+
+    /// Appends the entries of all unnamed traits, in order.
+    fn push_unnamed_traits(&self, entries: &mut Vec<Entry<Visibility>>) -> Result<(), AllocError>
+        ensures { OnOk result (entries.new.items ≡ entries.old.items
+            ++ flat_map (unnamed_entry (order_over (chain_in self.now.order.now)) self.now.glob self.now.own) ((T.content self.now.table.now).unnamed self.now.source)) }
+    {
+        let mut index = 0;
+        'unnamed: while let Some((item, vis)) = self.table.unnamed_at(self.source, index) {
+            self.push_unnamed(entries, item, vis)?;
+            index += 1;
+        }
+        Ok(())
+    }
+
+    /// The entries of all that the module binds and the glob sees.
+    pub fn entries(&self, alloc: Global) -> Result<Vec<Entry<Visibility>>, AllocError>
+        ensures { IfOk result (λ entries. entries.items
+            ≡ scope_entries (order_over (chain_in self.now.order.now)) self.now.glob self.now.own (T.content self.now.table.now) self.now.source) }
+    {
+        let mut entries = Vec::new(alloc);
+        self.push_names(&mut entries)?;
+        self.push_unnamed_traits(&mut entries)?;
+        Ok(entries)
+    }
+}
+
+/// Appends the entry of what a glob brings in a namespace, if there is something.
+fn push_brought(
+    entries: &mut Vec<Entry<Visibility>>,
+    order: &ModuleTree,
+    glob: EdgeTo<Visibility>,
+    name: Name,
+    ns: Namespace,
+    item: Option<Item>,
+) -> Result<(), AllocError>
+    ensures { OnOk result (entries.new.items ≡ entries.old.items
+        ++ brought (order_over (chain_in order.now)) glob name ns item) }
+{
+    let Some(item) = item else {
+        return Ok(());
+    };
+    entries.push(Entry {
+        name: Some(name),
+        ns,
+        def: item.def,
+        vis: lesser_or_import(order, item.vis, glob.vis),
+        origin: Some(ImportOrExternCrate::Glob(glob.glob)),
+    })?;
+    Ok(())
+}
+
+/// What a variant is in values, if it has a constructor.
+fn constructor(variant: EnumVariant) -> Option<Item>
+    ensures { result ≡ (variant_found variant).values }
+{
+    if variant.value_ctor {
+        Some(public_item(Def::Variant(variant.id)))
+    } else {
+        None
+    }
+}
+
+/// Appends the entries of a variant.
+fn push_variant(
+    entries: &mut Vec<Entry<Visibility>>,
+    order: &ModuleTree,
+    glob: EdgeTo<Visibility>,
+    variant: EnumVariant,
+) -> Result<(), AllocError>
+    ensures { OnOk result (entries.new.items ≡ entries.old.items
+        ++ variant_entries (order_over (chain_in order.now)) glob variant) }
+{
+    let types = Some(public_item(Def::Variant(variant.id)));
+    let values = constructor(variant);
+    push_brought(entries, order, glob, variant.name, Namespace::Types, types)?;
+    push_brought(
+        entries,
+        order,
+        glob,
+        variant.name,
+        Namespace::Values,
+        values,
+    )?;
+    Ok(())
+}
+
+/// The entries of the variants of an enum.
+pub fn variants_entries(
+    alloc: Global,
+    order: &ModuleTree,
+    glob: EdgeTo<Visibility>,
+    variants: &[EnumVariant],
+) -> Result<Vec<Entry<Visibility>>, AllocError>
+    ensures { IfOk result (λ entries. entries.items
+        ≡ flat_map (variant_entries (order_over (chain_in order.now)) glob) variants.now) }
+{
+    let mut entries = Vec::new(alloc);
+    'variants: for variant in variants {
+        push_variant(&mut entries, order, glob, *variant)?;
+    }
+    Ok(entries)
+}

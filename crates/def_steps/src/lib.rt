@@ -1,0 +1,20 @@
+//! The single steps of collection that need no collector: directives of imports, what globs bring
+//! and were recorded with, what a root file says of its crate, and the crates that it depends on.
+#![tactic(auto)]
+
+mod crate_attrs;
+mod crate_deps;
+mod directive;
+mod glob_scope;
+mod mod_dirs;
+mod targets;
+
+pub use crate_attrs::{is_proc_macro_with, set_attrs, top_attrs};
+pub use crate_deps::{add_all, dependencies, is_proc_macro_crate};
+pub use directive::{
+    ImportDirective, NamespaceSet, PartialDirective, import_name, is_missing, is_public,
+    is_ready_again, keeps_ns, kept_after, kept_item,
+};
+pub use glob_scope::{GlobScope, variants_entries};
+pub use mod_dirs::ModDirs;
+pub use targets::{add_target, edges_of, targets_of};

@@ -1,0 +1,75 @@
+-- What a scripted database answers.
+use Rattle.std.specs.Prelude.{Bool, true, false, ◌==◌, ◌&&◌, List, [], ℕ, String, Option, Some, None, option_map, Result, Err}
+use Rattle.indexmap.specs.IndexMap.{IndexMap, get, get_by_text}
+use Rattle.item_tree.specs.declared.ids.BlockId.{BlockId}
+use Rattle.item_tree.specs.declared.ids.Crate.{Crate}
+use Rattle.item_tree.specs.declared.ids.FileId.{FileId}
+use Rattle.item_tree.specs.declared.ids.HirFileId.{HirFileId}
+use Rattle.item_tree.specs.declared.ids.HirFileId.TheVariants.{File, Macro}
+use Rattle.item_tree.specs.declared.ids.TreeId.{TreeId}
+use Rattle.def_ids.specs.Ids.{is_same_block}
+use Rattle.def_bindings.specs.Content.{is_name}
+use Rattle.def_map.specs.DefMaps.{view_of}
+use Rattle.def_modules.specs.Equality.{file_eq, position_eq}
+use Rattle.def_modules.specs.Locals.{local_view}
+use Rattle.def_map.specs.Oracle.{Oracle}
+use Rattle.def_workspace.specs.declared.scripted.Scripted.{Scripted}
+
+-- whether two trees are one
+abbrev pub tree_eq : TreeId → TreeId → Bool
+tree_eq a b = file_eq a.file b.file && is_same_block a.block b.block
+
+-- whether two crates are one
+abbrev pub crate_eq : Crate → Crate → Bool
+crate_eq a b = a.0 == b.0
+
+-- whether two files are one
+abbrev pub file_id_eq : FileId → FileId → Bool
+file_id_eq a b = a.0 == b.0
+
+-- whether two blocks are one
+abbrev pub block_eq : BlockId → BlockId → Bool
+block_eq a b = a.0 == b.0
+
+-- the source file of a file
+abbrev pub source_file : HirFileId → FileId
+source_file (File file) = file
+source_file (Macro call) = record { 0 = 0 }
+
+-- where a path leads, by the paths of a file, if it has any
+abbrev pub path_in : {Y S : Type 0} → Option (IndexMap (String Y) FileId S) → List ℕ → Option FileId
+path_in None path = None
+path_in (Some paths) path = get_by_text paths path
+
+-- all answers of a scripted database
+abbrev pub answers_of : Scripted → Oracle
+answers_of s =
+    record {
+      item_tree = get tree_eq s.files.trees;
+      crate_data = get crate_eq s.crates.known;
+      crate_def_map = λ krate. option_map view_of (get crate_eq s.crates.maps krate);
+      outer_map = λ block. option_map view_of (get block_eq s.crates.outer_maps block);
+      local_def_map = λ krate. option_map local_view (get crate_eq s.crates.local_maps krate);
+      resolve_path = λ anchor path. path_in (get file_id_eq s.files.paths anchor) path;
+      original_file = source_file;
+      expansion_depth = λ file. 0;
+      asked_paths = λ query. [];
+      macro_call = λ query found. Err (record { path = query.path });
+      make_attr_call = λ query. record { 0 = 0 };
+      make_derive_call = λ query. record { 0 = 0 };
+      is_include = λ call. false;
+      enum_variants = λ loc. option_map (λ v. v.items) (get position_eq s.types.variants loc.position);
+      assoc_items = λ owner. None;
+      rule_styles = λ position krate. record { 0 = 1 };
+      proc_macros = λ krate. [];
+      find_builtin_macro = λ name. None;
+      find_builtin_derive = λ name. None;
+      find_builtin_attr = λ name. None;
+      builtin_type = λ name. get is_name s.types.builtin name;
+      is_builtin_attr = λ name. false;
+      has_builtin_derive_impl = λ derive. false;
+      derive_traits = λ derive. [];
+      cfg_flag = λ krate name. false;
+      builtin_derive_fast_path = false;
+      expand_proc_attr_macros = false;
+    }

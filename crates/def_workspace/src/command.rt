@@ -1,0 +1,145 @@
+//! The commands of the program.
+
+ghost use Rattle.std.specs.Prelude.{◌≡◌, ◌<◌, ◌∷◌, [], true, false, map, OnOk, OnErr};
+ghost use Rattle.def_workspace.specs.Command.{is_answerable, is_list, is_show};
+
+use crate::fault::Fault;
+use crate::lines::print;
+use crate::script::{CrateText, Vector};
+use crate::vectors;
+use crate::workspace::Workspace;
+use std::alloc::Global;
+use std::io;
+
+/// Prints the names of the vectors.
+fn list<W: io::Write>(out: &mut W) -> Result<(), Fault> {
+    for vector in vectors::all() {
+        let name = vector.name;
+        writeln!(out, "{name}")?;
+    }
+    Ok(())
+}
+
+/// Collects the crates of a vector, and prints the map of the last.
+pub fn show<W: io::Write>(alloc: Global, vector: &Vector, out: &mut W) -> Result<(), Fault> {
+    let mut workspace = Workspace::new(alloc, vector)?;
+    show_last(&mut workspace, vector.crates, out)
+}
+
+/// Collects crates, each with the maps of those before it, and prints the map of the last.
+fn show_last<W: io::Write>(
+    workspace: &mut Workspace,
+    crates: &[CrateText],
+    out: &mut W,
+) -> Result<(), Fault> {
+    let Some((last, others)) = crates.split_last() else {
+        return Ok(());
+    };
+    for krate in others {
+        workspace.collect_dependency(krate)?;
+    }
+    let collected = workspace.collect(last)?;
+    print(workspace.alloc, &workspace.session, &collected, out)
+}
+
+/// Says that memory was refused, and answers the status.
+pub fn out_of_memory<E: io::Write>(err: &mut E) -> u8
+    ensures { result ≡ 1 }
+{
+    let _ = writeln!(err, "out of memory");
+    1
+}
+
+/// The status of a command that ended, with a text on `err` where memory was refused.
+fn status<E: io::Write>(ended: Result<(), Fault>, err: &mut E) -> u8
+    ensures done { OnOk ended (result ≡ 0) }
+    ensures fault { OnErr ended (result ≡ 1) }
+    ensures range { result < 2 }
+    ensures silent { result ≡ 0 → err.new ≡ err.old }
+{
+    match ended {
+        Ok(()) => 0,
+        Err(Fault::Memory) => out_of_memory(err),
+        Err(Fault::Output) => 1,
+    }
+}
+
+/// Says how the program is called, and answers the status.
+fn usage<E: io::Write>(err: &mut E) -> u8
+    ensures { result ≡ 2 }
+{
+    let _ = writeln!(err, "usage: defmap list | defmap show NAME");
+    2
+}
+
+/// Whether the word asks for the names.
+fn is_list(word: &str) -> bool
+    ensures { result ≡ is_list word.now }
+{
+    word == "list"
+}
+
+/// Whether the word asks for a vector.
+fn is_show(word: &str) -> bool
+    ensures { result ≡ is_show word.now }
+{
+    word == "show"
+}
+
+/// Runs the program over one word.
+fn run_word<O: io::Write, E: io::Write>(word: &str, out: &mut O, err: &mut E) -> u8
+    ensures wrong { is_answerable (word.now ∷ []) ≡ false → result ≡ 2 }
+    ensures asked { is_answerable (word.now ∷ []) ≡ true → result < 2 }
+    ensures silent { result ≡ 0 → err.new ≡ err.old }
+{
+    if is_list(word) {
+        status(list(out), err)
+    } else {
+        usage(err)
+    }
+}
+
+/// Runs the program over a word and a name.
+fn run_words<O: io::Write, E: io::Write>(
+    alloc: Global,
+    word: &str,
+    name: &str,
+    out: &mut O,
+    err: &mut E,
+) -> u8
+    ensures wrong { is_answerable (word.now ∷ name.now ∷ []) ≡ false → result ≡ 2 }
+    ensures asked { is_answerable (word.now ∷ name.now ∷ []) ≡ true → result < 2 }
+    ensures silent { result ≡ 0 → err.new ≡ err.old }
+{
+    if !is_show(word) {
+        return usage(err);
+    }
+    match vectors::find(name) {
+        Some(vector) => status(show(alloc, vector, out), err),
+        None => {
+            let _ = writeln!(err, "unknown vector: {name}");
+            2
+        }
+    }
+}
+
+/// Runs the program over its words, without its own name, and answers its exit status: 0; 1 where
+/// memory is refused, or a write to `out`; 2 for words that ask for nothing that there is. A text
+/// on `err` says which, except for a refused write. A write to `err` that fails changes nothing.
+pub fn run<O: io::Write, E: io::Write>(
+    alloc: Global,
+    words: &[&str],
+    out: &mut O,
+    err: &mut E,
+) -> u8
+    ensures wrong { is_answerable (map (λ word. word.now) words.now) ≡ false → result ≡ 2 }
+    ensures asked { is_answerable (map (λ word. word.now) words.now) ≡ true → result < 2 }
+    ensures silent { result ≡ 0 → err.new ≡ err.old }
+{
+    match words {
+        [] => usage(err),
+        [word] => run_word(word, out, err),
+        [word, name] => run_words(alloc, word, name, out, err),
+        [_, _, _, ..] => usage(err),
+    }
+}

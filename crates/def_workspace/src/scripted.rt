@@ -1,0 +1,202 @@
+//! A database whose answers are data.
+ghost use Rattle.def_workspace.specs.Scripted.{answers_of};
+
+use def_ids::{BuiltinAttr, EnumLoc};
+use def_map::{
+    AssocItemsOwner, AssocList, AttrCallQuery, CallAnswer, CallQuery, CrateData, DefMap,
+    DeriveCallQuery, EnumVariant, LocalDefMap, MacroResolver, SourceDatabase, UnresolvedMacro,
+};
+use either::Either;
+use indexmap::IndexMap;
+use item_tree::{
+    BlockId, Crate, FileAstId, FileId, HirFileId, InFile, ItemTree, MacroCallId, MacroCallStyles,
+    Name, TreeId,
+};
+use std::alloc::{AllocError, Global};
+
+/// Item trees, and the file that each path leads to from a file.
+#[derive(Drop)]
+pub struct Files {
+    pub trees: IndexMap<TreeId, ItemTree>,
+    pub paths: IndexMap<FileId, IndexMap<String, FileId>>,
+}
+
+/// What is known of crates, and the maps that were collected earlier.
+#[derive(Drop)]
+pub struct Crates {
+    pub known: IndexMap<Crate, CrateData>,
+    pub maps: IndexMap<Crate, DefMap>,
+    pub local_maps: IndexMap<Crate, LocalDefMap>,
+    pub outer_maps: IndexMap<BlockId, DefMap>,
+}
+
+/// The variants of the enum at each position, and builtin types.
+#[derive(Drop)]
+pub struct Types {
+    pub variants: IndexMap<InFile<FileAstId>, Vec<EnumVariant>>,
+    pub builtin: IndexMap<Name, u32>,
+}
+
+/// A database whose answers were written down. It has no macros so far: each call is one of a macro
+/// that is not found, and no name is that of a builtin macro, derive or attribute.
+pub struct Scripted {
+    pub files: Files,
+    pub crates: Crates,
+    pub types: Types,
+}
+
+impl Drop for Scripted {
+    fn drop(self) {
+        let Scripted {
+            files: _,
+            crates: _,
+            types: _,
+        } = self;
+    }
+}
+
+impl Scripted {
+    /// A database that knows nothing.
+    pub fn new(alloc: Global) -> Scripted {
+        Scripted {
+            files: Files {
+                trees: IndexMap::new(alloc),
+                paths: IndexMap::new(alloc),
+            },
+            crates: Crates {
+                known: IndexMap::new(alloc),
+                maps: IndexMap::new(alloc),
+                local_maps: IndexMap::new(alloc),
+                outer_maps: IndexMap::new(alloc),
+            },
+            types: Types {
+                variants: IndexMap::new(alloc),
+                builtin: IndexMap::new(alloc),
+            },
+        }
+    }
+}
+
+impl SourceDatabase for Scripted {
+    ghost oracle = { answers_of };
+
+    fn item_tree(&self, id: TreeId) -> Option<&ItemTree> {
+        self.files.trees.get(&id)
+    }
+
+    fn crate_data(&self, krate: Crate) -> Option<&CrateData> {
+        self.crates.known.get(&krate)
+    }
+
+    fn crate_def_map(&self, krate: Crate) -> Option<&DefMap> {
+        self.crates.maps.get(&krate)
+    }
+
+    fn outer_map(&self, block: BlockId) -> Option<&DefMap> {
+        self.crates.outer_maps.get(&block)
+    }
+
+    fn local_def_map(&self, krate: Crate) -> Option<&LocalDefMap> {
+        self.crates.local_maps.get(&krate)
+    }
+
+    fn resolve_path(&self, anchor: FileId, path: &str) -> Option<FileId> {
+        match self.files.paths.get(&anchor) {
+            Some(paths) => paths.get(path).copied(),
+            None => None,
+        }
+    }
+
+    fn original_file(&self, file: HirFileId) -> FileId {
+        match file {
+            HirFileId::File(file) => file,
+            HirFileId::Macro(_) => FileId(0),
+        }
+    }
+
+    fn expansion_depth(&self, _file: HirFileId) -> u32 {
+        0
+    }
+
+    fn macro_call<R: MacroResolver>(
+        &self,
+        _alloc: Global,
+        query: CallQuery<'_>,
+        _resolver: &R,
+    ) -> Result<Result<CallAnswer, UnresolvedMacro>, AllocError> {
+        Ok(Err(UnresolvedMacro {
+            path: query.path.clone()?,
+        }))
+    }
+
+    fn make_attr_call(&self, _query: AttrCallQuery<'_>) -> MacroCallId {
+        MacroCallId(0)
+    }
+
+    fn make_derive_call(&self, _query: DeriveCallQuery) -> MacroCallId {
+        MacroCallId(0)
+    }
+
+    fn is_include(&self, _call: MacroCallId) -> bool {
+        false
+    }
+
+    fn enum_variants(&self, loc: &EnumLoc) -> Option<&[EnumVariant]> {
+        match self.types.variants.get(&loc.position) {
+            Some(variants) => Some(variants.as_slice()),
+            None => None,
+        }
+    }
+
+    fn assoc_items(&self, _owner: AssocItemsOwner) -> Option<&AssocList> {
+        None
+    }
+
+    fn rule_styles(&self, _position: InFile<FileAstId>, _krate: Crate) -> MacroCallStyles {
+        MacroCallStyles::FN_LIKE
+    }
+
+    fn proc_macros(&self, _krate: Crate) -> &[(Name, u32, bool)] {
+        &[]
+    }
+
+    fn find_builtin_macro(&self, _name: Name) -> Option<Either<u32, u32>> {
+        None
+    }
+
+    fn find_builtin_derive(&self, _name: Name) -> Option<u32> {
+        None
+    }
+
+    fn find_builtin_attr(&self, _name: Name) -> Option<BuiltinAttr> {
+        None
+    }
+
+    fn builtin_type(&self, name: Name) -> Option<u32> {
+        self.types.builtin.get(&name).copied()
+    }
+
+    fn is_builtin_attr(&self, _name: Name) -> bool {
+        false
+    }
+
+    fn has_builtin_derive_impl(&self, _derive: u32) -> bool {
+        false
+    }
+
+    fn derive_traits(&self, _derive: u32) -> &[u32] {
+        &[]
+    }
+
+    fn cfg_flag(&self, _krate: Crate, _name: Name) -> bool {
+        false
+    }
+
+    fn builtin_derive_fast_path(&self) -> bool {
+        false
+    }
+
+    fn expand_proc_attr_macros(&self) -> bool {
+        false
+    }
+}

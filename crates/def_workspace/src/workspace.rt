@@ -1,0 +1,179 @@
+//! A scripted workspace at work: a session, and the database of its files and crates.
+
+ghost use Rattle.std.specs.Prelude.{◌≡◌, IfOk};
+ghost use Rattle.def_ids.specs.Session.{Grows, session_of};
+ghost use Rattle.def_collector.specs.Collector.{shown};
+ghost use Rattle.def_rules.specs.Headline.{Answers};
+ghost use Rattle.def_workspace.specs.Scripted.{answers_of};
+ghost use Rattle.def_workspace.specs.Workspace.{file_tree, setting};
+
+use crate::script::{CrateText, DependencyText, Line, VariantsText, Vector};
+use crate::scripted::Scripted;
+use crate::trees::{file_path, tree_of};
+use def_collector::{Collected, collect_defs};
+use def_ids::{Interner, VariantId};
+use def_map::{CrateData, DefMap, Dependency, EnumVariant};
+use indexmap::IndexMap;
+use item_tree::{Crate, FileAstId, FileId, HirFileId, InFile, Seq, TreeId};
+use std::alloc::{AllocError, Global};
+
+/// A session, and a database whose answers are in its names.
+pub struct Workspace {
+    pub alloc: Global,
+    pub session: Interner,
+    pub db: Scripted,
+}
+
+impl Drop for Workspace {
+    fn drop(self) {
+        let Workspace {
+            alloc: _,
+            session: _,
+            db: _,
+        } = self;
+    }
+}
+
+impl Workspace {
+    /// A workspace that knows nothing.
+    fn empty(alloc: Global) -> Result<Workspace, AllocError> {
+        Ok(Workspace {
+            alloc,
+            session: Interner::new(alloc)?,
+            db: Scripted::new(alloc),
+        })
+    }
+
+    /// Adds the files and crates of a vector.
+    fn fill(&mut self, vector: &Vector) -> Result<(), AllocError> {
+        for (number, lines) in vector.files.iter().enumerate() {
+            self.add_file(FileId(number), lines)?;
+            self.add_paths(FileId(number), vector.files)?;
+        }
+        for krate in vector.crates {
+            self.add_crate(krate)?;
+        }
+        for text in vector.builtin_types {
+            let name = self.session.intern_name(text.name)?;
+            self.db.types.builtin.insert(name, text.number)?;
+        }
+        for text in vector.enums {
+            self.add_variants(text)?;
+        }
+        Ok(())
+    }
+
+    /// The workspace of a vector, with no crate collected.
+    pub fn new(alloc: Global, vector: &Vector) -> Result<Workspace, AllocError> {
+        let mut workspace = Workspace::empty(alloc)?;
+        workspace.fill(vector)?;
+        Ok(workspace)
+    }
+
+    /// Adds the paths that lead from a file to those that have one.
+    fn add_paths(
+        &mut self,
+        from: FileId,
+        files: &'static [&'static [Line]],
+    ) -> Result<(), AllocError> {
+        let mut paths = IndexMap::new(self.alloc);
+        for (number, lines) in files.iter().enumerate() {
+            if let Some(path) = file_path(lines) {
+                paths.insert(String::from_str(self.alloc, path)?, FileId(number))?;
+            }
+        }
+        self.db.files.paths.insert(from, paths)?;
+        Ok(())
+    }
+
+    /// Adds a file. One whose lines make no tree is not there.
+    fn add_file(&mut self, file: FileId, lines: &'static [Line]) -> Result<(), AllocError> {
+        if let Ok(tree) = tree_of(self.alloc, &mut self.session, lines)? {
+            self.db.files.trees.insert(tree_id(file), tree)?;
+        }
+        Ok(())
+    }
+
+    /// Adds the variants of an enum, which are numbered from 0.
+    fn add_variants(&mut self, text: &VariantsText) -> Result<(), AllocError> {
+        let mut variants = Vec::new(self.alloc);
+        for (number, (name, value_ctor)) in text.variants.iter().enumerate() {
+            variants.push(EnumVariant {
+                name: self.session.intern_name(name)?,
+                id: VariantId(number),
+                value_ctor: *value_ctor,
+            })?;
+        }
+        let position = InFile {
+            file: HirFileId::File(FileId(text.file)),
+            value: FileAstId(text.item),
+        };
+        self.db.types.variants.insert(position, variants)?;
+        Ok(())
+    }
+
+    fn dependency(&mut self, text: &DependencyText) -> Result<Dependency, AllocError> {
+        Ok(Dependency {
+            name: self.session.intern_name(text.name)?,
+            krate: Crate(text.krate),
+            prelude: text.prelude,
+            sysroot: text.sysroot,
+        })
+    }
+
+    /// Adds what is known of a crate.
+    fn add_crate(&mut self, text: &CrateText) -> Result<(), AllocError> {
+        let mut deps = Seq::from_vec(Vec::new(self.alloc));
+        for dependency in text.deps {
+            deps.push(self.dependency(dependency)?)?;
+        }
+        let data = CrateData {
+            root_file: FileId(text.root_file),
+            proc_macro: false,
+            lang: None,
+            deps,
+        };
+        self.db.crates.known.insert(Crate(text.krate), data)?;
+        Ok(())
+    }
+
+    /// Collects the definitions of a crate.
+    pub fn collect(&mut self, text: &CrateText) -> Result<Collected, AllocError>
+        // What is answered ends a run over the crate.
+        ensures answers { IfOk result (λ collected.
+            Answers (setting (answers_of self.old.db) text.now)
+            (session_of self.old.session) (session_of self.new.session) (shown collected)) }
+        ensures session { Grows (session_of self.old.session) (session_of self.new.session) }
+        ensures db { self.new.db ≡ self.old.db }
+    {
+        let seeded = DefMap::seed(self.alloc, Crate(text.krate), text.edition, None)?;
+        let tree = tree_id(FileId(text.root_file));
+        collect_defs(self.alloc, &self.db, &mut self.session, seeded, tree, None)
+    }
+
+    /// Collects the definitions of a crate, and hands their map to the crates that depend on it.
+    pub fn collect_dependency(&mut self, text: &CrateText) -> Result<(), AllocError> {
+        let Collected {
+            def_map,
+            local_def_map,
+            outcome: _,
+            diagnostics: _,
+        } = self.collect(text)?;
+        self.db.crates.maps.insert(Crate(text.krate), def_map)?;
+        self.db
+            .crates
+            .local_maps
+            .insert(Crate(text.krate), local_def_map)?;
+        Ok(())
+    }
+}
+
+/// The tree of a file.
+fn tree_id(file: FileId) -> TreeId
+    ensures { result ≡ file_tree file }
+{
+    TreeId {
+        file: HirFileId::File(file),
+        block: None,
+    }
+}
