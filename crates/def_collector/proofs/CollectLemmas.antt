@@ -17,7 +17,7 @@ use Rattle.def_rules.specs.declared.diagnostics.DefDiagnostic.{DefDiagnostic}
 use Rattle.def_parts.specs.Directories.{Directory}
 use Rattle.def_steps.specs.Shown.{partial_of, pending_of}
 use Rattle.def_collector.specs.Collector.{waiting}
-use Rattle.def_rules.specs.Crates.{is_proc_macro_crate}
+use Rattle.def_rules.specs.Crates.{deps_by_name, is_proc_macro_crate}
 use Rattle.def_rules.specs.Globs.{Targets}
 use Rattle.def_rules.specs.Headline.{Answers}
 use Rattle.def_rules.specs.Imports.{NoneReady}
@@ -52,14 +52,14 @@ no_imports entries none = ap (λ es. map pending_of (waiting es)) none ∙ ap (m
 pub no_partial : (entries : List (Option PartialDirective)) → entries ≡ [] → map partial_of (waiting entries) ≡ []
 no_partial entries none = ap (λ es. map partial_of (waiting es)) none ∙ ap (map partial_of) (waiting-nil PartialDirective)
 
-module _ (w : Setting) (before after : Session) (m : MapState) (content : Content Visibility) (targets : Targets) (local : LocalView) (procs : Bool) (directories : ModuleId → Option Directory) (imports : List PendingImport) (partial : List PartialImport) (diagnostics : List DefDiagnostic) where
+module _ (w : Setting) (before after : Session) (m : MapState) (content : Content Visibility) (targets : Targets) (local : LocalView) (procs : Bool) (deps : LocalView) (missing : Name → Bool) (directories : ModuleId → Option Directory) (imports : List PendingImport) (partial : List PartialImport) (diagnostics : List DefDiagnostic) where
   -- the state that the code begins with
   abbrev pub begun : State
-  begun = record { session = before; map = m; content = content; targets = targets; local = local; outer = w.crate_local; is_proc_macro = procs; directories = directories; imports = imports; partial = partial; diagnostics = diagnostics }
+  begun = record { session = before; map = m; content = content; targets = targets; local = local; outer = w.crate_local; is_proc_macro = procs; deps = deps; missing_crates = missing; directories = directories; imports = imports; partial = partial; diagnostics = diagnostics }
 
-  module _ (same : m ≡ w.seeded) (bound : content ≡ empty) (none : targets ≡ (λ glob. None)) (known : local ≡ empty_local) (marked : procs ≡ is_proc_macro_crate w.oracle w.seeded.id.krate) (bare : directories ≡ (λ at. None)) (unresolved : imports ≡ []) (indeterminate : partial ≡ []) (said : diagnostics ≡ []) where
+  module _ (same : m ≡ w.seeded) (bound : content ≡ empty) (none : targets ≡ (λ glob. None)) (known : local ≡ empty_local) (marked : procs ≡ is_proc_macro_crate w.oracle w.seeded.id.krate) (by_name : deps ≡ deps_by_name w.oracle w.seeded.id.krate) (found : missing ≡ (λ name. false)) (bare : directories ≡ (λ at. None)) (unresolved : imports ≡ []) (indeterminate : partial ≡ []) (said : diagnostics ≡ []) where
     begins : begun ≡ seeded_state w before
-    begins = λ i. record { session = before; map = same i; content = bound i; targets = none i; local = known i; outer = w.crate_local; is_proc_macro = marked i; directories = bare i; imports = unresolved i; partial = indeterminate i; diagnostics = said i }
+    begins = λ i. record { session = before; map = same i; content = bound i; targets = none i; local = known i; outer = w.crate_local; is_proc_macro = marked i; deps = by_name i; missing_crates = found i; directories = bare i; imports = unresolved i; partial = indeterminate i; diagnostics = said i }
 
     -- what was collected and finished answers
     pub collected_answers : (t : State) (answer : Answer) (given : Content Visibility) → IsFresh w.seeded given → Leads w.oracle (first_tasks w.oracle m w.tree) (started w.oracle w.tree begun) [] t → NoneReady w.oracle t → t.session ≡ after → IsFinished t answer

@@ -1,5 +1,7 @@
 -- The end of a run: names marked one after the other are marked by what is left over.
 use Rattle.std.proofs.Common.{◌≡◌, ◌+◌, ◌<◌, ◌≤◌, ℕ, zero, suc, Bool, true, false, cond, ◌&&◌, ◌||◌, nat_eq, List, [], ◌∷◌, ◌++◌, length, filter, map, take, get_or, All, Option, Some, None, refl, sym, ap, subst, ◌∙◌, arith, inl, inr, append-nil, append_assoc}
+use Rattle.std.specs.List.{flat_map}
+use Rattle.std.proofs.lemmas.Grind.{flat_map-append}
 use Rattle.std.proofs.lemmas.Bool.{cases_Bool}
 use Rattle.std.proofs.lemmas.Bool.Decides.{eqb_tells}
 use Rattle.std.proofs.lemmas.List.{map-append, take_all, take_more}
@@ -30,7 +32,7 @@ use Rattle.def_rules.specs.declared.outcome.LeftImport.{LeftImport}
 use Rattle.def_collector.specs.Collector.{left_in, marked_each, marked_once, waiting}
 use Rattle.def_steps.specs.Shown.{pending_of, shown_edge}
 use Rattle.def_rules.specs.Imports.{bound_name}
-use Rattle.def_rules.specs.Report.{Answer, AreEdges, AreTargets, binds_name, is_left, leaves, left_import, listed_edge, marked, marked_from, NoneFailed, shown_targets, unresolved, IsFinished}
+use Rattle.def_rules.specs.Report.{Answer, AreEdges, AreTargets, binds_name, is_left, leaves, left_import, listed_edge, marked, marked_from, NoneFailed, shown_targets, import_report, IsFinished}
 use Rattle.def_rules.specs.State.{State, PendingImport}
 use Rattle.def_collector.proofs.WaitingLemmas.{waiting-nil, waiting_pushed, waiting_same}
 
@@ -172,48 +174,48 @@ left_of_one entries None = ap (map pending_of) (waiting_same entries) ∙ sym (a
 left_of_one entries (Some d) = waiting_pushed pending_of entries (entries ++ Some d ∷ []) d refl
 
 -- what was done once these entries were gone through
-pub record LeftSoFar (m now : MapState) (left : List LeftImport) (before said : List DefDiagnostic) (entries : List (Option ImportDirective)) : Type 0 where
+pub record LeftSoFar (missing : Name → Bool) (m now : MapState) (left : List LeftImport) (before said : List DefDiagnostic) (entries : List (Option ImportDirective)) : Type 0 where
   pub marks : now ≡ marked_each (left_of_all entries) m
   pub lefts : left ≡ map left_import (left_of_all entries)
-  pub reports : said ≡ before ++ map unresolved (left_of_all entries)
+  pub reports : said ≡ before ++ flat_map (import_report missing) (left_of_all entries)
 
 -- nothing was done yet
-pub left_none : (m : MapState) (imports : List LeftImport) (before : List DefDiagnostic) → imports ≡ [] → LeftSoFar m m imports before before []
-left_none m imports before none = record {
+pub left_none : (missing : Name → Bool) (m : MapState) (imports : List LeftImport) (before : List DefDiagnostic) → imports ≡ [] → LeftSoFar missing m m imports before before []
+left_none missing m imports before none = record {
   marks = ap (λ ps. marked_each ps m) (sym nothing);
   lefts = none ∙ ap (map left_import) (sym nothing);
-  reports = sym (append-nil before) ∙ ap (λ ps. before ++ map unresolved ps) (sym nothing);
+  reports = sym (append-nil before) ∙ ap (λ ps. before ++ flat_map (import_report missing) ps) (sym nothing);
 }
   where
     nothing : left_of_all [] ≡ []
     nothing = ap (map pending_of) (waiting-nil ImportDirective)
 
 -- one entry more
-pub left_more : (m now next : MapState) (imports imports' : List LeftImport) (before diagnostics diagnostics' : List DefDiagnostic) (entries : List (Option ImportDirective)) (entry : Option ImportDirective) (i : ℕ)
-    → LeftSoFar m now imports before diagnostics (take i entries) → i < length entries → entry ≡ get_or entries i entry
-    → next ≡ marked_each (left_in entry) now → imports' ≡ imports ++ map left_import (left_in entry) → diagnostics' ≡ diagnostics ++ map unresolved (left_in entry)
-    → LeftSoFar m next imports' before diagnostics' (take (i + 1) entries)
-left_more m now next imports imports' before diagnostics diagnostics' entries entry i left within item marking adds saying = record {
+pub left_more : (missing : Name → Bool) (m now next : MapState) (imports imports' : List LeftImport) (before diagnostics diagnostics' : List DefDiagnostic) (entries : List (Option ImportDirective)) (entry : Option ImportDirective) (i : ℕ)
+    → LeftSoFar missing m now imports before diagnostics (take i entries) → i < length entries → entry ≡ get_or entries i entry
+    → next ≡ marked_each (left_in entry) now → imports' ≡ imports ++ map left_import (left_in entry) → diagnostics' ≡ diagnostics ++ flat_map (import_report missing) (left_in entry)
+    → LeftSoFar missing m next imports' before diagnostics' (take (i + 1) entries)
+left_more missing m now next imports imports' before diagnostics diagnostics' entries entry i left within item marking adds saying = record {
   marks = marking ∙ ap (λ x. marked_each (left_in entry) x) left.marks ∙ sym (marked_each-append (left_of_all (take i entries)) (left_in entry) m) ∙ ap (λ ps. marked_each ps m) (sym more);
   lefts = adds ∙ ap (λ xs. xs ++ map left_import (left_in entry)) left.lefts ∙ sym (map-append left_import (left_of_all (take i entries)) (left_in entry)) ∙ ap (map left_import) (sym more);
   reports =
       saying
-      ∙ ap (λ xs. xs ++ map unresolved (left_in entry)) left.reports
-      ∙ append_assoc before (map unresolved (left_of_all (take i entries))) (map unresolved (left_in entry))
-      ∙ ap (λ xs. before ++ xs) (sym (map-append unresolved (left_of_all (take i entries)) (left_in entry)) ∙ ap (map unresolved) (sym more));
+      ∙ ap (λ xs. xs ++ flat_map (import_report missing) (left_in entry)) left.reports
+      ∙ append_assoc before (flat_map (import_report missing) (left_of_all (take i entries))) (flat_map (import_report missing) (left_in entry))
+      ∙ ap (λ xs. before ++ xs) (sym (flat_map-append (import_report missing) (left_of_all (take i entries)) (left_in entry)) ∙ ap (flat_map (import_report missing)) (sym more));
 }
   where
     more : left_of_all (take (i + 1) entries) ≡ left_of_all (take i entries) ++ left_in entry
     more = ap left_of_all (take_more entries i entry within ∙ ap (λ e. take i entries ++ e ∷ []) (sym item)) ∙ left_of_one (take i entries) entry
 
 -- all entries were gone through
-pub left_whole : (m now : MapState) (imports : List LeftImport) (before diagnostics : List DefDiagnostic) (entries all : List (Option ImportDirective)) (i : ℕ) → LeftSoFar m now imports before diagnostics (take i entries)
-    → length entries ≤ i → entries ≡ all → LeftSoFar m now imports before diagnostics all
-left_whole m now imports before diagnostics entries all i left past same = subst (λ es. LeftSoFar m now imports before diagnostics es) (take_all i entries past ∙ same) left
+pub left_whole : (missing : Name → Bool) (m now : MapState) (imports : List LeftImport) (before diagnostics : List DefDiagnostic) (entries all : List (Option ImportDirective)) (i : ℕ) → LeftSoFar missing m now imports before diagnostics (take i entries)
+    → length entries ≤ i → entries ≡ all → LeftSoFar missing m now imports before diagnostics all
+left_whole missing m now imports before diagnostics entries all i left past same = subst (λ es. LeftSoFar missing m now imports before diagnostics es) (take_all i entries past ∙ same) left
 
 -- the answer is that of the end
 pub finished : (end : State) (answer : Answer) (m : MapState) (imports : List LeftImport) (diagnostics : List DefDiagnostic) (entries : List (Option ImportDirective))
-    → LeftSoFar end.map m imports end.diagnostics diagnostics entries → end.imports ≡ left_of_all entries
+    → LeftSoFar end.missing_crates end.map m imports end.diagnostics diagnostics entries → end.imports ≡ left_of_all entries
     → answer.map ≡ m → answer.content ≡ end.content → answer.local ≡ end.local → answer.diagnostics ≡ diagnostics
     → answer.outcome.imports.items ≡ imports → answer.outcome.macros.items ≡ [] → AreEdges end.content answer.outcome.edges.items → AreTargets end.targets (map shown_targets answer.outcome.targets.items) → answer.outcome.limit_met ≡ false
     → IsFinished end answer
@@ -222,5 +224,5 @@ finished end answer m imports diagnostics entries left here marking content loca
   content = content;
   local = local;
   outcome = record { imports = lefts ∙ left.lefts ∙ ap (map left_import) (sym here); macros = macros; edges = edges; targets = targets; limit = limit };
-  reported = said ∙ left.reports ∙ ap (λ ps. end.diagnostics ++ map unresolved ps) (sym here);
+  reported = said ∙ left.reports ∙ ap (λ ps. end.diagnostics ++ flat_map (import_report end.missing_crates) ps) (sym here);
 }

@@ -4,9 +4,10 @@ use Rattle.std.proofs.lemmas.List.{map_more}
 use Rattle.item_tree.specs.declared.ids.FileAstId.{FileAstId}
 use Rattle.item_tree.specs.declared.ids.InFile.{InFile}
 use Rattle.item_tree.specs.declared.items.CtorVisibility.{CtorVisibility}
+use Rattle.item_tree.specs.declared.items.ImportAlias.{ImportAlias}
 use Rattle.item_tree.specs.declared.items.ItemNode.{ItemNode}
 use Rattle.item_tree.specs.declared.items.ModContents.{ModContents}
-use Rattle.item_tree.specs.declared.items.ModItemKind.TheVariants.{Mod, Use, Struct, ExternBlock, Impl, Union, Enum, Function, Const, Static, Trait, TypeAlias}
+use Rattle.item_tree.specs.declared.items.ModItemKind.TheVariants.{Mod, Use, Struct, ExternCrate, ExternBlock, Impl, Union, Enum, Function, Const, Static, Trait, TypeAlias}
 use Rattle.item_tree.specs.declared.items.RawVisibility.{RawVisibility}
 use Rattle.item_tree.specs.declared.items.UseImport.{UseImport}
 use Rattle.item_tree.specs.declared.name.Name.{Name}
@@ -14,7 +15,7 @@ use Rattle.def_ids.specs.declared.ids.Def.{Def}
 use Rattle.def_ids.specs.declared.ids.Def.TheVariants.{Module}
 use Rattle.def_ids.specs.declared.ids.Def.TheVariants as def
 use Rattle.def_ids.specs.declared.ids.ModuleId.{ModuleId}
-use Rattle.def_ids.specs.Session.{Session, Grows, StructItem, UseItem, in_module, ItemKind, FunctionItem, UnionItem, EnumItem, ConstItem, StaticItem, TraitItem, TypeAliasItem, ImplItem, ExternBlockItem, in_container}
+use Rattle.def_ids.specs.Session.{Session, Grows, StructItem, UseItem, in_module, ItemKind, FunctionItem, UnionItem, EnumItem, ConstItem, StaticItem, TraitItem, TypeAliasItem, ImplItem, ExternCrateItem, ExternBlockItem, in_container}
 use Rattle.def_ids.specs.SessionLaws.{grows_refl}
 use Rattle.def_bindings.specs.declared.bindings.Entry.{Entry}
 use Rattle.def_bindings.specs.declared.bindings.Namespace.TheVariants.{Types, Values}
@@ -24,13 +25,13 @@ use Rattle.def_modules.specs.declared.module_data.ModuleOrigin.{ModuleOrigin}
 use Rattle.def_modules.specs.Maps.{pushed, with_module}
 use Rattle.def_modules.specs.MapState.{MapState, ModuleState}
 use Rattle.def_map.specs.Oracle.{Oracle}
-use Rattle.def_modules.specs.Scopes.{declared_in, empty_module, with_child, with_extern_block, with_impl, with_unnamed_const}
+use Rattle.def_modules.specs.Scopes.{declared_in, empty_module, with_child, with_extern_block, with_extern_crate, with_impl, with_unnamed_const}
 use Rattle.def_steps.specs.declared.directive.ImportDirective.{ImportDirective}
 use Rattle.def_collector.specs.declared.collector.items.Written.{Written}
 use Rattle.def_rules.specs.Performs.{Handled, IsDone, Performs, Updated}
 use Rattle.def_steps.specs.Shown.{pending_of}
 use Rattle.def_collector.specs.Collector.{queued}
-use Rattle.def_rules.specs.Items.{add_module, ctor_vis, declare, declared_entry, Handles, loc_of, module_item, next_module, pending_imports, position_of, put_declared, struct_effect, written_vis, container_of, declared_effect, Declares, noted_in, walk}
+use Rattle.def_rules.specs.Items.{add_module, crate_effect, crate_name, ctor_vis, declare, declared_entry, Handles, loc_of, module_item, named_crate, next_module, pending_imports, position_of, put_declared, struct_effect, written_vis, container_of, declared_effect, Declares, noted_in, walk}
 use Rattle.def_parts.specs.Directories.{Directory}
 use Rattle.def_rules.specs.State.{State, Effect, PendingImport, Site, Task, only, with_map, order, followed_by, module_site}
 use Rattle.def_rules.specs.Steps.{Leads}
@@ -39,6 +40,7 @@ use Rattle.item_tree.specs.Trees.{children_of, children_of_kind}
 use Rattle.def_ids.specs.declared.ids.ItemContainerId.TheVariants as contained
 use Rattle.def_bindings.specs.declared.bindings.Namespace.{Namespace}
 use Rattle.def_modules.specs.declared.module_data.ModuleOrigin.TheVariants.{Inline}
+use Rattle.def_rules.specs.WorkLaws.{crate_session}
 use Rattle.def_rules.specs.StepsLaws.{leads_refl, performs_none, performs_updated}
 
 module _ (oracle : Oracle) (s s1 t : State) (at : ModuleId) (name : Name) (d : Def) (vis : Visibility) (given : Option Visibility) where
@@ -220,19 +222,43 @@ module _ (oracle : Oracle) (s t : State) (session : Session) (site : Site) (item
         done = record { puts = []; tasks = refl; performs = subst (λ u. Performs oracle [] effect.state u) (sym after) (performs_none effect.state); session = ap (λ (u : State). u.session) after };
       }
 
+  -- an extern crate
+  pub handled_extern_crate : (name : Name) (raw : RawVisibility) (alias : Option ImportAlias) (u : State) (bound : Option Name) (vis : Visibility) (root : Option ModuleId)
+      → item.kind ≡ ExternCrate name raw alias → session.item ExternCrateItem n ≡ Some (in_module site.scope position) → u ≡ noted_in kept site.scope (with_extern_crate (record { 0 = n }))
+      → bound ≡ crate_name name alias → vis ≡ written_vis oracle kept site.scope raw → root ≡ named_crate kept name
+      → (let effect = crate_effect u site item (record { 0 = n }) bound vis root in Performs oracle effect.tasks effect.state t)
+      → t.session ≡ session → Handled oracle s t site item []
+  handled_extern_crate name raw alias u bound vis root kind numbered noted named seen found after same =
+      let begun : State = noted_in kept site.scope (with_extern_crate (record { 0 = n })) in
+      let effect : Effect = crate_effect u site item (record { 0 = n }) bound vis root in
+      let number : session.item ExternCrateItem n ≡ Some (loc_of site ExternCrateItem item) = numbered ∙ ap (λ p. Some (in_module site.scope p)) placed in
+      let is : effect ≡ crate_effect begun site item (record { 0 = n }) (crate_name name alias) (written_vis oracle kept site.scope raw) (named_crate kept name) =
+      ap (λ x. crate_effect x site item (record { 0 = n }) bound vis root) noted
+      ∙ ap (λ x. crate_effect begun site item (record { 0 = n }) x vis root) named
+      ∙ ap (λ x. crate_effect begun site item (record { 0 = n }) (crate_name name alias) x root) seen
+      ∙ ap (λ x. crate_effect begun site item (record { 0 = n }) (crate_name name alias) (written_vis oracle kept site.scope raw) x) found in
+      record {
+        effect = effect;
+        handled = (session, grows, subst (λ k. Handles oracle kept site item k effect) (sym kind) (n, number, is));
+        done = record { puts = effect.tasks; tasks = sym (append-nil effect.tasks); performs = after; session = same ∙ sym left };
+      }
+    where
+      left : (crate_effect u site item (record { 0 = n }) bound vis root).state.session ≡ session
+      left = crate_session u site item (record { 0 = n }) bound vis root ∙ ap (λ (x : State). x.session) noted
+
   -- an extern block, whose items are walked in the same module
   pub handled_extern_block : (children items : List ModItemId) (directory : Directory) → item.kind ≡ ExternBlock children → items ≡ children → directory ≡ site.directory
       → session.item ExternBlockItem n ≡ Some (in_module site.scope position) → t ≡ noted_in kept site.scope (with_extern_block (record { 0 = n }))
-      → Handled oracle s t site item (walk (record site { container = contained.ExternBlock (record { 0 = n }); directory = directory }) items)
+      → Handled oracle s t site item (walk oracle (record site { container = contained.ExternBlock (record { 0 = n }); directory = directory }) items)
   handled_extern_block children items directory kind same_items same_directory numbered after =
-      let effect : Effect = followed_by (noted_in kept site.scope (with_extern_block (record { 0 = n }))) (walk (record site { container = contained.ExternBlock (record { 0 = n }) }) children) in
+      let effect : Effect = followed_by (noted_in kept site.scope (with_extern_block (record { 0 = n }))) (walk oracle (record site { container = contained.ExternBlock (record { 0 = n }) }) children) in
       record {
         effect = effect;
         handled = (session, grows, subst (λ k. Handles oracle kept site item k effect) (sym kind) (n, numbered ∙ ap (λ p. Some (in_module site.scope p)) placed, refl));
         done = record {
           puts = [];
-          tasks = ap (λ d. walk (record site { container = contained.ExternBlock (record { 0 = n }); directory = d }) children) (sym same_directory)
-              ∙ ap (λ l. walk (record site { container = contained.ExternBlock (record { 0 = n }); directory = directory }) l) (sym same_items);
+          tasks = ap (λ d. walk oracle (record site { container = contained.ExternBlock (record { 0 = n }); directory = d }) children) (sym same_directory)
+              ∙ ap (λ l. walk oracle (record site { container = contained.ExternBlock (record { 0 = n }); directory = directory }) l) (sym same_items);
           performs = subst (λ u. Performs oracle [] effect.state u) (sym after) (performs_none effect.state);
           session = ap (λ (u : State). u.session) after;
         };

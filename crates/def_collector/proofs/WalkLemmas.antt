@@ -8,14 +8,14 @@ use Rattle.item_tree.specs.declared.ids.ModItemId.{ModItemId}
 use Rattle.item_tree.specs.declared.name.Name.{Name}
 use Rattle.def_map.specs.Oracle.{Oracle}
 use Rattle.def_collector.specs.declared.collector.walk.Frame.{Frame}
-use Rattle.def_collector.specs.Collector.{agenda_of, frame_site, left_of, walk_measure}
+use Rattle.def_collector.specs.Collector.{agenda_of, list_site, listed, left_of, walk_measure}
 use Rattle.def_rules.specs.Work.{task_work, work}
 use Rattle.def_rules.specs.Items.{visits}
 use Rattle.def_rules.specs.State.{Task, Visit}
 
 -- a frame's items
 abbrev pub frame_tasks : Frame → List Task
-frame_tasks frame = visits (frame_site frame) (left_of frame)
+frame_tasks frame = visits (list_site frame.list) (left_of frame)
 
 -- the last frame comes first
 pub agenda_of-push : (frames : List Frame) (frame : Frame) → agenda_of (frames ++ frame ∷ []) ≡ frame_tasks frame ++ agenda_of frames
@@ -35,27 +35,27 @@ agenda_of-one frame = refl
 
 -- a frame that has nothing left is no work
 pub agenda_of-done : (frames : List Frame) (frame : Frame) → left_of frame ≡ [] → agenda_of (frames ++ frame ∷ []) ≡ agenda_of frames
-agenda_of-done frames frame done = agenda_of-push frames frame ∙ ap (λ left. visits (frame_site frame) left ++ agenda_of frames) done
+agenda_of-done frames frame done = agenda_of-push frames frame ∙ ap (λ left. visits (list_site frame.list) left ++ agenda_of frames) done
 
 -- the frame once its next item was taken
 abbrev pub after_turn : Frame → Frame
 after_turn frame = record frame { next = frame.next + 1 }
 
 -- the next item, and those after it
-pub left_of-cons : (frame : Frame) (id : ModItemId) → Some id ≡ slice_get frame.items.now frame.next → left_of frame ≡ id ∷ left_of (after_turn frame)
+pub left_of-cons : (frame : Frame) (id : ModItemId) → Some id ≡ slice_get (listed frame) frame.next → left_of frame ≡ id ∷ left_of (after_turn frame)
 left_of-cons frame id found =
-    let within : frame.next < length frame.items.now = slice_get_within frame.items.now frame.next id (sym found) in
-    drop-cons frame.items.now frame.next id within
-    ∙ ap (λ x. x ∷ drop (suc frame.next) frame.items.now) (get_or_from_slice_get frame.items.now frame.next id id (sym found))
-    ∙ ap (λ n. id ∷ drop n frame.items.now) (sym (add-one frame.next))
+    let within : frame.next < length (listed frame) = slice_get_within (listed frame) frame.next id (sym found) in
+    drop-cons (listed frame) frame.next id within
+    ∙ ap (λ x. x ∷ drop (suc frame.next) (listed frame)) (get_or_from_slice_get (listed frame) frame.next id id (sym found))
+    ∙ ap (λ n. id ∷ drop n (listed frame)) (sym (add-one frame.next))
 
 -- the last frame's next item comes first
-pub agenda_of-next : (frames : List Frame) (frame : Frame) (id : ModItemId) → Some id ≡ slice_get frame.items.now frame.next
-    → agenda_of (frames ++ frame ∷ []) ≡ Visit (frame_site frame) id ∷ agenda_of (frames ++ after_turn frame ∷ [])
+pub agenda_of-next : (frames : List Frame) (frame : Frame) (id : ModItemId) → Some id ≡ slice_get (listed frame) frame.next
+    → agenda_of (frames ++ frame ∷ []) ≡ Visit (list_site frame.list) id ∷ agenda_of (frames ++ after_turn frame ∷ [])
 agenda_of-next frames frame id found =
     agenda_of-push frames frame
-    ∙ ap (λ left. visits (frame_site frame) left ++ agenda_of frames) (left_of-cons frame id found)
-    ∙ ap (λ agenda. Visit (frame_site frame) id ∷ agenda) (sym (agenda_of-push frames (after_turn frame)))
+    ∙ ap (λ left. visits (list_site frame.list) left ++ agenda_of frames) (left_of-cons frame id found)
+    ∙ ap (λ agenda. Visit (list_site frame.list) id ∷ agenda) (sym (agenda_of-push frames (after_turn frame)))
 
 module _ (oracle : Oracle) (texts : Name → List ℕ) where
   -- one frame more
@@ -67,11 +67,11 @@ module _ (oracle : Oracle) (texts : Name → List ℕ) where
       omega (arith, parts, long)
 
   -- one item less
-  pub measure_next : (frames : List Frame) (frame : Frame) (id : ModItemId) → Some id ≡ slice_get frame.items.now frame.next
-      → walk_measure oracle texts (frames ++ frame ∷ []) ≡ task_work oracle texts (Visit (frame_site frame) id) + walk_measure oracle texts (frames ++ after_turn frame ∷ [])
+  pub measure_next : (frames : List Frame) (frame : Frame) (id : ModItemId) → Some id ≡ slice_get (listed frame) frame.next
+      → walk_measure oracle texts (frames ++ frame ∷ []) ≡ task_work oracle texts (Visit (list_site frame.list) id) + walk_measure oracle texts (frames ++ after_turn frame ∷ [])
   measure_next frames frame id found =
-      let parts : work oracle texts (agenda_of (frames ++ frame ∷ [])) ≡ task_work oracle texts (Visit (frame_site frame) id) + work oracle texts (agenda_of (frames ++ after_turn frame ∷ [])) =
-      ap (work oracle texts) (agenda_of-next frames frame id found) ∙ sum_by-cons (task_work oracle texts) (Visit (frame_site frame) id) (agenda_of (frames ++ after_turn frame ∷ [])) in
+      let parts : work oracle texts (agenda_of (frames ++ frame ∷ [])) ≡ task_work oracle texts (Visit (list_site frame.list) id) + work oracle texts (agenda_of (frames ++ after_turn frame ∷ [])) =
+      ap (work oracle texts) (agenda_of-next frames frame id found) ∙ sum_by-cons (task_work oracle texts) (Visit (list_site frame.list) id) (agenda_of (frames ++ after_turn frame ∷ [])) in
       let before = length_push frames frame in
       let after = length_push frames (after_turn frame) in
       omega (arith, parts, before, after)

@@ -1,9 +1,11 @@
 -- What the collector's parts stand for.
-use Rattle.std.specs.Prelude.{◌≡◌, ℕ, ◌+◌, false, List, [], ◌∷◌, ◌++◌, length, map, filter_map, drop, Option, Some, None, option_map, slice_get}
+use Rattle.std.specs.declared.alloc.Global.{Global}
+use Rattle.std.specs.Prelude.{◌≡◌, ℕ, ◌+◌, false, List, [], ◌∷◌, ◌++◌, length, map, filter_map, drop, Option, Some, None, option_map, slice_get, Vec}
 use Rattle.item_tree.specs.declared.ids.ModItemId.{ModItemId}
 use Rattle.item_tree.specs.declared.ids.TreeId.{TreeId}
 use Rattle.item_tree.specs.declared.items.UseImport.{UseImport}
 use Rattle.item_tree.specs.declared.name.Name.{Name}
+use Rattle.item_tree.specs.declared.tree.ItemTree.{ItemTree}
 use Rattle.def_ids.specs.declared.ids.ModuleId.{ModuleId}
 use Rattle.def_ids.specs.declared.interner.Interner.{Interner}
 use Rattle.def_ids.specs.Equality.{glob_eq}
@@ -23,8 +25,9 @@ use Rattle.def_steps.specs.declared.directive.PartialDirective.{PartialDirective
 use Rattle.def_collector.specs.declared.collector.items.Written.{Written}
 use Rattle.def_collector.specs.declared.collector.modules.FoundFile.{FoundFile as FoundInCode}
 use Rattle.def_collector.specs.declared.collector.walk.Frame.{Frame}
+use Rattle.def_collector.specs.declared.collector.walk.ItemList.{ItemList}
 use Rattle.def_collector.specs.declared.collector.walk.Site.{Site as SiteInCode}
-use Rattle.def_steps.specs.Shown.{pending_of, ns_set, partial_of, directories_of}
+use Rattle.def_steps.specs.Shown.{pending_of, missing_in, ns_set, partial_of, directories_of}
 use Rattle.def_rules.specs.declared.outcome.Collected.{Collected}
 use Rattle.def_rules.specs.Imports.{answer_now, bound_name, is_ready, is_ready_again}
 use Rattle.def_parts.specs.Directories.{FoundFile}
@@ -64,6 +67,8 @@ state_of c session =
       local = local_view c.local_def_map;
       outer = option_map (λ l. local_view l.now) c.crate_local;
       is_proc_macro = c.is_proc_macro;
+      deps = local_view c.deps;
+      missing_crates = missing_in c.missing_crates;
       directories = directories_of c.mod_dirs;
       imports = map pending_of (waiting c.unresolved_imports.items);
       partial = map partial_of (waiting c.indeterminate_imports.items);
@@ -81,36 +86,53 @@ queued at written imports =
 
 -- The stack of frames
 
--- where a frame's items stand
-abbrev pub frame_site : Frame → Site
-frame_site frame = record { scope = frame.module_id; container = frame.container; tree = frame.tree_id; directory = frame.dir }
+-- where the items of a list stand
+abbrev pub list_site : ItemList → Site
+list_site list = record { scope = list.module_id; container = list.container; tree = list.tree_id; directory = list.dir }
+
+-- the tree that a list goes over, if there is one
+abbrev pub tree_in : ItemList → Option ItemTree
+tree_in list = option_map (λ t. t.now) list.tree
 
 -- a file that was found, as it is shown
 abbrev pub found_in : FoundInCode → FoundFile
 found_in found = (found.file, found.is_mod_rs, found.dir)
 
+-- the items of a list in the order of their visits
+abbrev pub listed_in : Option (Vec ModItemId Global) → List ModItemId → List ModItemId
+listed_in None ids = ids
+listed_in (Some sorted) ids = sorted.items
+
+-- the items of a frame in the order of their visits
+abbrev pub listed : Frame → List ModItemId
+listed frame = listed_in frame.sorted frame.list.items.now
+
 -- the items that a frame has left
 abbrev pub left_of : Frame → List ModItemId
-left_of frame = drop frame.next frame.items.now
+left_of frame = drop frame.next (listed frame)
 
 -- the walk of the list that an item opened, if it opened one
-abbrev pub inner_of : Option Frame → List Task
-inner_of None = []
-inner_of (Some frame) = walk (frame_site frame) (left_of frame)
+abbrev pub inner_of : Oracle → Option ItemList → List Task
+inner_of oracle None = []
+inner_of oracle (Some list) = walk oracle (list_site list) list.items.now
 
 -- what is to be visited, where the last frame comes first
 unfoldable pub agenda_of : List Frame → List Task
 agenda_of [] = []
-agenda_of (frame ∷ above) = agenda_of above ++ visits (frame_site frame) (left_of frame)
+agenda_of (frame ∷ above) = agenda_of above ++ visits (list_site frame.list) (left_of frame)
 
--- a frame goes over the tree that the oracle has, or over none
-abbrev pub is_known : Oracle → Frame → Type 0
-is_known oracle frame = oracle.item_tree frame.tree_id ≡ option_map (λ t. t.now) frame.tree
+-- a list goes over the tree that the oracle has, or over none
+abbrev pub is_known : Oracle → ItemList → Type 0
+is_known oracle list = oracle.item_tree list.tree_id ≡ tree_in list
+
+-- so does the list of a frame
+abbrev pub is_frame_known : Oracle → Frame → Type 0
+is_frame_known oracle frame = is_known oracle frame.list
 
 -- so does the list that an item opened
-abbrev pub AreKnown : Oracle → Option Frame → Type 0
+abbrev pub AreKnown : Oracle → Option ItemList → Type 0
 AreKnown oracle None = Unit {0}
-AreKnown oracle (Some frame) = is_known oracle frame
+AreKnown oracle (Some list) = is_known oracle list
 
 -- what is left of the walk: the work of its tasks, and a turn for the end of each frame
 abbrev pub walk_measure : Oracle → (Name → List ℕ) → List Frame → ℕ

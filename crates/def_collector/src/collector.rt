@@ -12,6 +12,7 @@ ghost use Rattle.def_rules.specs.Imports.{NoneReady};
 ghost use Rattle.def_rules.specs.Start.{first_reports, first_tasks, first_tree, site_at, started};
 ghost use Rattle.def_rules.specs.Steps.{Leads};
 
+mod crates;
 mod finish;
 mod globs;
 mod imports;
@@ -25,12 +26,15 @@ use def_ids::{Def, GlobId, Interner, ItemContainerId, MapId, ModuleId};
 use def_map::{DefMap, LocalDefMap, MapData, SourceDatabase, Table};
 use def_parts::{Globs, ModDir};
 use def_rules::{Collected, DefDiagnostic, DefDiagnosticKind};
-use def_steps::{ImportDirective, ModDirs, PartialDirective, is_proc_macro_crate, top_attrs};
+use def_steps::{
+    ImportDirective, MissingCrates, ModDirs, PartialDirective, deps_by_name, is_proc_macro_crate,
+    top_attrs,
+};
 use indexmap::IndexMap;
 use item_tree::{CfgExpr, FileAstId, HirFileId, InFile, Seq, TreeId};
 use modules::{disabled_by, top_items};
 use std::alloc::{AllocError, Global};
-use walk::Frame;
+use walk::ItemList;
 
 /// Walks the tree of items and collects definitions into a map.
 #[derive(Drop)]
@@ -46,6 +50,10 @@ pub struct DefCollector<'a> {
     crate_local: Option<&'a LocalDefMap>,
     /// Whether the crate is one of procedural macros.
     is_proc_macro: bool,
+    /// The crates that the crate depends on, by their names.
+    deps: LocalDefMap,
+    /// The extern crates that were not found.
+    missing_crates: MissingCrates,
     mod_dirs: ModDirs,
     /// Imports that no pass could resolve so far. One that was recorded leaves `None`.
     unresolved_imports: Vec<Option<ImportDirective<'a>>>,
@@ -81,6 +89,7 @@ pub fn collect_defs<D: SourceDatabase>(
 {
     let (data, table) = def_map.into_parts();
     let is_proc_macro = is_proc_macro_crate(db, data.tree.map.krate);
+    let deps = deps_by_name(alloc, db, data.tree.map.krate)?;
     let mut collector = DefCollector {
         alloc,
         def_map: data,
@@ -89,6 +98,8 @@ pub fn collect_defs<D: SourceDatabase>(
         local_def_map: LocalDefMap::new(alloc),
         crate_local,
         is_proc_macro,
+        deps,
+        missing_crates: MissingCrates::new(alloc),
         mod_dirs: ModDirs::new(alloc),
         unresolved_imports: Vec::new(alloc),
         indeterminate_imports: Vec::new(alloc),
@@ -153,13 +164,12 @@ impl<'a> DefCollector<'a> {
         self.walk(
             db,
             session,
-            Frame {
+            ItemList {
                 module_id: ModuleId { map, index: 0 },
                 container: ItemContainerId::Module(ModuleId { map, index: 0 }),
                 tree_id,
                 tree,
                 items: top_items(tree),
-                next: 0,
                 dir: ModDir::root(self.alloc),
             },
         )

@@ -15,6 +15,7 @@ use Rattle.def_bindings.specs.Tree.{AreParentsLower}
 use Rattle.def_map.specs.Fresh.{IsFresh, fresh_by}
 use Rattle.def_modules.specs.MapState.{MapState}
 use Rattle.def_parts.specs.ListLaws.{none_in}
+use Rattle.def_map.specs.Oracle.{Oracle}
 use Rattle.def_rules.specs.Closed.{AreOwn, AreOwnTasks, AreSound, IsOwn, Stands}
 use Rattle.def_rules.specs.Globs.{Targets}
 use Rattle.def_rules.specs.Items.{top_items, tree_cfg}
@@ -66,9 +67,9 @@ own_empty m targets has = record {
   listed = λ at name ns b h. absurd cc;
 }
 
-walk_own : (m : MapState) (targets : Targets) (site : Site) (ids : List ModItemId) (cfg : Option CfgExpr) → IsOwn m site.scope → AreOwnTasks m targets (first_walk site ids cfg)
-walk_own m targets site ids None own = own_walk m targets site ids own
-walk_own m targets site ids (Some cfg) own = tt
+walk_own : (oracle : Oracle) (m : MapState) (targets : Targets) (site : Site) (ids : List ModItemId) (cfg : Option CfgExpr) → IsOwn m site.scope → AreOwnTasks m targets (first_walk oracle site ids cfg)
+walk_own oracle m targets site ids None own = own_walk oracle m targets site ids own
+walk_own oracle m targets site ids (Some cfg) own = tt
 
 -- what a run begins with stands in the seeded map, whatever is known of the crate
 pub begins_own : (w : Setting) (before : Session) (content : Content Visibility) → IsFresh w.seeded content → Stands (first_tasks w.oracle w.seeded w.tree) (started w.oracle w.tree (seeded_state w before))
@@ -78,5 +79,5 @@ begins_own w before content fresh =
     let one : length m.parents ≡ 1 = root.one in
     record {
       state = own_empty m (λ glob. None) (record { one = one; even = root.even; lower = root.lower });
-      tasks = walk_own m (λ glob. None) (first_site w.oracle w.seeded w.tree) (top_items w.oracle (first_tree w.oracle w.seeded.id w.tree)) (tree_cfg w.oracle (first_tree w.oracle w.seeded.id w.tree)) (refl, omega arith);
+      tasks = walk_own w.oracle m (λ glob. None) (first_site w.oracle w.seeded w.tree) (top_items w.oracle (first_tree w.oracle w.seeded.id w.tree)) (tree_cfg w.oracle (first_tree w.oracle w.seeded.id w.tree)) (refl, omega arith);
     }

@@ -25,7 +25,7 @@ use Rattle.def_map.specs.declared.source_database.Dependency.{Dependency}
 use Rattle.def_map.specs.declared.source_database.LangCrate.{LangCrate}
 use Rattle.def_map.specs.declared.source_database.LangCrate.TheVariants.{Core, Std}
 use Rattle.def_modules.specs.MapState.{CrateState}
-use Rattle.def_modules.specs.MapView.{ExternCrateEntry, LocalView}
+use Rattle.def_modules.specs.MapView.{ExternCrateEntry, LocalView, empty_local}
 use Rattle.def_map.specs.Oracle.{Oracle}
 use Rattle.def_map.specs.Paths.{for_module, module_found, resolve}
 use Rattle.def_modules.specs.Updates.{set_where}
@@ -102,6 +102,19 @@ is_proc_macro_crate oracle krate = option_map_or (λ data_of. data_of.proc_macro
 -- the crates that a crate depends on; none of a crate that is not known
 abbrev pub deps_of : Oracle → Crate → List Dependency
 deps_of oracle krate = option_map_or (λ data_of. data_of.deps) (oracle.crate_data krate) []
+
+-- the names of crates with one dependency more, which takes the place of an earlier one of its name
+abbrev pub with_dep : Dependency → LocalView → LocalView
+with_dep dep known = record { extern_prelude = set_where (is_name dep.name) (Some (record { root = crate_root dep.krate; by = None })) known.extern_prelude }
+
+-- the names of crates with all these dependencies, in order
+abbrev pub with_all_deps : List Dependency → LocalView → LocalView
+with_all_deps [] known = known
+with_all_deps (dep ∷ deps) known = with_all_deps deps (with_dep dep known)
+
+-- the crates that a crate depends on, by their names
+abbrev pub deps_by_name : Oracle → Crate → LocalView
+deps_by_name oracle krate = with_all_deps (deps_of oracle krate) empty_local
 
 -- which crate of the language a crate is, if it is one
 abbrev pub lang_of : Oracle → Crate → Option LangCrate

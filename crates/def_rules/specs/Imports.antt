@@ -18,7 +18,7 @@ use Rattle.def_ids.specs.declared.ids.ModuleId.{ModuleId}
 use Rattle.def_bindings.specs.declared.bindings.EdgeTo.{EdgeTo}
 use Rattle.def_bindings.specs.declared.bindings.Entry.{Entry}
 use Rattle.def_bindings.specs.declared.bindings.ImportOrExternCrate.{ImportOrExternCrate}
-use Rattle.def_bindings.specs.declared.bindings.ImportOrExternCrate.TheVariants.{Import}
+use Rattle.def_bindings.specs.declared.bindings.ImportOrExternCrate.TheVariants.{Import, ExternCrate}
 use Rattle.def_bindings.specs.declared.bindings.Namespace.{Namespace}
 use Rattle.def_bindings.specs.declared.bindings.Namespace.TheVariants.{Types, Values, Macros}
 use Rattle.def_bindings.specs.declared.visibility.Visibility.{Visibility}
@@ -140,11 +140,30 @@ entry_of order pending vis name ns (Some item) =
     (record { name = name; ns = ns; def = item.def; vis = lessened order item.vis vis; origin = Some (origin_of pending) } ∷ [])
     []
 
+-- a path without a word before its first segment, or after `self`
+abbrev pub is_plain_or_self : PathKind → Bool
+is_plain_or_self Plain = true
+is_plain_or_self (Super n) = nat_eq n 0
+is_plain_or_self _ = false
+
+-- whether an extern crate made a binding
+abbrev pub is_by_crate : Option ImportOrExternCrate → Bool
+is_by_crate (Some (ExternCrate id)) = true
+is_by_crate _ = false
+
+-- an extern crate that is imported by its name alone is as visible as the import
+abbrev pub reexported : ModPath → Visibility → Item → Item
+reexported path vis item = cond (is_by_crate item.import && (is_plain_or_self path.kind && nat_lt (length path.segments) 2)) (record item { vis = vis }) item
+
+-- what an import of this visibility takes of an answer in types
+abbrev pub taken_types : ModPath → Visibility → ResolvePathResult → Option Item
+taken_types path vis answer = option_map (reexported path vis) (kept_item answer answer.resolved_def.types)
+
 -- the entries of a named import, one in each namespace that its path gives
 abbrev pub named_entries : Order Visibility → PendingImport → Visibility → ResolvePathResult → Option (Option Name) → List (Entry Visibility)
 named_entries order pending vis answer None = []
 named_entries order pending vis answer (Some name) =
-    entry_of order pending vis name Types (kept_item answer answer.resolved_def.types)
+    entry_of order pending vis name Types (taken_types pending.import.path vis answer)
     ++ (entry_of order pending vis name Values (kept_item answer answer.resolved_def.values)
     ++ entry_of order pending vis name Macros (kept_item answer answer.resolved_def.macros))
 

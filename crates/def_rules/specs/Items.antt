@@ -1,5 +1,5 @@
 -- What visiting an item does, by its kind.
-use Rattle.std.specs.Prelude.{◌≡◌, ℕ, List, [], ◌∷◌, ◌++◌, length, map, Option, None, Some, Result, Ok, Err, option_and_then, option_map, slice_get, unwrap_or}
+use Rattle.std.specs.Prelude.{◌≡◌, ℕ, nat_eq, Bool, true, false, cond, not, ◌&&◌, List, [], ◌∷◌, ◌++◌, filter, length, map, Option, None, Some, Result, Ok, Err, option_and_then, option_map, is_some, slice_get, unwrap_or}
 use Rattle.item_tree.specs.declared.ids.CfgExpr.{CfgExpr}
 use Rattle.item_tree.specs.declared.ids.FileAstId.{FileAstId}
 use Rattle.item_tree.specs.declared.ids.HirFileId.TheVariants.{File}
@@ -8,41 +8,51 @@ use Rattle.item_tree.specs.declared.ids.ModItemId.{ModItemId}
 use Rattle.item_tree.specs.declared.ids.TreeId.{TreeId}
 use Rattle.item_tree.specs.declared.items.CtorVisibility.{CtorVisibility}
 use Rattle.item_tree.specs.declared.items.CtorVisibility.TheVariants.{NoValueNsCtor, ValueNsCtorWithVis, ValueNsCtorWithMinVis}
+use Rattle.item_tree.specs.declared.items.ImportAlias.{ImportAlias}
 use Rattle.item_tree.specs.declared.items.ItemNode.{ItemNode}
 use Rattle.item_tree.specs.declared.items.ModContents.{ModContents}
 use Rattle.item_tree.specs.declared.items.ModContents.TheVariants.{Inline, Outline}
 use Rattle.item_tree.specs.declared.items.ModItemKind.{ModItemKind}
-use Rattle.item_tree.specs.declared.items.ModItemKind.TheVariants.{Mod, Use, ExternBlock, Impl, Struct, Union, Enum, Function, Const, Static, Trait, TypeAlias}
+use Rattle.item_tree.specs.declared.items.ModItemKind.TheVariants.{Mod, Use, ExternCrate, ExternBlock, Impl, Struct, Union, Enum, Function, Const, Static, Trait, TypeAlias}
 use Rattle.item_tree.specs.declared.items.RawVisibility.{RawVisibility}
 use Rattle.item_tree.specs.declared.items.UseImport.{UseImport}
 use Rattle.item_tree.specs.declared.name.Name.{Name}
+use Rattle.item_tree.specs.declared.tree.ItemTree.{ItemTree}
+use Rattle.item_tree.specs.KnownNames.{name_eq, self_name}
 use Rattle.item_tree.specs.Attrs.{cfg_in, disabled_by, path_attr}
 use Rattle.def_ids.specs.declared.ids.Def.{Def}
 use Rattle.def_ids.specs.declared.ids.Def.TheVariants as def
+use Rattle.def_ids.specs.declared.ids.ExternCrateId.{ExternCrateId}
 use Rattle.def_ids.specs.declared.ids.ItemContainerId.{ItemContainerId}
 use Rattle.def_ids.specs.declared.ids.ItemContainerId.TheVariants as contained
 use Rattle.def_ids.specs.declared.ids.ModuleId.{ModuleId}
 use Rattle.def_ids.specs.declared.ids.UseId.{UseId}
+use Rattle.def_ids.specs.Ids.{crate_root}
 use Rattle.def_ids.specs.Session.{Session, Grows, ItemKind, ItemLoc, FunctionItem, StructItem, UnionItem, EnumItem, ConstItem, StaticItem, TraitItem, TypeAliasItem, ImplItem, UseItem, ExternCrateItem, ExternBlockItem, in_container}
 use Rattle.def_bindings.specs.declared.bindings.Entry.{Entry}
+use Rattle.def_bindings.specs.declared.bindings.ImportOrExternCrate.TheVariants.{ExternCrate as ByCrate}
 use Rattle.def_bindings.specs.declared.bindings.Namespace.{Namespace}
 use Rattle.def_bindings.specs.declared.bindings.Namespace.TheVariants.{Types, Values}
 use Rattle.def_bindings.specs.declared.visibility.Visibility.{Visibility}
 use Rattle.def_bindings.specs.declared.visibility.Visibility.TheVariants.{Public}
+use Rattle.def_bindings.specs.Content.{is_name}
 use Rattle.def_bindings.specs.Order.{Order, lesser_of}
 use Rattle.def_bindings.specs.Puts.{lessened}
 use Rattle.def_modules.specs.declared.module_data.ModuleOrigin.{ModuleOrigin}
 use Rattle.def_modules.specs.declared.module_data.ModuleOrigin.TheVariants as origin
 use Rattle.def_modules.specs.Maps.{pushed, with_module}
 use Rattle.def_modules.specs.MapState.{ModuleState}
-use Rattle.def_modules.specs.Scopes.{declared_in, empty_module, with_child, with_extern_block, with_impl, with_unnamed_const}
+use Rattle.def_modules.specs.MapView.{ExternCrateEntry, LocalView}
+use Rattle.def_modules.specs.Updates.{set_where}
+use Rattle.def_modules.specs.Scopes.{declared_in, empty_module, with_child, with_extern_block, with_extern_crate, with_impl, with_unnamed_const}
 use Rattle.def_map.specs.Oracle.{Oracle}
 use Rattle.def_map.specs.Paths.{resolve_visibility}
 use Rattle.def_parts.specs.Directories.{Directory, FoundFile, descend, files_of, resolve_declaration}
 use Rattle.def_rules.specs.declared.diagnostics.DefDiagnostic.{DefDiagnostic}
 use Rattle.def_rules.specs.declared.diagnostics.DefDiagnosticKind.{DefDiagnosticKind}
-use Rattle.def_rules.specs.declared.diagnostics.DefDiagnosticKind.TheVariants.{UnconfiguredCode, UnresolvedModule}
-use Rattle.def_rules.specs.State.{State, Effect, only, followed_by, reported, with_map, Site, module_site, Task, Enter, Visit, Put, PendingImport, world, order}
+use Rattle.def_rules.specs.declared.diagnostics.DefDiagnosticKind.TheVariants.{UnconfiguredCode, UnresolvedExternCrate, UnresolvedModule}
+use Rattle.def_rules.specs.Imports.{alias_name}
+use Rattle.def_rules.specs.State.{State, Effect, only, followed_by, reported, with_map, with_missing, Site, module_site, Task, Enter, Visit, Put, PendingImport, world, order}
 
 -- an item of a tree; a tree that is not there has none
 abbrev pub node_at : Oracle → TreeId → ModItemId → Option ItemNode
@@ -56,13 +66,39 @@ top_items oracle tree = unwrap_or (option_map (λ t. t.top) (oracle.item_tree tr
 abbrev pub tree_cfg : Oracle → TreeId → Option CfgExpr
 tree_cfg oracle tree = option_and_then (λ t. cfg_in t.attrs) (oracle.item_tree tree)
 
+-- whether an item of this kind is an extern crate
+abbrev pub is_extern_crate : ModItemKind → Bool
+is_extern_crate (ExternCrate name vis alias) = true
+is_extern_crate _ = false
+
+-- whether an item is there, and is an extern crate
+abbrev pub is_crate_node : Option ItemNode → Bool
+is_crate_node None = false
+is_crate_node (Some node) = is_extern_crate node.kind
+
+-- whether the item of a number is an extern crate
+abbrev pub names_crate : Option ItemTree → ModItemId → Bool
+names_crate tree id = is_crate_node (option_and_then (λ t. slice_get t.items id.0) tree)
+
+-- extern crates before all other items, each group in order
+abbrev pub crates_first : Option ItemTree → List ModItemId → List ModItemId
+crates_first tree ids = filter (names_crate tree) ids ++ filter (λ id. not (names_crate tree id)) ids
+
+-- whether a module is the root of a crate, and not of a block
+abbrev pub is_crate_root : ModuleId → Bool
+is_crate_root m = nat_eq m.index 0 && not (is_some m.map.block)
+
+-- the order in which the items of a list are visited: at a crate's root extern crates go first
+abbrev pub ordered : Option ItemTree → ModuleId → List ModItemId → List ModItemId
+ordered tree at ids = cond (is_crate_root at) (crates_first tree ids) ids
+
 -- each item of a list is visited in order
 abbrev pub visits : Site → List ModItemId → List Task
 visits site ids = map (λ id. Visit site id) ids
 
--- a walk of a list: the directory is stored, and then each item is visited
-abbrev pub walk : Site → List ModItemId → List Task
-walk site ids = Enter site.scope site.directory ∷ visits site ids
+-- a walk of a list: the directory is stored, and then each item is visited, at a crate's root extern crates first
+abbrev pub walk : Oracle → Site → List ModItemId → List Task
+walk oracle site ids = Enter site.scope site.directory ∷ visits site (ordered (oracle.item_tree site.tree) site.scope ids)
 
 -- an item's position
 abbrev pub position_of : Site → ItemNode → InFile FileAstId
@@ -134,9 +170,9 @@ abbrev pub inner_site : State → TreeId → Directory → Site
 inner_site s tree directory = module_site (next_module s) tree directory
 
 -- an inline module's contents; a module that lies too deep keeps none
-abbrev pub inline_contents : State → Site → List ModItemId → Option Directory → List Task
-inline_contents s site children None = []
-inline_contents s site children (Some directory) = walk (inner_site s site.tree directory) children
+abbrev pub inline_contents : Oracle → State → Site → List ModItemId → Option Directory → List Task
+inline_contents oracle s site children None = []
+inline_contents oracle s site children (Some directory) = walk oracle (inner_site s site.tree directory) children
 
 -- a name's text; an unknown name has none
 abbrev pub name_text : Session → Name → List ℕ
@@ -151,7 +187,7 @@ abbrev pub outline_found : Oracle → State → Site → ItemNode → Name → V
 outline_found oracle s site item name vis found (Some cfg) = only (reported s (diagnostic site item (UnconfiguredCode cfg)))
 outline_found oracle s site item name vis found None =
     module_effect s site name vis (origin.File item.ast_id site.tree found.0 found.1)
-    (walk (inner_site s (file_tree found) found.2) (top_items oracle (file_tree found)))
+    (walk oracle (inner_site s (file_tree found) found.2) (top_items oracle (file_tree found)))
 
 -- an outline module whose file is not found is declared empty, and reported with the files that were looked for
 abbrev pub outline_item : Oracle → State → Site → ItemNode → Name → Visibility → Result FoundFile (List (List ℕ)) → Effect
@@ -163,7 +199,7 @@ outline_item oracle s site item name vis (Err files) =
 abbrev pub module_item : Oracle → State → Site → ItemNode → Name → Visibility → ModContents → Effect
 module_item oracle s site item name vis (Inline children) =
     module_effect s site name vis (origin.Inline item.ast_id site.tree)
-    (inline_contents s site children (descend site.directory (name_text s.session name) (path_attr item.attrs)))
+    (inline_contents oracle s site children (descend site.directory (name_text s.session name) (path_attr item.attrs)))
 module_item oracle s site item name vis Outline =
     outline_item oracle s site item name vis
     (resolve_declaration (files_of oracle) site.tree.file site.directory (name_text s.session name) (path_attr item.attrs))
@@ -212,14 +248,48 @@ Declares oracle s site item kind d ns name raw effect =
 abbrev pub noted_in : State → ModuleId → (ModuleState → ModuleState) → State
 noted_in s at change = with_map s (with_module s.map at.index change)
 
+-- Extern crates
+
+-- the name that an extern crate binds: its alias, else its own; None is `_`
+abbrev pub crate_name : Name → Option ImportAlias → Option Name
+crate_name name None = Some name
+crate_name name (Some alias) = alias_name alias
+
+-- the root of a named crate, if it is found: `self` is this crate, and any other a dependency
+abbrev pub named_crate : State → Name → Option ModuleId
+named_crate s name = cond (name_eq name self_name) (Some (crate_root s.map.id.krate)) (option_map (λ entry. entry.root) (s.deps.extern_prelude name))
+
+-- the names of crates with this one, in the place of an earlier one of its name
+abbrev pub with_crate : Option Name → ExternCrateEntry → LocalView → LocalView
+with_crate None entry known = known
+with_crate (Some name) entry known = record { extern_prelude = set_where (is_name name) (Some entry) known.extern_prelude }
+
+-- paths may begin with an extern crate that stands at a crate's root
+abbrev pub naming_crate : Bool → Option Name → ExternCrateEntry → State → State
+naming_crate false name entry s = s
+naming_crate true name entry s = record s { local = with_crate name entry s.local }
+
+-- the entry of an extern crate
+abbrev pub crate_entry : ExternCrateId → Option Name → ModuleId → Visibility → Entry Visibility
+crate_entry id name root vis = record { name = name; ns = Types; def = def.Module root; vis = vis; origin = Some (ByCrate id) }
+
+-- an extern crate: one that is not found is reported, and its name remembered; any other is put in types
+abbrev pub crate_effect : State → Site → ItemNode → ExternCrateId → Option Name → Visibility → Option ModuleId → Effect
+crate_effect s site item id name vis None = only (reported (with_missing name s) (diagnostic site item UnresolvedExternCrate))
+crate_effect s site item id name vis (Some root) =
+    followed_by (naming_crate (is_crate_root site.scope) name (record { root = root; by = Some id }) s) (Put site.scope (crate_entry id name root vis) ∷ [])
+
 -- an item is handled, by its kind
 abbrev pub Handles : Oracle → State → Site → ItemNode → ModItemKind → Effect → Type 0
 Handles oracle s site item (Mod name raw contents) effect = effect ≡ module_item oracle s site item name (written_vis oracle s site.scope raw) contents
 Handles oracle s site item (Use raw imports) effect =
     (n : ℕ) × IsNumber s UseItem site item n × (effect ≡ only (record s { imports = s.imports ++ pending_imports site item (record { 0 = n }) raw imports }))
+Handles oracle s site item (ExternCrate name raw alias) effect =
+    (n : ℕ) × IsNumber s ExternCrateItem site item n
+    × (effect ≡ crate_effect (noted_in s site.scope (with_extern_crate (record { 0 = n }))) site item (record { 0 = n }) (crate_name name alias) (written_vis oracle s site.scope raw) (named_crate s name))
 Handles oracle s site item (ExternBlock children) effect =
     (n : ℕ) × IsNumber s ExternBlockItem site item n
-    × (effect ≡ followed_by (noted_in s site.scope (with_extern_block (record { 0 = n }))) (walk (record site { container = contained.ExternBlock (record { 0 = n }) }) children))
+    × (effect ≡ followed_by (noted_in s site.scope (with_extern_block (record { 0 = n }))) (walk oracle (record site { container = contained.ExternBlock (record { 0 = n }) }) children))
 Handles oracle s site item (Impl of_trait) effect =
     (n : ℕ) × IsNumber s ImplItem site item n × (effect ≡ only (noted_in s site.scope (with_impl (record { 0 = n }) of_trait)))
 Handles oracle s site item (Struct name raw ctor) effect =

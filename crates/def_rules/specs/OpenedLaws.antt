@@ -1,5 +1,5 @@
 -- What an item's visit opens: tasks within the map, and none for a glob.
-use Rattle.std.proofs.Common.{◌≡◌, ◌⊎◌, ◌+◌, ℕ, List, [], ◌∷◌, ◌++◌, map, length, Option, Some, None, Result, Ok, Err, Contains, refl, sym, ap, ◌∙◌, subst, inl, inr}
+use Rattle.std.proofs.Common.{◌≡◌, ◌⊎◌, ◌+◌, ℕ, Bool, true, false, List, [], ◌∷◌, ◌++◌, map, length, Option, Some, None, Result, Ok, Err, Contains, refl, sym, ap, ◌∙◌, subst, inl, inr}
 use Rattle.std.proofs.lemmas.List.Elements.{Contains-append_cases}
 use Rattle.item_tree.specs.declared.ids.CfgExpr.{CfgExpr}
 use Rattle.item_tree.specs.declared.ids.ModItemId.{ModItemId}
@@ -7,7 +7,7 @@ use Rattle.item_tree.specs.declared.items.ItemNode.{ItemNode}
 use Rattle.item_tree.specs.declared.items.ModContents.{ModContents}
 use Rattle.item_tree.specs.declared.items.ModContents.TheVariants.{Inline, Outline}
 use Rattle.item_tree.specs.declared.items.ModItemKind.{ModItemKind}
-use Rattle.item_tree.specs.declared.items.ModItemKind.TheVariants.{Mod, Use, Struct, ExternBlock, Impl, Union, Enum, Function, Const, Static, Trait, TypeAlias}
+use Rattle.item_tree.specs.declared.items.ModItemKind.TheVariants.{Mod, Use, Struct, ExternCrate, ExternBlock, Impl, Union, Enum, Function, Const, Static, Trait, TypeAlias}
 use Rattle.item_tree.specs.declared.items.RawVisibility.{RawVisibility}
 use Rattle.item_tree.specs.declared.items.UseImport.{UseImport}
 use Rattle.item_tree.specs.declared.name.Name.{Name}
@@ -15,12 +15,13 @@ use Rattle.item_tree.specs.Attrs.{disabled_by, path_attr}
 use Rattle.def_ids.specs.declared.ids.Def.{Def}
 use Rattle.def_ids.specs.declared.ids.Def.TheVariants as def
 use Rattle.def_ids.specs.declared.ids.ExternBlockId.{ExternBlockId}
+use Rattle.def_ids.specs.declared.ids.ExternCrateId.{ExternCrateId}
 use Rattle.def_ids.specs.declared.ids.GlobId.{GlobId}
 use Rattle.def_ids.specs.declared.ids.ItemContainerId.TheVariants as contained
 use Rattle.def_ids.specs.declared.ids.ModuleId.{ModuleId}
 use Rattle.def_ids.specs.declared.ids.UseId.{UseId}
 use Rattle.def_ids.specs.Session.{ItemKind, FunctionItem, UnionItem, EnumItem, ConstItem, StaticItem, TraitItem, TypeAliasItem}
-use Rattle.def_bindings.specs.declared.bindings.ImportOrExternCrate.TheVariants.{Glob}
+use Rattle.def_bindings.specs.declared.bindings.ImportOrExternCrate.TheVariants.{Glob, ExternCrate as ByCrate}
 use Rattle.def_bindings.specs.declared.bindings.Namespace.{Namespace}
 use Rattle.def_bindings.specs.declared.bindings.Namespace.TheVariants.{Types, Values}
 use Rattle.def_bindings.specs.declared.visibility.Visibility.{Visibility}
@@ -30,13 +31,13 @@ use Rattle.def_modules.specs.declared.module_data.ModuleOrigin.TheVariants as or
 use Rattle.def_modules.specs.MapState.{MapState, ModuleState}
 use Rattle.def_modules.specs.Maps.{with_module}
 use Rattle.def_map.specs.Oracle.{Oracle}
-use Rattle.def_modules.specs.Scopes.{declared_in, with_extern_block, with_impl, with_unnamed_const}
+use Rattle.def_modules.specs.Scopes.{declared_in, with_extern_block, with_extern_crate, with_impl, with_unnamed_const}
 use Rattle.def_parts.specs.Directories.{Directory, FoundFile, descend}
 use Rattle.def_parts.specs.ListLaws.{none_in, in_cases}
 use Rattle.def_rules.specs.declared.diagnostics.DefDiagnosticKind.TheVariants.{UnresolvedModule}
 use Rattle.def_rules.specs.Closed.{AreFollowed, AreOwnTasks, IsOwn, IsRecorded}
 use Rattle.def_rules.specs.Globs.{Targets}
-use Rattle.def_rules.specs.Items.{Declares, Handles, Visits, VisitsAt, VisitsNode, add_module, ctor_task, diagnostic, ctor_vis, declared_effect, file_tree, inline_contents, inner_site, module_effect, module_item, name_text, next_module, node_at, noted_in, outline_found, outline_item, pending_imports, position_of, struct_effect, top_items, tree_cfg, visits, walk, written_vis}
+use Rattle.def_rules.specs.Items.{Declares, Handles, Visits, VisitsAt, VisitsNode, add_module, crate_effect, crate_entry, crate_name, ctor_task, diagnostic, ctor_vis, declared_effect, file_tree, inline_contents, inner_site, is_crate_root, module_effect, module_item, name_text, named_crate, naming_crate, next_module, node_at, noted_in, ordered, outline_found, outline_item, pending_imports, position_of, struct_effect, top_items, tree_cfg, visits, walk, written_vis}
 use Rattle.def_rules.specs.State.{State, Effect, followed_by, PendingImport, Site, Task, Enter, Visit, Put, AddEdge, reported}
 use Rattle.def_rules.specs.SoundLaws.{IsLarger}
 use Rattle.def_rules.specs.LargerLaws.{larger_add_module, larger_refl, larger_with_module, own_next}
@@ -79,8 +80,12 @@ own_visits m targets site [] own = tt
 own_visits m targets site (id ∷ ids) own = (own, own_visits m targets site ids own)
 
 -- a walk in a module of the map
-pub own_walk : (m : MapState) (targets : Targets) (site : Site) (ids : List ModItemId) → IsOwn m site.scope → AreOwnTasks m targets (walk site ids)
-own_walk m targets site ids own = (tt, own_visits m targets site ids own)
+pub own_walk : (oracle : Oracle) (m : MapState) (targets : Targets) (site : Site) (ids : List ModItemId) → IsOwn m site.scope → AreOwnTasks m targets (walk oracle site ids)
+own_walk oracle m targets site ids own = (tt, own_visits m targets site (ordered (oracle.item_tree site.tree) site.scope ids) own)
+
+-- and a plain one
+plain_walk : (oracle : Oracle) (site : Site) (ids : List ModItemId) → ArePlain (walk oracle site ids)
+plain_walk oracle site ids = plain_visits site (ordered (oracle.item_tree site.tree) site.scope ids)
 
 -- What a visit opens
 
@@ -117,14 +122,14 @@ module _ (s : State) (site : Site) where
           plain = (refl, plain);
         }
 
-    inline_own : (children : List ModItemId) (directory : Option Directory) (targets : Targets) → IsOwn (add_module s site.scope name vis o).map (next_module s)
-        → AreOwnTasks (add_module s site.scope name vis o).map targets (inline_contents s site children directory)
-    inline_own children None targets own = tt
-    inline_own children (Some directory) targets own = own_walk (add_module s site.scope name vis o).map targets (inner_site s site.tree directory) children own
+    inline_own : (oracle : Oracle) (children : List ModItemId) (directory : Option Directory) (targets : Targets) → IsOwn (add_module s site.scope name vis o).map (next_module s)
+        → AreOwnTasks (add_module s site.scope name vis o).map targets (inline_contents oracle s site children directory)
+    inline_own oracle children None targets own = tt
+    inline_own oracle children (Some directory) targets own = own_walk oracle (add_module s site.scope name vis o).map targets (inner_site s site.tree directory) children own
 
-    inline_plain : (children : List ModItemId) (directory : Option Directory) → ArePlain (inline_contents s site children directory)
-    inline_plain children None = tt
-    inline_plain children (Some directory) = plain_visits _ children
+    inline_plain : (oracle : Oracle) (children : List ModItemId) (directory : Option Directory) → ArePlain (inline_contents oracle s site children directory)
+    inline_plain oracle children None = tt
+    inline_plain oracle children (Some directory) = plain_walk oracle (inner_site s site.tree directory) children
 
   -- a change that opens nothing, in a map with the same modules
   same_opened : (t : State) → t.content ≡ s.content → t.targets ≡ s.targets → t.partial ≡ s.partial → IsLarger s.map t.map → ((p : PendingImport) → Contains t.imports p → Contains s.imports p ⊎ (p.scope ≡ site.scope))
@@ -135,7 +140,7 @@ found_opened : (oracle : Oracle) (s : State) (site : Site) (item : ItemNode) (na
 found_opened oracle s site item name vis found (Some cfg) = same_opened s site _ refl refl refl (larger_refl s.map) (λ p h. inl h)
 found_opened oracle s site item name vis found None = (let o : ModuleOrigin = origin.File item.ast_id site.tree found.0 found.1 in
     let inner : Site = inner_site s (file_tree found) found.2 in
-    added_opened s site name vis o (walk inner (top_items oracle (file_tree found))) (λ targets own. own_walk (add_module s site.scope name vis o).map targets inner (top_items oracle (file_tree found)) own) (plain_visits inner (top_items oracle (file_tree found))))
+    added_opened s site name vis o (walk oracle inner (top_items oracle (file_tree found))) (λ targets own. own_walk oracle (add_module s site.scope name vis o).map targets inner (top_items oracle (file_tree found)) own) (plain_walk oracle inner (top_items oracle (file_tree found))))
 
 outline_opened : (oracle : Oracle) (s : State) (site : Site) (item : ItemNode) (name : Name) (vis : Visibility) (found : Result FoundFile (List (List ℕ))) → IsOpened s site (outline_item oracle s site item name vis found)
 outline_opened oracle s site item name vis (Ok found) = found_opened oracle s site item name vis found (tree_cfg oracle (file_tree found))
@@ -147,7 +152,7 @@ contents_opened : (oracle : Oracle) (s : State) (site : Site) (item : ItemNode) 
 contents_opened oracle s site item name vis (Inline children) =
     let o : ModuleOrigin = origin.Inline item.ast_id site.tree in
     let below : Option Directory = descend site.directory (name_text s.session name) (path_attr item.attrs) in
-    added_opened s site name vis o (inline_contents s site children below) (λ targets own. inline_own s site name vis o children below targets own) (inline_plain s site name vis o children below)
+    added_opened s site name vis o (inline_contents oracle s site children below) (λ targets own. inline_own s site name vis o oracle children below targets own) (inline_plain s site name vis o oracle children below)
 contents_opened oracle s site item name vis Outline = outline_opened oracle s site item name vis _
 
 module _ (oracle : Oracle) (s : State) (site : Site) (item : ItemNode) where
@@ -187,6 +192,35 @@ module _ (oracle : Oracle) (s : State) (site : Site) (item : ItemNode) where
       opened_known s site _ (record { state = record s { map = with_module s.map i f }; tasks = []; events = [] }) (ap (λ x. record { state = x; tasks = []; events = [] }) is)
       (same_opened s site (record s { map = with_module s.map i f }) refl refl refl (larger_with_module s.map i f) (λ p h. inl h))
 
+  -- an extern crate is put by its name, or its name is remembered
+  crate_opened : (id : ExternCrateId) (name : Option Name) (vis : Visibility) (found : Option ModuleId) → IsOpened s site (crate_effect (noted_in s site.scope (with_extern_crate id)) site item id name vis found)
+  crate_opened id None vis None = same_opened s site _ refl refl refl (larger_with_module s.map site.scope.index (with_extern_crate id)) (λ p h. inl h)
+  crate_opened id (Some name) vis None = same_opened s site _ refl refl refl (larger_with_module s.map site.scope.index (with_extern_crate id)) (λ p h. inl h)
+  crate_opened id name vis (Some root) = at (is_crate_root site.scope)
+    where
+      t : State
+      t = noted_in s site.scope (with_extern_crate id)
+
+      at : (named : Bool) → IsOpened s site (followed_by (naming_crate named name (record { root = root; by = Some id }) t) (Put site.scope (crate_entry id name root vis) ∷ []))
+      at false = record {
+        content = refl;
+        targets = refl;
+        partial = refl;
+        larger = larger_with_module s.map site.scope.index (with_extern_crate id);
+        imports = λ p h. inl h;
+        tasks = λ targets even own. (put_own s site t.map targets (Some (ByCrate id)) refl own, tt);
+        plain = (refl, tt);
+      }
+      at true = record {
+        content = refl;
+        targets = refl;
+        partial = refl;
+        larger = larger_with_module s.map site.scope.index (with_extern_crate id);
+        imports = λ p h. inl h;
+        tasks = λ targets even own. (put_own s site t.map targets (Some (ByCrate id)) refl own, tt);
+        plain = (refl, tt);
+      }
+
   handles_opened : (kind : ModItemKind) (effect : Effect) → Handles oracle s site item kind effect → IsOpened s site effect
   handles_opened (Mod name raw contents) effect does = opened_known s site effect _ does (contents_opened oracle s site item name _ contents)
   handles_opened (Use raw imports) effect does =
@@ -195,10 +229,11 @@ module _ (oracle : Oracle) (s : State) (site : Site) (item : ItemNode) where
       opened_known s site effect _ does.2
       (same_opened s site t refl refl refl (larger_refl s.map)
       (λ p h. elim (Contains-append_cases s.imports (pending_imports site item id raw imports) p h) [ inl old ↦ inl old | inr new ↦ inr (pending_at id raw imports p new) ]))
+  handles_opened (ExternCrate name raw alias) effect does = opened_known s site effect _ does.2 (crate_opened (record { 0 = does.0 }) (crate_name name alias) (written_vis oracle s site.scope raw) (named_crate s name))
   handles_opened (ExternBlock children) effect does =
       let id : ExternBlockId = record { 0 = does.0 } in
       let inner : Site = record site { container = contained.ExternBlock id } in
-      let known : Effect = followed_by (noted_in s site.scope (with_extern_block id)) (walk inner children) in
+      let known : Effect = followed_by (noted_in s site.scope (with_extern_block id)) (walk oracle inner children) in
       opened_known s site effect known does.2
       (record {
         content = refl;
@@ -206,8 +241,8 @@ module _ (oracle : Oracle) (s : State) (site : Site) (item : ItemNode) where
         partial = refl;
         larger = larger_with_module s.map site.scope.index (with_extern_block id);
         imports = λ p h. inl h;
-        tasks = λ targets even at. own_walk known.state.map targets inner children at;
-        plain = plain_visits inner children;
+        tasks = λ targets even at. own_walk oracle known.state.map targets inner children at;
+        plain = plain_walk oracle inner children;
       })
   handles_opened (Impl of_trait) effect does = opened_known s site effect _ does.2 (let f : ModuleState → ModuleState = with_impl (record { 0 = does.0 }) of_trait in noted_opened (noted_in s site.scope f) site.scope.index f refl)
   handles_opened (Struct name raw ctor) effect does =

@@ -8,7 +8,7 @@ use Rattle.def_bindings.specs.declared.visibility.Visibility.{Visibility}
 use Rattle.def_bindings.specs.Order.{Order}
 use Rattle.def_map.specs.declared.path_resolution.asked.ResolvePathResult.{ResolvePathResult}
 use Rattle.def_map.specs.PerNs.{Item}
-use Rattle.def_rules.specs.Imports.{entry_of, kept_item, named_entries}
+use Rattle.def_rules.specs.Imports.{entry_of, kept_item, named_entries, taken_types}
 use Rattle.def_rules.specs.State.{PendingImport}
 
 -- what follows from a value's fact
@@ -26,13 +26,13 @@ appended_thrice es0 es1 es2 es3 a b c none first second third =
 module _ (o : Order Visibility) (p : PendingImport) (vis seen : Visibility) (answer : ResolvePathResult) (name : Option Name) (bound : Option (Option Name)) (t v m : Option Item) where
   -- a named import gives an entry in each of its namespaces
   pub entries_named : Some name ≡ bound → vis ≡ seen
-      → t ≡ kept_item answer answer.resolved_def.types → v ≡ kept_item answer answer.resolved_def.values → m ≡ kept_item answer answer.resolved_def.macros
+      → t ≡ taken_types p.import.path vis answer → v ≡ kept_item answer answer.resolved_def.values → m ≡ kept_item answer answer.resolved_def.macros
       → entry_of o p vis name Types t ++ (entry_of o p vis name Values v ++ entry_of o p vis name Macros m) ≡ named_entries o p seen answer bound
   entries_named named same types values macros =
-      ap (λ x. entry_of o p x name Types t ++ (entry_of o p x name Values v ++ entry_of o p x name Macros m)) same
-      ∙ ap (λ x. entry_of o p seen name Types x ++ (entry_of o p seen name Values v ++ entry_of o p seen name Macros m)) types
-      ∙ ap (λ x. entry_of o p seen name Types (kept_item answer answer.resolved_def.types) ++ (entry_of o p seen name Values x ++ entry_of o p seen name Macros m)) values
-      ∙ ap (λ x. entry_of o p seen name Types (kept_item answer answer.resolved_def.types) ++ (entry_of o p seen name Values (kept_item answer answer.resolved_def.values) ++ entry_of o p seen name Macros x)) macros
+      ap (λ x. entry_of o p vis name Types x ++ (entry_of o p vis name Values v ++ entry_of o p vis name Macros m)) types
+      ∙ ap (λ x. entry_of o p x name Types (taken_types p.import.path x answer) ++ (entry_of o p x name Values v ++ entry_of o p x name Macros m)) same
+      ∙ ap (λ x. entry_of o p seen name Types (taken_types p.import.path seen answer) ++ (entry_of o p seen name Values x ++ entry_of o p seen name Macros m)) values
+      ∙ ap (λ x. entry_of o p seen name Types (taken_types p.import.path seen answer) ++ (entry_of o p seen name Values (kept_item answer answer.resolved_def.values) ++ entry_of o p seen name Macros x)) macros
       ∙ ap (λ x. named_entries o p seen answer x) named
 
 -- an import that binds no name gives none

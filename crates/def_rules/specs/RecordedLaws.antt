@@ -1,5 +1,5 @@
 -- What recording an import leaves bound or still to be put.
-use Rattle.std.proofs.Common.{◌≡◌, ◌⊎◌, inl, inr, Bool, true, false, cond, ◌||◌, not, is_some, if◌then◌else◌, List, [], ◌∷◌, ◌++◌, Option, Some, None, Contains, refl, sym, ap, ◌∙◌, subst, arith}
+use Rattle.std.proofs.Common.{◌≡◌, ◌⊎◌, inl, inr, Bool, true, false, cond, ◌||◌, not, is_some, if◌then◌else◌, List, [], ◌∷◌, ◌++◌, Option, Some, None, option_map, Contains, refl, sym, ap, ◌∙◌, subst, arith}
 use Rattle.std.proofs.lemmas.Bool.{or_cases}
 use Rattle.std.proofs.lemmas.List.Elements.{Contains-append_left, Contains-append_right, Contains-append_cases, Contains-push, Contains-push_cases}
 use Rattle.item_tree.specs.declared.items.ImportKind.{ImportKind}
@@ -16,7 +16,7 @@ use Rattle.def_map.specs.declared.path_resolution.asked.ResolvePathResult.{Resol
 use Rattle.def_map.specs.Oracle.{Oracle}
 use Rattle.def_map.specs.PerNs.{Item}
 use Rattle.def_rules.specs.Globs.{is_public}
-use Rattle.def_rules.specs.Imports.{bound_name, entry_of, given_set, is_foreign, is_full, keeps_ns, kept_after, kept_item, import_vis, kept_list, name_by, named_entries, no_namespaces, record_tasks, union}
+use Rattle.def_rules.specs.Imports.{bound_name, entry_of, given_set, is_foreign, is_full, keeps_ns, kept_after, kept_item, import_vis, kept_list, name_by, named_entries, no_namespaces, record_tasks, reexported, taken_types, union}
 use Rattle.def_rules.specs.State.{Event, Recorded, NsSet, PendingImport, PartialImport, State, Task, Put, order, put_each}
 use Rattle.def_rules.specs.ComingLaws.{Covers, HasEach, HasSet, IsAhead, KeepsComing, has_ns, none_ahead}
 use Rattle.def_rules.specs.ListLaws.{contains_cases}
@@ -81,14 +81,21 @@ module _ (o : Order Visibility) (p : PendingImport) (vis : Visibility) (answer :
       subst (λ x. IsListed (entry_of o p vis (Some name) ns x) name ns) (sym (kept_own answer (Some i) own))
       (one_listed (keeps_ns p.import.kind ns) _ name ns kind refl refl)
 
+  types_listed : (name : Name) (item : Option Item) → is_foreign answer ≡ false → keeps_ns p.import.kind Types ≡ true → is_some item ≡ true
+      → IsListed (entry_of o p vis (Some name) Types (option_map (reexported p.import.path vis) (kept_item answer item))) name Types
+  types_listed name None own kind given = cc
+  types_listed name (Some i) own kind given =
+      subst (λ x. IsListed (entry_of o p vis (Some name) Types (option_map (reexported p.import.path vis) x)) name Types) (sym (kept_own answer (Some i) own))
+      (one_listed (keeps_ns p.import.kind Types) _ name Types kind refl refl)
+
   -- each namespace that an import's path gives has an entry
   given_listed : (name : Name) (ns : Namespace) → is_foreign answer ≡ false → keeps_ns p.import.kind ns ≡ true → has_ns (given_set answer.resolved_def) ns ≡ true
       → IsListed (named_entries o p vis answer (Some (Some name))) name ns
-  given_listed name Types own kind given = listed_left _ _ name Types (entry_listed name Types answer.resolved_def.types own kind given)
+  given_listed name Types own kind given = listed_left _ _ name Types (types_listed name answer.resolved_def.types own kind given)
   given_listed name Values own kind given =
-      listed_right (entry_of o p vis (Some name) Types (kept_item answer answer.resolved_def.types)) _ name Values (listed_left _ _ name Values (entry_listed name Values answer.resolved_def.values own kind given))
+      listed_right (entry_of o p vis (Some name) Types (taken_types p.import.path vis answer)) _ name Values (listed_left _ _ name Values (entry_listed name Values answer.resolved_def.values own kind given))
   given_listed name Macros own kind given =
-      listed_right (entry_of o p vis (Some name) Types (kept_item answer answer.resolved_def.types)) _ name Macros
+      listed_right (entry_of o p vis (Some name) Types (taken_types p.import.path vis answer)) _ name Macros
       (listed_right (entry_of o p vis (Some name) Values (kept_item answer answer.resolved_def.values)) _ name Macros (entry_listed name Macros answer.resolved_def.macros own kind given))
 
 -- each namespace that an import's path gives is to be put at the name that it binds

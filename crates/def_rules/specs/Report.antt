@@ -1,8 +1,11 @@
 -- What is answered of a run's end, and what is reported.
-use Rattle.std.specs.Prelude.{◌≡◌, ℕ, suc, Bool, false, ◌&&◌, ◌||◌, nat_eq, All, List, [], ◌∷◌, ◌++◌, filter, map, Option, Some, Vec}
+use Rattle.std.specs.Prelude.{◌≡◌, ℕ, suc, Bool, true, false, cond, ◌&&◌, ◌||◌, nat_eq, All, List, [], ◌∷◌, ◌++◌, filter, map, Option, Some, Vec}
 use Rattle.std.specs.declared.alloc.Global.{Global}
-use Rattle.std.specs.List.{IsDistinct}
+use Rattle.std.specs.List.{IsDistinct, flat_map}
 use Rattle.std.specs.Map.{keys_of, lookup}
+use Rattle.item_tree.specs.declared.mod_path.ModPath.{ModPath}
+use Rattle.item_tree.specs.declared.mod_path.PathKind.{PathKind}
+use Rattle.item_tree.specs.declared.mod_path.PathKind.TheVariants.{Plain, Abs}
 use Rattle.item_tree.specs.declared.name.Name.{Name}
 use Rattle.item_tree.specs.KnownNames.{name_eq}
 use Rattle.def_ids.specs.declared.ids.Def.{Def}
@@ -88,9 +91,28 @@ pub record IsOutcome (end : State) (outcome : Outcome) : Type 0 where
 abbrev pub unresolved : PendingImport → DefDiagnostic
 unresolved p = record { «module» = p.scope; ast_id = p.position; kind = UnresolvedImport p.import.idx }
 
--- the run's diagnostics, and then one for each import left over
+-- whether a path may begin with the name of a crate
+abbrev pub may_name_crate : PathKind → Bool
+may_name_crate Plain = true
+may_name_crate Abs = true
+may_name_crate _ = false
+
+-- whether the first segment of a path passes
+abbrev pub begins_with : (Name → Bool) → List Name → Bool
+begins_with test [] = false
+begins_with test (name ∷ names) = test name
+
+-- an import is excused where its path begins with an extern crate that was not found, which is reported already
+abbrev pub is_excused : (Name → Bool) → ModPath → Bool
+is_excused missing path = may_name_crate path.kind && begins_with missing path.segments
+
+-- what is reported of an import that is left over
+abbrev pub import_report : (Name → Bool) → PendingImport → List DefDiagnostic
+import_report missing p = cond (is_excused missing p.import.path) [] (unresolved p ∷ [])
+
+-- the run's diagnostics, and then those of the imports left over
 abbrev pub report : State → List DefDiagnostic
-report end = end.diagnostics ++ map unresolved end.imports
+report end = end.diagnostics ++ flat_map (import_report end.missing_crates) end.imports
 
 -- the answer is what the end has, with the failed names marked
 pub record IsAnswerOf (end : State) (answer : Answer) : Type 0 where

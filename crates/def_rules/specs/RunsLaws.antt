@@ -1,5 +1,5 @@
 -- What holds along runs, and what a visit leaves as it is.
-use Rattle.std.proofs.Common.{◌≡◌, ℕ, zero, suc, false, List, [], ◌∷◌, length, All, Option, Some, None, Result, Ok, Err, refl, sym, ap, ◌∙◌, subst}
+use Rattle.std.proofs.Common.{◌≡◌, ℕ, zero, suc, Bool, true, false, List, [], ◌∷◌, length, All, Option, Some, None, Result, Ok, Err, refl, sym, ap, ◌∙◌, subst}
 use Rattle.std.proofs.lemmas.List.Elements.{All-cons, All-head, All-tail, All-push}
 use Rattle.item_tree.specs.declared.ids.CfgExpr.{CfgExpr}
 use Rattle.item_tree.specs.declared.ids.ModItemId.{ModItemId}
@@ -7,9 +7,10 @@ use Rattle.item_tree.specs.declared.items.ItemNode.{ItemNode}
 use Rattle.item_tree.specs.declared.items.ModContents.{ModContents}
 use Rattle.item_tree.specs.declared.items.ModContents.TheVariants.{Inline, Outline}
 use Rattle.item_tree.specs.declared.items.ModItemKind.{ModItemKind}
-use Rattle.item_tree.specs.declared.items.ModItemKind.TheVariants.{Mod, Use, Struct, ExternBlock, Impl, Union, Enum, Function, Const, Static, Trait, TypeAlias}
+use Rattle.item_tree.specs.declared.items.ModItemKind.TheVariants.{Mod, Use, Struct, ExternCrate, ExternBlock, Impl, Union, Enum, Function, Const, Static, Trait, TypeAlias}
 use Rattle.item_tree.specs.declared.name.Name.{Name}
 use Rattle.item_tree.specs.Attrs.{disabled_by}
+use Rattle.def_ids.specs.declared.ids.ExternCrateId.{ExternCrateId}
 use Rattle.def_ids.specs.declared.ids.ModuleId.{ModuleId}
 use Rattle.def_ids.specs.declared.ids.Def.{Def}
 use Rattle.def_bindings.specs.declared.visibility.Visibility.{Visibility}
@@ -17,14 +18,14 @@ use Rattle.def_modules.specs.declared.module_data.ModuleOrigin.{ModuleOrigin}
 use Rattle.def_modules.specs.Maps.{pushed, with_module}
 use Rattle.def_modules.specs.MapState.{MapState, ModuleState}
 use Rattle.def_map.specs.Oracle.{Oracle}
-use Rattle.def_modules.specs.Scopes.{declared_in, empty_module, with_child, with_extern_block, with_impl, with_unnamed_const}
+use Rattle.def_modules.specs.Scopes.{declared_in, empty_module, with_child, with_extern_block, with_extern_crate, with_impl, with_unnamed_const}
 use Rattle.def_modules.specs.Updates.{update_at}
 use Rattle.def_parts.specs.Directories.{FoundFile}
 use Rattle.def_rules.specs.declared.diagnostics.DefDiagnosticKind.TheVariants.{UnresolvedModule}
 use Rattle.def_rules.specs.Imports.{ImportStep, of_pending, of_partial}
-use Rattle.def_rules.specs.Items.{add_module, diagnostic, file_tree, module_effect, module_item, node_at, outline_found, outline_item, tree_cfg, Handles, VisitsAt, VisitsNode, Visits, Declares}
+use Rattle.def_rules.specs.Items.{add_module, crate_effect, crate_entry, crate_name, diagnostic, file_tree, is_crate_root, module_effect, module_item, named_crate, naming_crate, node_at, noted_in, outline_found, outline_item, tree_cfg, written_vis, Handles, VisitsAt, VisitsNode, Visits, Declares}
 use Rattle.def_rules.specs.Report.{NoneFailed}
-use Rattle.def_rules.specs.State.{State, Effect, Moment, Site, Task, Enter, Visit, Put, reported, AddEdge}
+use Rattle.def_rules.specs.State.{State, Effect, followed_by, Moment, Site, Task, Enter, Visit, Put, reported, AddEdge}
 use Rattle.def_rules.specs.Steps.{Does, Reaches, Step, here, one, join, performs, copies, rearranges, records}
 use Rattle.item_tree.specs.declared.items.RawVisibility.{RawVisibility}
 use Rattle.def_ids.specs.Session.{ItemKind, FunctionItem, UnionItem, EnumItem, ConstItem, StaticItem, TraitItem, TypeAliasItem}
@@ -102,10 +103,21 @@ declares_leaves : (oracle : Oracle) (s : State) (site : Site) (item : ItemNode) 
 declares_leaves oracle s site item kind d ns name raw effect does =
     leaves_known s effect _ does.2 (record { content = refl; partial = refl; events = refl; none_failed = λ none. none_failed-declare s.map site.scope.index _ none })
 
+-- an extern crate
+crate_leaves : (s : State) (site : Site) (item : ItemNode) (id : ExternCrateId) (name : Option Name) (vis : Visibility) (found : Option ModuleId) → Leaves s (crate_effect (noted_in s site.scope (with_extern_crate id)) site item id name vis found)
+crate_leaves s site item id None vis None = record { content = refl; partial = refl; events = refl; none_failed = λ none. none_failed-with_module s.map site.scope.index (with_extern_crate id) (λ d h. h) none }
+crate_leaves s site item id (Some name) vis None = record { content = refl; partial = refl; events = refl; none_failed = λ none. none_failed-with_module s.map site.scope.index (with_extern_crate id) (λ d h. h) none }
+crate_leaves s site item id name vis (Some root) = at (is_crate_root site.scope)
+  where
+    at : (named : Bool) → Leaves s (followed_by (naming_crate named name (record { root = root; by = Some id }) (noted_in s site.scope (with_extern_crate id))) (Put site.scope (crate_entry id name root vis) ∷ []))
+    at false = record { content = refl; partial = refl; events = refl; none_failed = λ none. none_failed-with_module s.map site.scope.index (with_extern_crate id) (λ d h. h) none }
+    at true = record { content = refl; partial = refl; events = refl; none_failed = λ none. none_failed-with_module s.map site.scope.index (with_extern_crate id) (λ d h. h) none }
+
 handles_leaves : (oracle : Oracle) (s : State) (site : Site) (item : ItemNode) (kind : ModItemKind) (effect : Effect) → Handles oracle s site item kind effect → Leaves s effect
 handles_leaves oracle s site item (Mod name raw contents) effect does = leaves_known s effect _ does (contents_leave oracle s site item name _ contents)
 handles_leaves oracle s site item (Use raw imports) effect does =
     leaves_known s effect _ does.2 (record { content = refl; partial = refl; events = refl; none_failed = λ none. none })
+handles_leaves oracle s site item (ExternCrate name raw alias) effect does = leaves_known s effect _ does.2 (crate_leaves s site item (record { 0 = does.0 }) (crate_name name alias) (written_vis oracle s site.scope raw) (named_crate s name))
 handles_leaves oracle s site item (ExternBlock children) effect does =
     leaves_known s effect _ does.2 (record { content = refl; partial = refl; events = refl; none_failed = λ none. none_failed-with_module s.map site.scope.index (with_extern_block _) (λ d h. h) none })
 handles_leaves oracle s site item (Impl of_trait) effect does =

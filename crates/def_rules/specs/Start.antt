@@ -17,7 +17,7 @@ use Rattle.def_parts.specs.Directories.{root_directory}
 use Rattle.def_rules.specs.declared.diagnostics.DefDiagnostic.{DefDiagnostic}
 use Rattle.def_rules.specs.declared.diagnostics.DefDiagnosticKind.TheVariants.{UnconfiguredCode}
 use Rattle.def_rules.specs.State.{Setting, State, Site, Task, Moment, root, module_site}
-use Rattle.def_rules.specs.Crates.{after_attrs, after_deps, deps_of, is_proc_macro_crate, prelude_module, says_proc_macro, tree_attrs}
+use Rattle.def_rules.specs.Crates.{after_attrs, after_deps, deps_by_name, deps_of, is_proc_macro_crate, prelude_module, says_proc_macro, tree_attrs}
 use Rattle.def_rules.specs.Items.{walk, top_items, tree_cfg}
 
 -- a run's state before anything
@@ -30,6 +30,8 @@ seeded_state w session =
       targets = λ glob. None;
       local = empty_local;
       outer = w.crate_local;
+      deps = deps_by_name w.oracle w.seeded.id.krate;
+      missing_crates = λ name. false;
       is_proc_macro = is_proc_macro_crate w.oracle w.seeded.id.krate;
       directories = λ at. None;
       imports = [];
@@ -55,14 +57,14 @@ abbrev pub first_site : Oracle → MapState → TreeId → Site
 first_site oracle m tree = site_at m (first_tree oracle m.id tree)
 
 -- the first list is walked, unless cfg disables its tree
-abbrev pub first_walk : Site → List ModItemId → Option CfgExpr → List Task
-first_walk site ids None = walk site ids
-first_walk site ids (Some cfg) = []
+abbrev pub first_walk : Oracle → Site → List ModItemId → Option CfgExpr → List Task
+first_walk oracle site ids None = walk oracle site ids
+first_walk oracle site ids (Some cfg) = []
 
 -- the walk of the top items of the root file or the block
 abbrev pub first_tasks : Oracle → MapState → TreeId → List Task
 first_tasks oracle m tree =
-    first_walk (first_site oracle m tree) (top_items oracle (first_tree oracle m.id tree)) (tree_cfg oracle (first_tree oracle m.id tree))
+    first_walk oracle (first_site oracle m tree) (top_items oracle (first_tree oracle m.id tree)) (tree_cfg oracle (first_tree oracle m.id tree))
 
 -- a root file that cfg disables, at its first number
 abbrev pub root_disabled : Site → CfgExpr → DefDiagnostic

@@ -32,8 +32,8 @@ module _ (oracle : Oracle) (m : MapState) (tree first : TreeId) (same : first �
   -- a tree that cfg disables is not walked
   first_disabled : (cfg : CfgExpr) → Some cfg ≡ tree_cfg oracle first → first_tasks oracle m tree ≡ []
   first_disabled cfg off =
-      ap (λ t. first_walk (site_at m t) (top_items oracle t) (tree_cfg oracle t)) (sym same)
-      ∙ ap (λ c. first_walk (site_at m first) (top_items oracle first) c) (sym off)
+      ap (λ t. first_walk oracle (site_at m t) (top_items oracle t) (tree_cfg oracle t)) (sym same)
+      ∙ ap (λ c. first_walk oracle (site_at m first) (top_items oracle first) c) (sym off)
 
   -- and is reported, where it is a crate's
   first_reported : (s : State) (cfg : CfgExpr) → Some cfg ≡ tree_cfg oracle first
@@ -43,11 +43,11 @@ module _ (oracle : Oracle) (m : MapState) (tree first : TreeId) (same : first �
       ∙ ap (λ c. record s { diagnostics = s.diagnostics ++ first_reports (site_at m first) (is_some m.id.block) c }) (sym off)
 
   -- any other is walked
-  first_walked : (ids : List ModItemId) → None ≡ tree_cfg oracle first → ids ≡ top_items oracle first → first_tasks oracle m tree ≡ walk (site_at m first) ids
+  first_walked : (ids : List ModItemId) → None ≡ tree_cfg oracle first → ids ≡ top_items oracle first → first_tasks oracle m tree ≡ walk oracle (site_at m first) ids
   first_walked ids on top =
-      ap (λ t. first_walk (site_at m t) (top_items oracle t) (tree_cfg oracle t)) (sym same)
-      ∙ ap (λ c. first_walk (site_at m first) (top_items oracle first) c) (sym on)
-      ∙ ap (λ l. walk (site_at m first) l) (sym top)
+      ap (λ t. first_walk oracle (site_at m t) (top_items oracle t) (tree_cfg oracle t)) (sym same)
+      ∙ ap (λ c. first_walk oracle (site_at m first) (top_items oracle first) c) (sym on)
+      ∙ ap (λ l. walk oracle (site_at m first) l) (sym top)
 
   -- with no report
   first_silent : (s : State) → None ≡ tree_cfg oracle first → told oracle m tree s ≡ s
@@ -65,10 +65,10 @@ module _ (oracle : Oracle) (m : MapState) (tree first : TreeId) (same : first �
 
   -- a walk from the root's directory is the run over the tree
   seeds_walked : (s t : State) (directory : Directory) (ids : List ModItemId) → directory ≡ root_directory → None ≡ tree_cfg oracle first → ids ≡ top_items oracle first
-      → Leads oracle (walk (module_site (root m) first directory) ids) s [] t → Leads oracle (first_tasks oracle m tree) (told oracle m tree s) [] t
+      → Leads oracle (walk oracle (module_site (root m) first directory) ids) s [] t → Leads oracle (first_tasks oracle m tree) (told oracle m tree s) [] t
   seeds_walked s t directory ids at_root on top run =
       subst (λ u. Leads oracle (first_tasks oracle m tree) u [] t) (sym (first_silent s on))
-      (subst (λ tasks. Leads oracle tasks s [] t) (ap (λ d. walk (module_site (root m) first d) ids) at_root ∙ sym (first_walked ids on top)) run)
+      (subst (λ tasks. Leads oracle tasks s [] t) (ap (λ d. walk oracle (module_site (root m) first d) ids) at_root ∙ sym (first_walked ids on top)) run)
 
 module _ (oracle : Oracle) (s s1 : State) (tree first : TreeId) (attrs : List Attr) (off : Option CfgExpr) (same : first ≡ first_tree oracle s.map.id tree) (known : s1 ≡ with_head s (first_head oracle attrs off s))
     (said : attrs ≡ tree_attrs oracle first) (by_cfg : off ≡ tree_cfg oracle first) where
@@ -91,7 +91,7 @@ module _ (oracle : Oracle) (s s1 : State) (tree first : TreeId) (attrs : List At
 
   -- any other: the run is the walk from the root's directory
   pub starts_walked : (t : State) (directory : Directory) (ids : List ModItemId) → off ≡ None → directory ≡ root_directory → ids ≡ top_items oracle first
-      → Leads oracle (walk (module_site (root s.map) first directory) ids) s1 [] t → Leads oracle (first_tasks oracle s.map tree) (started oracle tree s) [] t
+      → Leads oracle (walk oracle (module_site (root s.map) first directory) ids) s1 [] t → Leads oracle (first_tasks oracle s.map tree) (started oracle tree s) [] t
   starts_walked t directory ids is at_root top run =
       subst (λ u. Leads oracle (first_tasks oracle s.map tree) (told oracle s.map tree u) [] t) informs
       (seeds_walked oracle s.map tree first same s1 t directory ids at_root (sym is ∙ by_cfg) top run)

@@ -1,5 +1,5 @@
 -- The state of a run, and what a run is given.
-use Rattle.std.specs.Prelude.{◌≡◌, Bool, List, [], ◌∷◌, ◌++◌, map, Option, Some, unwrap_or, IsPermutation}
+use Rattle.std.specs.Prelude.{◌≡◌, Bool, true, List, [], ◌∷◌, ◌++◌, map, Option, None, Some, unwrap_or, IsPermutation}
 use Rattle.item_tree.specs.declared.ids.FileAstId.{FileAstId}
 use Rattle.item_tree.specs.declared.ids.InFile.{InFile}
 use Rattle.item_tree.specs.declared.ids.ModItemId.{ModItemId}
@@ -18,7 +18,7 @@ use Rattle.def_bindings.specs.declared.bindings.EdgeTo.{EdgeTo}
 use Rattle.def_bindings.specs.declared.bindings.Entry.{Entry}
 use Rattle.def_bindings.specs.declared.bindings.Namespace.{Namespace}
 use Rattle.def_bindings.specs.declared.visibility.Visibility.{Visibility}
-use Rattle.def_bindings.specs.Content.{Content}
+use Rattle.def_bindings.specs.Content.{Content, is_name}
 use Rattle.def_bindings.specs.Order.{Order}
 use Rattle.def_bindings.specs.Visibility.{order_over}
 use Rattle.def_modules.specs.MapState.{MapState}
@@ -68,6 +68,10 @@ pub record State : Type 0 where
   pub local : LocalView
   -- for a block, those that its crate knows, which stand in their place
   pub outer : Option LocalView
+  -- the crates that the crate depends on, by their names
+  pub deps : LocalView
+  -- the names of the extern crates that were not found
+  pub missing_crates : Name → Bool
   -- whether the crate is one of procedural macros
   pub is_proc_macro : Bool
   -- the directory of each module that a walk began in
@@ -157,6 +161,11 @@ entered s at directory = record s { directories = set_where (is_same_module at) 
 -- the state with one more diagnostic
 abbrev pub reported : State → DefDiagnostic → State
 reported s diagnostic = record s { diagnostics = s.diagnostics ++ diagnostic ∷ [] }
+
+-- the state in which this name is one of a crate that was not found
+abbrev pub with_missing : Option Name → State → State
+with_missing None s = s
+with_missing (Some name) s = record s { missing_crates = set_where (is_name name) true s.missing_crates }
 
 -- the order of visibilities so far
 abbrev pub order : State → Order Visibility

@@ -26,7 +26,7 @@ use Rattle.def_map.specs.PerNs.{Item}
 use Rattle.def_parts.specs.ListLaws.{none_in, only_in}
 use Rattle.def_rules.specs.Closed.{AreFollowed, AreOwn, AreOwnTasks, AreSound, IsOwn, own_module, target_of}
 use Rattle.def_rules.specs.Globs.{Targets, module_entries, variant_entries, with_target}
-use Rattle.def_rules.specs.Imports.{bound_name, edge_tasks, entry_of, glob_edge, glob_id, glob_tasks, import_vis, is_own_crate, keeps_ns, kept_item, named_entries, origin_of, record_tasks, targets_after, types_def}
+use Rattle.def_rules.specs.Imports.{bound_name, edge_tasks, entry_of, glob_edge, glob_id, glob_tasks, import_vis, is_own_crate, keeps_ns, kept_item, named_entries, origin_of, record_tasks, taken_types, targets_after, types_def}
 use Rattle.def_rules.specs.State.{State, PendingImport, PartialImport, Task, AddEdge, order, put_each, world}
 use Rattle.def_rules.specs.BroughtLaws.{module_by, variants_by}
 use Rattle.def_rules.specs.OwnLaws.{StayRecorded, own_both}
@@ -50,8 +50,8 @@ module _ (o : Order Visibility) (p : PendingImport) (vis : Visibility) where
   all_named : (answer : ResolvePathResult) (bound : Option (Option Name)) (e : Entry Visibility) → Contains (named_entries o p vis answer bound) e → e.origin ≡ Some (origin_of p)
   all_named answer None e h = absurd (none_in e h)
   all_named answer (Some name) e h =
-      elim (Contains-append_cases (entry_of o p vis name Types (kept_item answer answer.resolved_def.types)) _ e h) [
-        | inl types ↦ named_by name Types (kept_item answer answer.resolved_def.types) e types
+      elim (Contains-append_cases (entry_of o p vis name Types (taken_types p.import.path vis answer)) _ e h) [
+        | inl types ↦ named_by name Types (taken_types p.import.path vis answer) e types
         | inr rest ↦ elim (Contains-append_cases (entry_of o p vis name Values (kept_item answer answer.resolved_def.values)) _ e rest) [
           | inl values ↦ named_by name Values (kept_item answer answer.resolved_def.values) e values
           | inr macros ↦ named_by name Macros (kept_item answer answer.resolved_def.macros) e macros

@@ -1,5 +1,5 @@
 -- What an item leads to is less work than the item.
-use Rattle.std.proofs.Common.{◌≡◌, ◌<◌, ◌≤◌, ◌+◌, ◌-◌, ℕ, zero, suc, List, [], ◌∷◌, ◌++◌, length, get_or, slice_get, option_and_then, All, sum_by, Option, Some, None, Result, Ok, Err, option_map, refl, sym, ap, subst, ◌∙◌, arith}
+use Rattle.std.proofs.Common.{◌≡◌, ◌<◌, ◌≤◌, ◌+◌, ◌-◌, ℕ, zero, suc, Bool, true, false, cond, not, List, [], ◌∷◌, ◌++◌, filter, length, get_or, slice_get, option_and_then, All, sum_by, Option, Some, None, Result, Ok, Err, option_map, refl, sym, ap, subst, ◌∙◌, arith}
 use Rattle.std.proofs.lemmas.List.Sums.{sum_by-append, sum_by-cons}
 use Rattle.item_tree.specs.declared.ids.CfgExpr.{CfgExpr}
 use Rattle.item_tree.specs.declared.ids.ModItemId.{ModItemId}
@@ -8,7 +8,7 @@ use Rattle.item_tree.specs.declared.items.ItemNode.{ItemNode}
 use Rattle.item_tree.specs.declared.items.ModContents.{ModContents}
 use Rattle.item_tree.specs.declared.items.ModContents.TheVariants.{Inline, Outline}
 use Rattle.item_tree.specs.declared.items.ModItemKind.{ModItemKind}
-use Rattle.item_tree.specs.declared.items.ModItemKind.TheVariants.{Mod, Use, ExternBlock, Impl, Struct, Union, Enum, Function, Const, Static, Trait, TypeAlias}
+use Rattle.item_tree.specs.declared.items.ModItemKind.TheVariants.{Mod, Use, ExternCrate, ExternBlock, Impl, Struct, Union, Enum, Function, Const, Static, Trait, TypeAlias}
 use Rattle.item_tree.specs.declared.tree.ItemTree.{ItemTree}
 use Rattle.item_tree.specs.Trees.{children_of_kind}
 use Rattle.item_tree.specs.TreesLaws.{child_after}
@@ -20,10 +20,13 @@ use Rattle.item_tree.specs.declared.name.Name.{Name}
 use Rattle.item_tree.specs.Attrs.{path_attr}
 use Rattle.def_ids.specs.declared.ids.Def.{Def}
 use Rattle.def_ids.specs.declared.ids.Def.TheVariants.{Module}
+use Rattle.def_ids.specs.declared.ids.ExternCrateId.{ExternCrateId}
 use Rattle.def_ids.specs.declared.ids.ModuleId.{ModuleId}
 use Rattle.def_ids.specs.Session.{Session}
 use Rattle.def_bindings.specs.declared.bindings.Namespace.TheVariants.{Types}
 use Rattle.def_bindings.specs.declared.visibility.Visibility.{Visibility}
+use Rattle.def_modules.specs.MapView.{ExternCrateEntry}
+use Rattle.def_modules.specs.Scopes.{with_extern_crate}
 use Rattle.def_modules.specs.declared.module_data.ModuleOrigin.{ModuleOrigin}
 use Rattle.def_modules.specs.declared.module_data.ModuleOrigin.TheVariants as origin
 use Rattle.def_map.specs.Oracle.{Oracle}
@@ -31,8 +34,8 @@ use Rattle.def_parts.specs.Directories.{Directory, FoundFile, descend, files_of,
 use Rattle.def_rules.specs.declared.diagnostics.DefDiagnosticKind.TheVariants.{UnresolvedModule}
 use Rattle.def_rules.specs.Performs.{Handled}
 use Rattle.def_rules.specs.Work.{Opened, behind, block_at, block_items, file_opened, item_opened, item_work, kind_opened, module_opened, opened_work, task_work, work, work_behind}
-use Rattle.def_rules.specs.Items.{Handles, ctor_task, diagnostic, file_tree, inline_contents, inner_site, module_effect, module_item, name_text, next_module, node_at, outline_found, outline_item, put_declared, top_items, tree_cfg, visits, walk}
-use Rattle.def_rules.specs.State.{State, Effect, Site, Task, Enter, Visit, Put, AddEdge, reported}
+use Rattle.def_rules.specs.Items.{Handles, crate_effect, crate_name, crates_first, ctor_task, diagnostic, file_tree, inline_contents, inner_site, is_crate_root, module_effect, module_item, name_text, named_crate, names_crate, naming_crate, next_module, node_at, noted_in, ordered, outline_found, outline_item, put_declared, top_items, tree_cfg, visits, walk, written_vis}
+use Rattle.def_rules.specs.State.{State, Effect, Site, Task, Enter, Visit, Put, AddEdge, reported, with_missing}
 use Rattle.def_rules.specs.Steps.{put_effect}
 use Rattle.def_rules.specs.LevelsLaws.{IsDeeper, declaration_deeper, descend_deeper}
 
@@ -58,6 +61,7 @@ block_children : (kind : ModItemKind) (k : ℕ) (c : ModItemId) → slice_get (b
 block_children (ExternBlock children) k c there = there
 block_children (Mod name raw contents) k c there = absurd (nowhere k c there)
 block_children (Use raw imports) k c there = absurd (nowhere k c there)
+block_children (ExternCrate name raw alias) k c there = absurd (nowhere k c there)
 block_children (Impl of_trait) k c there = absurd (nowhere k c there)
 block_children (Struct name raw ctor) k c there = absurd (nowhere k c there)
 block_children (Union name raw) k c there = absurd (nowhere k c there)
@@ -82,6 +86,24 @@ ArePuts (Visit site id ∷ tasks) = ⊥
 ArePuts (Enter at directory ∷ tasks) = ⊥
 ArePuts (AddEdge source edge ∷ tasks) = ⊥
 
+-- two parts of a list have the list's sum
+parts_sum : {X : Type 0} (f : X → ℕ) (p : X → Bool) (xs : List X) → sum_by f (filter p xs) + sum_by f (filter (λ x. not (p x)) xs) ≡ sum_by f xs
+parts_sum f p [] = refl
+parts_sum f p (x ∷ xs) = at (p x) (parts_sum f p xs)
+  where
+    at : (b : Bool) → sum_by f (filter p xs) + sum_by f (filter (λ y. not (p y)) xs) ≡ sum_by f xs
+        → sum_by f (cond b (x ∷ filter p xs) (filter p xs)) + sum_by f (cond (not b) (x ∷ filter (λ y. not (p y)) xs) (filter (λ y. not (p y)) xs)) ≡ sum_by f (x ∷ xs)
+    at true rest = let left = sum_by-cons f x (filter p xs) in let whole = sum_by-cons f x xs in omega (arith, rest, left, whole)
+    at false rest = let right = sum_by-cons f x (filter (λ y. not (p y)) xs) in let whole = sum_by-cons f x xs in omega (arith, rest, right, whole)
+
+-- so has a list in the order of its visits
+ordered_sum : (f : ModItemId → ℕ) (tree : Option ItemTree) (place : ModuleId) (ids : List ModItemId) → sum_by f (ordered tree place ids) ≡ sum_by f ids
+ordered_sum f tree place ids = at (is_crate_root place)
+  where
+    at : (b : Bool) → sum_by f (cond b (crates_first tree ids) ids) ≡ sum_by f ids
+    at true = sum_by-append f (filter (names_crate tree) ids) (filter (λ id. not (names_crate tree id)) ids) ∙ parts_sum f (names_crate tree) ids
+    at false = refl
+
 module _ (oracle : Oracle) (texts : Name → List ℕ) where
   -- visits of a list
   pub visits_work : (site : Site) (ids : List ModItemId) → work oracle texts (visits site ids) ≡ sum_by (item_work oracle texts (33 - site.directory.depth) site.tree site.directory) ids
@@ -91,9 +113,16 @@ module _ (oracle : Oracle) (texts : Name → List ℕ) where
       ∙ ap (λ n. item_work oracle texts (33 - site.directory.depth) site.tree site.directory id + n) (visits_work site ids)
       ∙ sym (sum_by-cons (item_work oracle texts (33 - site.directory.depth) site.tree site.directory) id ids)
 
-  -- to store a directory is no work
-  pub walk_work : (site : Site) (ids : List ModItemId) → work oracle texts (walk site ids) ≡ work oracle texts (visits site ids)
-  walk_work site ids = let both = sum_by-cons (task_work oracle texts) (Enter site.scope site.directory) (visits site ids) in omega (arith, both)
+  -- to store a directory is no work, and the order of the visits makes no difference
+  pub walk_work : (site : Site) (ids : List ModItemId) → work oracle texts (walk oracle site ids) ≡ work oracle texts (visits site ids)
+  walk_work site ids =
+      let sorted : List ModItemId = ordered (oracle.item_tree site.tree) site.scope ids in
+      let each : ModItemId → ℕ = item_work oracle texts (33 - site.directory.depth) site.tree site.directory in
+      let both = sum_by-cons (task_work oracle texts) (Enter site.scope site.directory) (visits site sorted) in
+      let first = visits_work site sorted in
+      let same = ordered_sum each (oracle.item_tree site.tree) site.scope ids in
+      let all = visits_work site ids in
+      omega (arith, both, first, same, all)
 
   -- nor are puts
   pub puts_work : (tasks : List Task) → ArePuts tasks → work oracle texts tasks ≡ 0
@@ -227,10 +256,10 @@ record IsWithin (oracle : Oracle) (texts : Name → List ℕ) (above : Directory
 
 module _ (oracle : Oracle) (s : State) (site : Site) (item : ItemNode) (name : Name) (vis : Visibility) where
   inline_within : (o : ModuleOrigin) (children : List ModItemId) (found : Option Directory) → ((below : Directory) → found ≡ Some below → IsDeeper site.directory below)
-      → IsWithin oracle (name_text s.session) site.directory (module_effect s site name vis o (inline_contents s site children found)) (option_map (λ below. record { tree = site.tree; directory = below; items = children }) found)
+      → IsWithin oracle (name_text s.session) site.directory (module_effect s site name vis o (inline_contents oracle s site children found)) (option_map (λ below. record { tree = site.tree; directory = below; items = children }) found)
   inline_within o children None deeper = let same = module_tasks oracle (name_text s.session) s site name vis o [] in record { total = omega (arith, same); lies = tt }
   inline_within o children (Some below) deeper =
-      let same = module_tasks oracle (name_text s.session) s site name vis o (walk (inner_site s site.tree below) children) in
+      let same = module_tasks oracle (name_text s.session) s site name vis o (walk oracle (inner_site s site.tree below) children) in
       let first = walk_work oracle (name_text s.session) (inner_site s site.tree below) children in
       let all = visits_work oracle (name_text s.session) (inner_site s site.tree below) children in
       record { total = omega (arith, same, first, all); lies = deeper below refl }
@@ -241,7 +270,7 @@ module _ (oracle : Oracle) (s : State) (site : Site) (item : ItemNode) (name : N
   found_within found None deeper =
       let inner : Site = inner_site s (file_tree found) found.2 in
       let ids : List ModItemId = top_items oracle (file_tree found) in
-      let same = module_tasks oracle (name_text s.session) s site name vis (origin.File item.ast_id site.tree found.0 found.1) (walk inner ids) in
+      let same = module_tasks oracle (name_text s.session) s site name vis (origin.File item.ast_id site.tree found.0 found.1) (walk oracle inner ids) in
       let first = walk_work oracle (name_text s.session) inner ids in
       let all = visits_work oracle (name_text s.session) inner ids in
       record { total = omega (arith, same, first, all); lies = deeper }
@@ -278,6 +307,23 @@ are_ctor : (s : State) (at : ModuleId) (name : Name) (d : Def) (vis : Visibility
 are_ctor s at name d vis None = tt
 are_ctor s at name d vis (Some ctor) = tt
 
+are_crate : (s : State) (site : Site) (item : ItemNode) (id : ExternCrateId) (name : Option Name) (vis : Visibility) (found : Option ModuleId) → ArePuts (crate_effect s site item id name vis found).tasks
+are_crate s site item id name vis None = tt
+are_crate s site item id name vis (Some root) = tt
+
+missing_session : (s : State) (name : Option Name) → (with_missing name s).session ≡ s.session
+missing_session s None = refl
+missing_session s (Some name) = refl
+
+naming_session : (b : Bool) (s : State) (name : Option Name) (entry : ExternCrateEntry) → (naming_crate b name entry s).session ≡ s.session
+naming_session false s name entry = refl
+naming_session true s name entry = refl
+
+-- an extern crate keeps the session
+pub crate_session : (s : State) (site : Site) (item : ItemNode) (id : ExternCrateId) (name : Option Name) (vis : Visibility) (found : Option ModuleId) → (crate_effect s site item id name vis found).state.session ≡ s.session
+crate_session s site item id name vis None = missing_session s name
+crate_session s site item id name vis (Some root) = naming_session (is_crate_root site.scope) s name (record { root = root; by = Some id })
+
 puts_within : (oracle : Oracle) (texts : Name → List ℕ) (above : Directory) (effect : Effect) → ArePuts effect.tasks → IsWithin oracle texts above effect None
 puts_within oracle texts above effect puts = let none = puts_work oracle texts effect.tasks puts in record { total = omega (arith, none); lies = tt }
 
@@ -290,12 +336,12 @@ bounded : (oracle : Oracle) (texts : Name → List ℕ) (site : Site) (effect : 
 bounded oracle texts site effect opened block within = let total = within.total in record { total = omega (arith, total); lies = within.lies }
 
 -- an extern block leads to its items, in the same directory
-block_bounded : (oracle : Oracle) (texts : Name → List ℕ) (site inner : Site) (effect : Effect) (children : List ModItemId) → inner.tree ≡ site.tree → inner.directory ≡ site.directory → effect.tasks ≡ walk inner children
+block_bounded : (oracle : Oracle) (texts : Name → List ℕ) (site inner : Site) (effect : Effect) (children : List ModItemId) → inner.tree ≡ site.tree → inner.directory ≡ site.directory → effect.tasks ≡ walk oracle inner children
     → IsBounded oracle texts site effect None children
 block_bounded oracle texts site inner effect children same_tree same_directory is =
     let first = walk_work oracle texts inner children in
     let all = visits_work oracle texts inner children in
-    let here : work oracle texts effect.tasks ≡ work oracle texts (walk inner children) = ap (work oracle texts) is in
+    let here : work oracle texts effect.tasks ≡ work oracle texts (walk oracle inner children) = ap (work oracle texts) is in
     let moved : block_total oracle texts inner.tree inner.directory children ≡ block_total oracle texts site.tree site.directory children =
     ap (λ t. block_total oracle texts t inner.directory children) same_tree ∙ ap (λ d. block_total oracle texts site.tree d children) same_directory in
     record { total = omega (arith, first, all, here, moved); lies = tt }
@@ -309,6 +355,7 @@ handles_bounded : (oracle : Oracle) (s : State) (site : Site) (item : ItemNode) 
 handles_bounded oracle s site item (Mod name raw contents) effect does =
     bounded oracle (name_text s.session) site effect _ [] (within_same oracle _ site.directory effect _ _ does (contents_within oracle s site item name _ contents))
 handles_bounded oracle s site item (Use raw imports) effect does = puts_bounded oracle (name_text s.session) site effect _ [] does.2 tt
+handles_bounded oracle s site item (ExternCrate name raw alias) effect does = puts_bounded oracle (name_text s.session) site effect _ [] does.2 (are_crate (noted_in s site.scope (with_extern_crate (record { 0 = does.0 }))) site item (record { 0 = does.0 }) (crate_name name alias) (written_vis oracle s site.scope raw) (named_crate s name))
 handles_bounded oracle s site item (ExternBlock children) effect does =
     block_bounded oracle (name_text s.session) site (record site { container = contained.ExternBlock (record { 0 = does.0 }) }) effect children refl refl (ap (λ (e : Effect). e.tasks) does.2)
 handles_bounded oracle s site item (Impl of_trait) effect does = puts_bounded oracle (name_text s.session) site effect _ [] does.2 tt
@@ -326,6 +373,7 @@ handles_bounded oracle s site item (TypeAlias name raw) effect does = puts_bound
 handles_session : (oracle : Oracle) (s : State) (site : Site) (item : ItemNode) (kind : ModItemKind) (effect : Effect) → Handles oracle s site item kind effect → effect.state.session ≡ s.session
 handles_session oracle s site item (Mod name raw contents) effect does = ap (λ (e : Effect). e.state.session) does ∙ contents_session oracle s site item name _ contents
 handles_session oracle s site item (Use raw imports) effect does = ap (λ (e : Effect). e.state.session) does.2
+handles_session oracle s site item (ExternCrate name raw alias) effect does = ap (λ (e : Effect). e.state.session) does.2 ∙ crate_session (noted_in s site.scope (with_extern_crate (record { 0 = does.0 }))) site item (record { 0 = does.0 }) (crate_name name alias) (written_vis oracle s site.scope raw) (named_crate s name)
 handles_session oracle s site item (ExternBlock children) effect does = ap (λ (e : Effect). e.state.session) does.2
 handles_session oracle s site item (Impl of_trait) effect does = ap (λ (e : Effect). e.state.session) does.2
 handles_session oracle s site item (Struct name raw ctor) effect does = ap (λ (e : Effect). e.state.session) does.2

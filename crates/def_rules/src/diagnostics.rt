@@ -10,6 +10,8 @@ pub enum DefDiagnosticKind {
     UnresolvedModule { candidates: Seq<Text> },
     /// An import that did not resolve: its number in its `use` item.
     UnresolvedImport { index: u32 },
+    /// An extern crate that was not found.
+    UnresolvedExternCrate,
     /// An item or a file that is not compiled: the condition that is not met.
     UnconfiguredCode { cfg: CfgExpr },
 }

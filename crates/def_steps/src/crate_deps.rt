@@ -1,5 +1,5 @@
 //! The crates that a crate depends on.
-ghost use Rattle.std.specs.Prelude.{◌≡◌, OnOk};
+ghost use Rattle.std.specs.Prelude.{◌≡◌, IfOk, OnOk};
 ghost use Rattle.def_modules.specs.Locals.{local_view};
 ghost use Rattle.def_modules.specs.Maps.{crate_state};
 ghost use Rattle.def_rules.specs.Crates as crates;
@@ -7,7 +7,7 @@ ghost use Rattle.def_rules.specs.Crates as crates;
 use def_ids::ModuleId;
 use def_map::{Dependency, ExternPreludeEntry, LangCrate, LocalDefMap, MapData, SourceDatabase};
 use item_tree::Crate;
-use std::alloc::AllocError;
+use std::alloc::{AllocError, Global};
 
 /// The crates that a crate depends on. A crate that is not known depends on none.
 pub fn dependencies<D: SourceDatabase>(db: &D, krate: Crate) -> &[Dependency]
@@ -17,6 +17,35 @@ pub fn dependencies<D: SourceDatabase>(db: &D, krate: Crate) -> &[Dependency]
         Some(known) => known.deps.as_slice(),
         None => &[],
     }
+}
+
+/// The crates that a crate depends on, by their names. Of two of one name the later stands.
+pub fn deps_by_name<D: SourceDatabase>(
+    alloc: Global,
+    db: &D,
+    krate: Crate,
+) -> Result<LocalDefMap, AllocError>
+    ensures { IfOk result (λ known. local_view known ≡ crates.deps_by_name (D.oracle db.now) krate) }
+{
+    let mut known = LocalDefMap::new(alloc);
+    name_all(&mut known, dependencies(db, krate))?;
+    Ok(known)
+}
+
+/// Names all of these dependencies, one after the other.
+fn name_all(known: &mut LocalDefMap, deps: &[Dependency]) -> Result<(), AllocError>
+    ensures { OnOk result (local_view known.new ≡ crates.with_all_deps deps.now (local_view known.old)) }
+{
+    'deps: for dep in deps {
+        known.insert(
+            dep.name,
+            ExternPreludeEntry {
+                root: ModuleId::crate_root(dep.krate),
+                by: None,
+            },
+        )?;
+    }
+    Ok(())
 }
 
 /// Names these dependencies, one after the other.

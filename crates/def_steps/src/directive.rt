@@ -1,13 +1,16 @@
 //! Imports that wait, and the namespaces that they were recorded from.
-ghost use Rattle.std.specs.Prelude.{◌≡◌};
+ghost use Rattle.std.specs.Prelude.{◌≡◌, ◌&&◌, length, nat_lt, option_map};
 ghost use Rattle.def_rules.specs.Imports as imports;
+ghost use Rattle.def_rules.specs.Items as items;
 ghost use Rattle.def_steps.specs.Shown.{kept_of, ns_set, pending_of};
 ghost use Rattle.def_rules.specs.Globs.{is_public};
 
 use def_bindings::{ImportOrExternCrate, Namespace, Visibility};
 use def_ids::{GlobId, ImportId, ModuleId, UseId};
 use def_map::{Item, PerNs, ReachedFixedPoint, ResolvePathResult};
-use item_tree::{FileAstId, ImportAlias, ImportKind, InFile, Name, RawVisibility, UseImport};
+use item_tree::{
+    FileAstId, ImportAlias, ImportKind, InFile, ModPath, Name, PathKind, RawVisibility, UseImport,
+};
 
 /// One import of a `use` item that was reached, with the module and the item that it stands in.
 /// It refers to the item tree.
@@ -129,6 +132,51 @@ pub fn kept_item(answer: &ResolvePathResult, item: Option<Item>) -> Option<Item>
     }
 }
 
+/// What is taken in types of an import's answer, once what is not to be kept is left out. An extern
+/// crate that is imported by its name alone is as visible as the import.
+pub fn reexported(path: &ModPath, vis: Visibility, item: Option<Item>) -> Option<Item>
+    ensures { result ≡ option_map (imports.reexported path.now vis) item }
+{
+    match item {
+        Some(found) => {
+            if is_by_crate(found.import) && is_lone_name(path) {
+                Some(Item { vis, ..found })
+            } else {
+                Some(found)
+            }
+        }
+        None => None,
+    }
+}
+
+/// Whether an extern crate made a binding.
+fn is_by_crate(import: Option<ImportOrExternCrate>) -> bool
+    ensures { result ≡ imports.is_by_crate import }
+{
+    match import {
+        Some(ImportOrExternCrate::ExternCrate(_)) => true,
+        _ => false,
+    }
+}
+
+/// Whether a path has fewer than two segments, and no word but `self` before them.
+fn is_lone_name(path: &ModPath) -> bool
+    ensures { result ≡ imports.is_plain_or_self path.now.kind && nat_lt (length path.now.segments) 2 }
+{
+    is_plain_or_self(path.kind) && path.segments.as_slice().len() < 2
+}
+
+/// Whether a path has no word before its first segment, or `self` alone.
+fn is_plain_or_self(kind: PathKind) -> bool
+    ensures { result ≡ imports.is_plain_or_self kind }
+{
+    match kind {
+        PathKind::Plain => true,
+        PathKind::Super(levels) => levels == 0,
+        _ => false,
+    }
+}
+
 /// Whether something is public.
 pub fn is_public(vis: Visibility) -> bool
     ensures { result ≡ is_public vis }
@@ -160,6 +208,17 @@ pub fn import_name(import: &UseImport) -> Option<Option<Name>>
     match import.kind {
         ImportKind::Plain | ImportKind::TypeOnly => plain_name(import),
         ImportKind::Glob => None,
+    }
+}
+
+/// The name that an extern crate binds: its alias, else its own. None is `_`.
+pub fn crate_name(name: Name, alias: Option<ImportAlias>) -> Option<Name>
+    ensures { result ≡ items.crate_name name alias }
+{
+    match alias {
+        Some(ImportAlias::Alias(name)) => Some(name),
+        Some(ImportAlias::Underscore) => None,
+        None => Some(name),
     }
 }
 

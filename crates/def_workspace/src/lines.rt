@@ -208,6 +208,12 @@ impl<'a, 'b, W: io::Write> Printer<'a, 'b, W> {
                 write!(self.out, "diag unresolved-module {module} {file}:{item} ")?;
                 self.candidates(candidates.as_slice())?;
             }
+            DefDiagnosticKind::UnresolvedExternCrate => {
+                writeln!(
+                    self.out,
+                    "diag unresolved-extern-crate {module} {file}:{item}"
+                )?;
+            }
             DefDiagnosticKind::UnconfiguredCode { cfg } => {
                 let cfg = cfg.0;
                 writeln!(self.out, "diag unconfigured {module} {file}:{item} {cfg}")?;

@@ -84,6 +84,12 @@ pub enum ItemText {
     FilePath {
         path: &'static str,
     },
+    /// The alias `_` is no name.
+    ExternCrate {
+        vis: VisText,
+        name: &'static str,
+        alias: Option<&'static str>,
+    },
     ExternBlock,
     Impl {
         is_trait_impl: bool,

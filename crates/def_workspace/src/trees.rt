@@ -34,6 +34,18 @@ fn visibility(
     }
 }
 
+/// An alias; `_` is no name.
+fn alias_of(
+    session: &mut Interner,
+    text: Option<&'static str>,
+) -> Result<Option<ImportAlias>, AllocError> {
+    match text {
+        Some("_") => Ok(Some(ImportAlias::Underscore)),
+        Some(alias) => Ok(Some(ImportAlias::Alias(session.intern_name(alias)?))),
+        None => Ok(None),
+    }
+}
+
 fn import(
     alloc: Global,
     session: &mut Interner,
@@ -41,11 +53,7 @@ fn import(
     text: &ImportText,
 ) -> Result<UseImport, AllocError> {
     let path = path_of(alloc, session, &text.path)?;
-    let alias = match text.alias {
-        Some("_") => Some(ImportAlias::Underscore),
-        Some(alias) => Some(ImportAlias::Alias(session.intern_name(alias)?)),
-        None => None,
-    };
+    let alias = alias_of(session, text.alias)?;
     Ok(UseImport {
         idx,
         path,
@@ -126,6 +134,11 @@ fn item_kind(
         } => Ok(Some(ModItemKind::Use {
             visibility: visibility(alloc, session, vis)?,
             imports: imports(alloc, session, texts)?,
+        })),
+        ItemText::ExternCrate { vis, name, alias } => Ok(Some(ModItemKind::ExternCrate {
+            name: session.intern_name(name)?,
+            visibility: visibility(alloc, session, vis)?,
+            alias: alias_of(session, *alias)?,
         })),
         ItemText::ExternBlock => Ok(Some(ModItemKind::ExternBlock {
             children: Seq::from_vec(Vec::new(alloc)),

@@ -11,7 +11,7 @@ use def_ids::Edition;
 use item_tree::{ImportKind, PathKind};
 
 /// The vectors in byte order of their names.
-static VECTORS: [Vector; 10] = [
+static VECTORS: [Vector; 11] = [
     // #![recursion_limit = "4"] #![no_core] #![no_std] #![feature(register_tool)]
     Vector {
         name: "attrs",
@@ -165,6 +165,70 @@ static VECTORS: [Vector; 10] = [
     Vector {
         name: "empty",
         files: &[&[]],
+        crates: &[CrateText {
+            krate: 0,
+            edition: Edition::Edition2021,
+            root_file: 0,
+            deps: &[],
+        }],
+        builtin_types: &[],
+        enums: &[],
+    },
+    // extern crate gone as g; use g::X; use ::g::Y; use self::g::Z;
+    Vector {
+        name: "excused",
+        files: &[&[
+            Line {
+                depth: 0,
+                item: ItemText::ExternCrate {
+                    vis: VisText::PubSelf,
+                    name: "gone",
+                    alias: Some("g"),
+                },
+            },
+            Line {
+                depth: 0,
+                item: ItemText::Use {
+                    vis: VisText::PubSelf,
+                    imports: &[ImportText {
+                        path: PathText {
+                            kind: PathKind::Plain,
+                            segments: &["g", "X"],
+                        },
+                        kind: ImportKind::Plain,
+                        alias: None,
+                    }],
+                },
+            },
+            Line {
+                depth: 0,
+                item: ItemText::Use {
+                    vis: VisText::PubSelf,
+                    imports: &[ImportText {
+                        path: PathText {
+                            kind: PathKind::Abs,
+                            segments: &["g", "Y"],
+                        },
+                        kind: ImportKind::Plain,
+                        alias: None,
+                    }],
+                },
+            },
+            Line {
+                depth: 0,
+                item: ItemText::Use {
+                    vis: VisText::PubSelf,
+                    imports: &[ImportText {
+                        path: PathText {
+                            kind: PathKind::Super(0),
+                            segments: &["g", "Z"],
+                        },
+                        kind: ImportKind::Plain,
+                        alias: None,
+                    }],
+                },
+            },
+        ]],
         crates: &[CrateText {
             krate: 0,
             edition: Edition::Edition2021,

@@ -37,7 +37,7 @@ pub enum ImportKind {
     Glob,
 }
 
-/// The name that an import is given.
+/// The name that an import or an extern crate is given.
 #[derive(Clone, Copy, PartialEq, Eq, Debug)]
 pub enum ImportAlias {
     Alias(Name),
@@ -81,6 +81,12 @@ pub enum ModItemKind {
     Use {
         visibility: RawVisibility,
         imports: Seq<UseImport>,
+    },
+    /// `extern crate NAME as ALIAS`; the name may be `self`.
+    ExternCrate {
+        name: Name,
+        visibility: RawVisibility,
+        alias: Option<ImportAlias>,
     },
     ExternBlock {
         children: Seq<ModItemId>,

@@ -1,14 +1,16 @@
 //! The end of a run: what is left over is marked, answered and reported.
 ghost use Rattle.std.specs.Prelude.{◌≡◌, ◌++◌, map, IfOk, OnOk};
+ghost use Rattle.std.specs.List.{flat_map};
+ghost use Rattle.def_steps.specs.Shown.{missing_in, pending_of};
 ghost use Rattle.def_ids.specs.declared.interner.Interner.{Interner};
 ghost use Rattle.def_modules.specs.Maps.{map_state};
 ghost use Rattle.def_collector.specs.Collector.{left_in, marked_each, shown, state_of};
-ghost use Rattle.def_rules.specs.Report.{left_import, unresolved, IsFinished};
+ghost use Rattle.def_rules.specs.Report.{import_report, left_import, IsFinished};
 
 use super::DefCollector;
 use def_map::{DefMap, MapData};
 use def_rules::{Collected, DefDiagnostic, DefDiagnosticKind, LeftImport, Outcome};
-use def_steps::{ImportDirective, edges_of, import_name, targets_of};
+use def_steps::{ImportDirective, MissingCrates, edges_of, import_name, targets_of};
 use item_tree::Seq;
 use std::alloc::AllocError;
 
@@ -34,6 +36,8 @@ impl<'a> DefCollector<'a> {
             local_def_map,
             crate_local: _,
             is_proc_macro: _,
+            deps: _,
+            missing_crates,
             mod_dirs: _,
             unresolved_imports,
             indeterminate_imports: _,
@@ -45,7 +49,7 @@ impl<'a> DefCollector<'a> {
             diagnostics,
         };
         'left: for entry in unresolved_imports.as_slice() {
-            finish.add(entry)?;
+            finish.add(entry, &missing_crates)?;
         }
         let Finish {
             def_map,
@@ -73,10 +77,15 @@ impl<'a> DefCollector<'a> {
 impl Finish {
     /// Marks, answers and reports an import, if it is left over. On `Err` nothing but safety is
     /// promised.
-    fn add(&mut self, entry: &Option<ImportDirective>) -> Result<(), AllocError>
+    fn add(
+        &mut self,
+        entry: &Option<ImportDirective>,
+        missing: &MissingCrates,
+    ) -> Result<(), AllocError>
         ensures map { OnOk result (map_state self.new.def_map ≡ marked_each (left_in entry.now) (map_state self.old.def_map)) }
         ensures imports { OnOk result (self.new.imports.items ≡ self.old.imports.items ++ map left_import (left_in entry.now)) }
-        ensures diagnostics { OnOk result (self.new.diagnostics.items ≡ self.old.diagnostics.items ++ map unresolved (left_in entry.now)) }
+        ensures diagnostics { OnOk result (self.new.diagnostics.items ≡ self.old.diagnostics.items
+            ++ flat_map (import_report (missing_in missing.now)) (left_in entry.now)) }
     {
         let Some(directive) = entry else {
             return Ok(());
@@ -90,6 +99,24 @@ impl Finish {
             idx: directive.import.idx,
             path: directive.import.path.clone()?,
         })?;
+        self.report(directive, missing)?;
+        Ok(())
+    }
+
+    /// Reports an import that is left over, unless it is excused. On `Err` nothing but safety is
+    /// promised.
+    fn report(
+        &mut self,
+        directive: &ImportDirective,
+        missing: &MissingCrates,
+    ) -> Result<(), AllocError>
+        ensures frame { self.new ≡ record self.old { diagnostics = self.new.diagnostics } }
+        ensures reported { OnOk result (self.new.diagnostics.items ≡ self.old.diagnostics.items
+            ++ import_report (missing_in missing.now) (pending_of directive.now)) }
+    {
+        if missing.excuses(&directive.import.path) {
+            return Ok(());
+        }
         self.diagnostics.push(DefDiagnostic {
             module: directive.module_id,
             ast_id: directive.position,

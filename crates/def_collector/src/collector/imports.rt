@@ -21,7 +21,7 @@ use def_map::{
 };
 use def_steps::{
     ImportDirective, NamespaceSet, PartialDirective, import_name, is_missing, is_ready_again,
-    keeps_ns, kept_after, kept_item,
+    keeps_ns, kept_after, kept_item, reexported,
 };
 use item_tree::{ImportKind, Name};
 use std::alloc::AllocError;
@@ -265,7 +265,7 @@ impl<'a> DefCollector<'a> {
             vis,
         };
         let found = &answer.resolved_def;
-        let types = kept_item(answer, found.types);
+        let types = reexported(&directive.import.path, vis, kept_item(answer, found.types));
         let values = kept_item(answer, found.values);
         let macros = kept_item(answer, found.macros);
         let order = &self.def_map.tree;

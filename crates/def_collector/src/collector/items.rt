@@ -10,15 +10,17 @@ ghost use Rattle.def_map.specs.Oracle.{Oracle};
 ghost use Rattle.def_rules.specs.Items.{ctor_vis, declared_effect, declared_entry, least_in, least_of, position_of, struct_effect, written_vis};
 
 use super::DefCollector;
+use super::crates::CrateItem;
 use super::modules::ModuleItem;
-use super::walk::{Frame, Site};
+use super::walk::{ItemList, Site};
 use def_bindings::{Entry, Namespace, VisOrder, Visibility, lesser_or_import};
 use def_ids::{
-    ConstLoc, Def, EnumLoc, ExternBlockLoc, FunctionLoc, ImplLoc, Interner, ItemContainerId,
-    Location, ModuleId, StaticLoc, StructLoc, TraitLoc, TypeAliasLoc, UnionLoc, UseId, UseLoc,
+    ConstLoc, Def, EnumLoc, ExternBlockLoc, ExternCrateLoc, FunctionLoc, ImplLoc, Interner,
+    ItemContainerId, Location, ModuleId, StaticLoc, StructLoc, TraitLoc, TypeAliasLoc, UnionLoc,
+    UseId, UseLoc,
 };
 use def_map::{SourceDatabase, resolve_visibility};
-use def_steps::ImportDirective;
+use def_steps::{ImportDirective, crate_name};
 use item_tree::{
     CtorVisibility, FileAstId, InFile, ItemNode, ModItemKind, Name, RawVisibility, UseImport,
 };
@@ -53,10 +55,10 @@ impl<'a> DefCollector<'a> {
         session: &mut Interner,
         site: Site<'_>,
         node: &'a ItemNode,
-    ) -> Result<Option<Frame<'a>>, AllocError>
+    ) -> Result<Option<ItemList<'a>>, AllocError>
         ensures handled { IfOk result (λ opened.
             Handled (D.oracle db.now) (state_of self.old session.old) (state_of self.new session.new)
-            (site_of site.entry) node.now (inner_of opened)) }
+            (site_of site.entry) node.now (inner_of (D.oracle db.now) opened)) }
         ensures known { IfOk result (λ opened. AreKnown (D.oracle db.now) opened) }
         ensures session { Grows (session_of session.old) (session_of session.new) }
         ensures names { session.new.names ≡ session.old.names }
@@ -95,6 +97,30 @@ impl<'a> DefCollector<'a> {
                 queue_imports(waiting, site.module_id, written, imports.as_slice())?;
                 Ok(None)
             }
+            ModItemKind::ExternCrate {
+                name,
+                visibility,
+                alias,
+            } => {
+                let id = ExternCrateLoc {
+                    container: site.module_id,
+                    position: site.position(node),
+                }
+                .intern(session)?;
+                let vis = self.resolve_visibility(db, session, site.module_id, visibility);
+                let root = self.named_crate(*name);
+                let module = site.module_id.index;
+                self.def_map.define_extern_crate_decl(module, id)?;
+                let item = CrateItem {
+                    site,
+                    node,
+                    id,
+                    name: crate_name(*name, *alias),
+                    vis,
+                };
+                self.collect_extern_crate(item, root)?;
+                Ok(None)
+            }
             ModItemKind::ExternBlock { children } => {
                 let id = ExternBlockLoc {
                     container: site.module_id,
@@ -102,13 +128,12 @@ impl<'a> DefCollector<'a> {
                 }
                 .intern(session)?;
                 self.def_map.define_extern_block(site.module_id.index, id)?;
-                Ok(Some(Frame {
+                Ok(Some(ItemList {
                     module_id: site.module_id,
                     container: ItemContainerId::ExternBlock(id),
                     tree_id: site.tree_id,
                     tree: db.item_tree(site.tree_id),
                     items: children.as_slice(),
-                    next: 0,
                     dir: site.dir.clone()?,
                 }))
             }

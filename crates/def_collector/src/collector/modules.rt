@@ -14,7 +14,7 @@ ghost use Rattle.def_rules.specs.Items.{add_module, declared_entry, diagnostic, 
 ghost use Rattle.def_rules.specs.State.{reported};
 
 use super::DefCollector;
-use super::walk::{Frame, Site};
+use super::walk::{ItemList, Site};
 use def_bindings::{Namespace, Visibility};
 use def_ids::{Def, Interner, ItemContainerId, ModuleId};
 use def_map::{ModuleData, ModuleOrigin, SourceDatabase};
@@ -63,10 +63,10 @@ impl<'a> DefCollector<'a> {
         session: &Interner,
         item: ModuleItem<'_>,
         contents: &'a ModContents,
-    ) -> Result<Option<Frame<'a>>, AllocError>
+    ) -> Result<Option<ItemList<'a>>, AllocError>
         ensures done { IfOk result (λ opened. IsDone (D.oracle db.now)
             (module_item (D.oracle db.now) (state_of self.old session.now) (site_of item.entry.site) item.entry.node.now item.entry.name item.entry.vis contents.now)
-            (state_of self.new session.now) (inner_of opened)) }
+            (state_of self.new session.now) (inner_of (D.oracle db.now) opened)) }
         ensures known { IfOk result (λ opened. AreKnown (D.oracle db.now) opened) }
     {
         match contents {
@@ -84,10 +84,10 @@ impl<'a> DefCollector<'a> {
         session: &Interner,
         item: ModuleItem<'_>,
         children: &'a [ModItemId],
-    ) -> Result<Option<Frame<'a>>, AllocError>
+    ) -> Result<Option<ItemList<'a>>, AllocError>
         ensures done { IfOk result (λ opened. IsDone (D.oracle db.now)
             (module_item (D.oracle db.now) (state_of self.old session.now) (site_of item.entry.site) item.entry.node.now item.entry.name item.entry.vis (contents_kind.Inline children.now))
-            (state_of self.new session.now) (inner_of opened)) }
+            (state_of self.new session.now) (inner_of (D.oracle db.now) opened)) }
         ensures known { IfOk result (λ opened. AreKnown (D.oracle db.now) opened) }
     {
         let site = item.site;
@@ -99,13 +99,12 @@ impl<'a> DefCollector<'a> {
         let Some(dir) = dir else {
             return Ok(None);
         };
-        Ok(Some(Frame {
+        Ok(Some(ItemList {
             module_id: child,
             container: ItemContainerId::Module(child),
             tree_id: site.tree_id,
             tree: db.item_tree(site.tree_id),
             items: children,
-            next: 0,
             dir,
         }))
     }
@@ -116,10 +115,10 @@ impl<'a> DefCollector<'a> {
         db: &'a D,
         session: &Interner,
         item: ModuleItem<'_>,
-    ) -> Result<Option<Frame<'a>>, AllocError>
+    ) -> Result<Option<ItemList<'a>>, AllocError>
         ensures done { IfOk result (λ opened. IsDone (D.oracle db.now)
             (module_item (D.oracle db.now) (state_of self.old session.now) (site_of item.entry.site) item.entry.node.now item.entry.name item.entry.vis contents_kind.Outline)
-            (state_of self.new session.now) (inner_of opened)) }
+            (state_of self.new session.now) (inner_of (D.oracle db.now) opened)) }
         ensures known { IfOk result (λ opened. AreKnown (D.oracle db.now) opened) }
     {
         let site = item.site;
@@ -154,10 +153,10 @@ impl<'a> DefCollector<'a> {
         session: &Interner,
         item: ModuleItem<'_>,
         found: FoundFile,
-    ) -> Result<Option<Frame<'a>>, AllocError>
+    ) -> Result<Option<ItemList<'a>>, AllocError>
         ensures done { IfOk result (λ opened. IsDone (D.oracle db.now)
             (outline_item (D.oracle db.now) (state_of self.old session.now) (site_of item.entry.site) item.entry.node.now item.entry.name item.entry.vis (Ok (found_in found)))
-            (state_of self.new session.now) (inner_of opened)) }
+            (state_of self.new session.now) (inner_of (D.oracle db.now) opened)) }
         ensures known { IfOk result (λ opened. AreKnown (D.oracle db.now) opened) }
     {
         let tree_id = TreeId {
@@ -177,13 +176,12 @@ impl<'a> DefCollector<'a> {
             is_mod_rs: found.is_mod_rs,
         };
         let child = self.push_child_module(item, origin)?;
-        Ok(Some(Frame {
+        Ok(Some(ItemList {
             module_id: child,
             container: ItemContainerId::Module(child),
             tree_id,
             tree,
             items: top_items(tree),
-            next: 0,
             dir: found.dir,
         }))
     }

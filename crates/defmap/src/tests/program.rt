@@ -57,7 +57,7 @@ fn shows_what_there_is(rt: HostRuntime) {
         alloc,
         &["list"],
         0,
-        "attrs\ncircular\ncycle\nempty\nfields\nglob\nlist\nplain\nprivate\nunderscore\n",
+        "attrs\ncircular\ncycle\nempty\nexcused\nfields\nglob\nlist\nplain\nprivate\nunderscore\n",
         "",
     );
     expect_run(&rt, alloc, &["show", "plain"], 0, PLAIN, "");

@@ -1,10 +1,11 @@
 use Rattle.std.proofs.Common.{ap, refl, ◌∙◌}
 use Rattle.std.specs.Prelude.{◌++◌}
 use Rattle.def_ids.specs.Session.{session_of}
+use Rattle.def_modules.specs.Maps.{map_state}
 use Rattle.def_collector.specs.Collector.{inner_of, site_of, state_of}
 use Rattle.def_rules.specs.State.{State, with_map}
 use Rattle.def_collector.proofs.CollectLemmas.{if_ok}
-use Rattle.def_collector.proofs.ItemsLemmas.{handled_module, handled_struct, handled_use, imports_at, handled_const, handled_enum, handled_extern_block, handled_function, handled_impl, handled_static, handled_trait, handled_type_alias, handled_union, handled_unnamed_const}
+use Rattle.def_collector.proofs.ItemsLemmas.{handled_module, handled_struct, handled_use, imports_at, handled_const, handled_enum, handled_extern_block, handled_extern_crate, handled_function, handled_impl, handled_static, handled_trait, handled_type_alias, handled_union, handled_unnamed_const}
 use Rattle.def_collector.proofs.collector.DefCollector.collect_item.Goals as goal
 use Rattle.item_tree.specs.declared.items.ModItemKind.TheVariants.{Const}
 
@@ -12,7 +13,7 @@ pub returns-in-Mod-clause-handled : goal.returns-in-Mod-clause-handled
 returns-in-Mod-clause-handled g c =
     let before : State = state_of c.args.self.now c.args.session.now in
     if_ok c.collect_module.result c.collect_module.ensures.done (λ opened done.
-    handled_module (g.D.SourceDatabase.oracle c.args.db.now) before _ (site_of c.args.site) c.args.node.now _ _ _ c.resolve_visibility-vis.result (inner_of opened) c.in-Mod.is c.resolve_visibility-vis.ensures done)
+    handled_module (g.D.SourceDatabase.oracle c.args.db.now) before _ (site_of c.args.site) c.args.node.now _ _ _ c.resolve_visibility-vis.result (inner_of (g.D.SourceDatabase.oracle c.args.db.now) opened) c.in-Mod.is c.resolve_visibility-vis.ensures done)
 
 pub returns-in_ok-queue_imports-in-Use-clause-handled : goal.returns-in_ok-queue_imports-in-Use-clause-handled
 returns-in_ok-queue_imports-in-Use-clause-handled g c =
@@ -96,7 +97,18 @@ returns-in_ok-define_impl-in-Impl-clause-handled g c =
 pub returns-in_ok-clone-in-ExternBlock-clause-handled : goal.returns-in_ok-clone-in-ExternBlock-clause-handled
 returns-in_ok-clone-in-ExternBlock-clause-handled g c =
     let before : State = state_of c.args.self.now c.args.session.now in
-    handled_extern_block (g.D.SourceDatabase.oracle c.args.db.now) before _ (session_of c.intern-in-ExternBlock.new.session) (site_of c.args.site) c.args.node.now c.in_ok-id-in-ExternBlock.id.0 c.position.result
-    c.in_ok-id-in-ExternBlock.ensures.grows c.position.ensures _ c.as_slice-in-ExternBlock.result.now c.in_ok-clone-in-ExternBlock.field-0
+    handled_extern_block (g.D.SourceDatabase.oracle c.args.db.now) before _ (session_of c.intern-in-ExternBlock.new.session) (site_of c.args.site) c.args.node.now c.in_ok-id-in-ExternBlock.id.0 c.position-in-ExternBlock.result
+    c.in_ok-id-in-ExternBlock.ensures.grows c.position-in-ExternBlock.ensures _ c.as_slice-in-ExternBlock.result.now c.in_ok-clone-in-ExternBlock.field-0
     c.in-ExternBlock.is c.as_slice-in-ExternBlock.ensures c.in_ok-clone-in-ExternBlock.ensures c.in_ok-id-in-ExternBlock.ensures.shown
     (ap (with_map (record before { session = session_of c.intern-in-ExternBlock.new.session })) c.in_ok-define_extern_block-in-ExternBlock.ensures)
+
+pub returns-in_ok-collect_extern_crate-in-ExternCrate-clause-handled : goal.returns-in_ok-collect_extern_crate-in-ExternCrate-clause-handled
+returns-in_ok-collect_extern_crate-in-ExternCrate-clause-handled g c =
+    let before : State = state_of c.args.self.now c.args.session.now in
+    let session = c.intern-in-ExternCrate.new.session in
+    handled_extern_crate (g.D.SourceDatabase.oracle c.args.db.now) before (state_of c.collect_extern_crate.new.self session) (session_of session) (site_of c.args.site) c.args.node.now c.in_ok-id-in-ExternCrate.id.0 c.position.result
+    c.in_ok-id-in-ExternCrate.ensures.grows c.position.ensures c.in-ExternCrate.name c.in-ExternCrate.visibility c.in-ExternCrate.alias
+    (with_map (record before { session = session_of session }) (map_state c.define_extern_crate_decl.new.self)) c.crate_name.result c.resolve_visibility-vis-in-ExternCrate.result c.named_crate-root.result
+    c.in-ExternCrate.is c.in_ok-id-in-ExternCrate.ensures.shown (ap (with_map (record before { session = session_of session })) c.in_ok-define_extern_crate_decl-in-ExternCrate.ensures)
+    c.crate_name.ensures c.resolve_visibility-vis-in-ExternCrate.ensures (c.named_crate-root.ensures session)
+    (c.in_ok-collect_extern_crate-in-ExternCrate.ensures (g.D.SourceDatabase.oracle c.args.db.now) session) refl

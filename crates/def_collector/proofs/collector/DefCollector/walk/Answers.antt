@@ -1,7 +1,7 @@
 use Rattle.std.proofs.Common.{ap, refl, subst, sym, ◌∙◌, ◌++◌, ◌∷◌, []}
 use Rattle.def_ids.specs.Session.{session_of}
 use Rattle.def_ids.specs.SessionLaws.{grows_refl, grows_trans}
-use Rattle.def_collector.specs.Collector.{agenda_of, frame_site, is_known, left_of, state_of}
+use Rattle.def_collector.specs.Collector.{agenda_of, is_frame_known, is_known, list_site, state_of}
 use Rattle.def_rules.specs.Items.{walk}
 use Rattle.def_rules.specs.Steps.{Leads}
 use Rattle.def_rules.specs.StepsLaws.{leads_trans}
@@ -12,10 +12,12 @@ use Rattle.def_collector.proofs.collector.DefCollector.walk.Goals as goal
 pub frames-init : goal.frames-init
 frames-init g c =
     let oracle = g.D.SourceDatabase.oracle c.args.db.now in
-    let one = c.in_ok-push.ensures.items ∙ ap (λ fs. fs ++ c.args.first ∷ []) c.new-frames.ensures.items in
+    let frame = c.in_ok-frame.frame in
+    let one = c.in_ok-push.ensures.items ∙ ap (λ fs. fs ++ frame ∷ []) c.new-frames.ensures.items in
     record {
-      run = walk_begins oracle c.args.first c.push.new.self.items (state_of c.args.self.now c.args.session.now) (state_of c.enter.new.self c.args.session.now) one (c.in_ok-enter.ensures c.args.session.now);
-      known = all_pushed (is_known oracle) [] c.push.new.self.items c.args.first one (all_none (is_known oracle)) c.requires;
+      run = walk_begins oracle c.args.first frame c.push.new.self.items (state_of c.args.self.now c.args.session.now) (state_of c.open.new.self c.args.session.now)
+          c.requires c.in_ok-frame.ensures.list c.in_ok-frame.ensures.left one (c.in_ok-frame.ensures.entered c.args.session.now);
+      known = all_pushed (is_frame_known oracle) [] c.push.new.self.items frame one (all_none (is_frame_known oracle)) (subst (is_known oracle) (sym c.in_ok-frame.ensures.list) c.requires);
       grows = grows_refl (session_of c.args.session.now);
       names = refl;
     }
@@ -38,7 +40,7 @@ frames-smaller g c =
 pub returns-clause-run : goal.returns-clause-run
 returns-clause-run g c =
     let oracle = g.D.SourceDatabase.oracle c.args.db.now in
-    subst (λ tasks. Leads oracle (walk (frame_site c.args.first) (left_of c.args.first)) (state_of c.args.self.now c.args.session.now) tasks (state_of c.frames.self c.frames.session))
+    subst (λ tasks. Leads oracle (walk oracle (list_site c.args.first) c.args.first.items.now) (state_of c.args.self.now c.args.session.now) tasks (state_of c.frames.self c.frames.session))
     (ap (λ fs. agenda_of fs) (empty_list c.frames.frames.items (sym c.frames.frames.ok.0 ∙ c.in_default.ensures.cases.0)) ∙ agenda_of-none) c.frames.invariant.run
 
 pub returns-in_err-visit_next-clause-session : goal.returns-in_err-visit_next-clause-session

@@ -1,0 +1,176 @@
+//! Globs: a module that a wave meets a second time.
+#![tactic(auto)]
+
+use def_ids::Edition;
+use def_workspace::{
+    CrateText, CtorText, Fault, ImportText, ItemText, Line, PathText, Vector, VisText, show,
+};
+use item_tree::{ImportKind, PathKind};
+
+/// mod b { use crate::s::*; pub use crate::a::*; } mod c { pub use crate::b::*; }
+/// mod a { pub use crate::s::*; } mod s { pub use crate::t::N; } mod t { pub struct N; }
+static TWICE: Vector = Vector {
+    name: "a test's",
+    files: &[&[
+        Line {
+            depth: 0,
+            item: ItemText::Mod {
+                vis: VisText::PubSelf,
+                name: "b",
+            },
+        },
+        Line {
+            depth: 1,
+            item: ItemText::Use {
+                vis: VisText::PubSelf,
+                imports: &[ImportText {
+                    path: PathText {
+                        kind: PathKind::Crate,
+                        segments: &["s"],
+                    },
+                    kind: ImportKind::Glob,
+                    alias: None,
+                }],
+            },
+        },
+        Line {
+            depth: 1,
+            item: ItemText::Use {
+                vis: VisText::Public,
+                imports: &[ImportText {
+                    path: PathText {
+                        kind: PathKind::Crate,
+                        segments: &["a"],
+                    },
+                    kind: ImportKind::Glob,
+                    alias: None,
+                }],
+            },
+        },
+        Line {
+            depth: 0,
+            item: ItemText::Mod {
+                vis: VisText::PubSelf,
+                name: "c",
+            },
+        },
+        Line {
+            depth: 1,
+            item: ItemText::Use {
+                vis: VisText::Public,
+                imports: &[ImportText {
+                    path: PathText {
+                        kind: PathKind::Crate,
+                        segments: &["b"],
+                    },
+                    kind: ImportKind::Glob,
+                    alias: None,
+                }],
+            },
+        },
+        Line {
+            depth: 0,
+            item: ItemText::Mod {
+                vis: VisText::PubSelf,
+                name: "a",
+            },
+        },
+        Line {
+            depth: 1,
+            item: ItemText::Use {
+                vis: VisText::Public,
+                imports: &[ImportText {
+                    path: PathText {
+                        kind: PathKind::Crate,
+                        segments: &["s"],
+                    },
+                    kind: ImportKind::Glob,
+                    alias: None,
+                }],
+            },
+        },
+        Line {
+            depth: 0,
+            item: ItemText::Mod {
+                vis: VisText::PubSelf,
+                name: "s",
+            },
+        },
+        Line {
+            depth: 1,
+            item: ItemText::Use {
+                vis: VisText::Public,
+                imports: &[ImportText {
+                    path: PathText {
+                        kind: PathKind::Crate,
+                        segments: &["t", "N"],
+                    },
+                    kind: ImportKind::Plain,
+                    alias: None,
+                }],
+            },
+        },
+        Line {
+            depth: 0,
+            item: ItemText::Mod {
+                vis: VisText::PubSelf,
+                name: "t",
+            },
+        },
+        Line {
+            depth: 1,
+            item: ItemText::Struct {
+                vis: VisText::Public,
+                name: "N",
+                ctor: CtorText::Vis(VisText::Public),
+            },
+        },
+    ]],
+    crates: &[CrateText {
+        krate: 0,
+        edition: Edition::Edition2021,
+        root_file: 0,
+        deps: &[],
+    }],
+    builtin_types: &[],
+    enums: &[],
+};
+
+/// `s` gets the name when all edges stand. It comes to `b` by its own edge, too private for `c`,
+/// and then by way of `a`, as visible as it is.
+#[test]
+fn a_module_is_raised_at_its_second_visit(rt: HostRuntime) -> Result<(), Fault> {
+    let mut lines = Vec::new(rt.alloc());
+    show(rt.alloc(), &TWICE, &mut lines)?;
+    assert_eq!(rt;
+        lines.as_slice(),
+        "module 0 - crate
+module 1 0 b
+module 2 0 c
+module 3 0 a
+module 4 0 s
+module 5 0 t
+binding 0 a types mod:3 in:0 decl
+binding 0 b types mod:1 in:0 decl
+binding 0 c types mod:2 in:0 decl
+binding 0 s types mod:4 in:0 decl
+binding 0 t types mod:5 in:0 decl
+binding 1 N types struct:0 pub glob:0.0
+binding 1 N values struct:0 pub glob:0.0
+binding 2 N types struct:0 pub glob:2.0
+binding 2 N values struct:0 pub glob:2.0
+binding 3 N types struct:0 pub glob:3.0
+binding 3 N values struct:0 pub glob:3.0
+binding 4 N types struct:0 pub import:4.0
+binding 4 N values struct:0 pub import:4.0
+binding 5 N types struct:0 pub decl
+binding 5 N values struct:0 pub decl
+edge 1 2 pub 2.0
+edge 3 1 pub 1.0
+edge 4 1 in:1 0.0
+edge 4 3 pub 3.0
+"
+            .as_bytes()
+    );
+    Ok(())
+}
