@@ -1,7 +1,6 @@
 -- From the seeded map to the headline.
-use Rattle.std.proofs.Common.{◌≡◌, Bool, false, List, [], ◌∷◌, map, Option, None, Some, Result, Ok, Err, All, refl, sym, ap, subst, ◌∙◌}
+use Rattle.std.proofs.Common.{◌≡◌, Bool, false, List, [], ◌∷◌, map, Option, None, Some, All, refl, sym, ap, subst, ◌∙◌}
 use Rattle.std.proofs.lemmas.List.Elements.{All-cons, All-nil}
-use Rattle.std.specs.Result.{IfOk}
 use Rattle.item_tree.specs.declared.ids.BlockId.{BlockId}
 use Rattle.item_tree.specs.declared.name.Name.{Name}
 use Rattle.def_ids.specs.declared.ids.ModuleId.{ModuleId}
@@ -16,7 +15,7 @@ use Rattle.def_steps.specs.declared.directive.PartialDirective.{PartialDirective
 use Rattle.def_rules.specs.declared.diagnostics.DefDiagnostic.{DefDiagnostic}
 use Rattle.def_parts.specs.Directories.{Directory}
 use Rattle.def_steps.specs.Shown.{partial_of, pending_of}
-use Rattle.def_collector.specs.Collector.{waiting}
+use Rattle.def_walk.specs.Collector.{waiting}
 use Rattle.def_rules.specs.Crates.{deps_by_name, is_proc_macro_crate}
 use Rattle.def_rules.specs.Globs.{Targets}
 use Rattle.def_rules.specs.Headline.{Answers}
@@ -27,12 +26,7 @@ use Rattle.def_rules.specs.State.{Setting, State, PendingImport, PartialImport}
 use Rattle.def_rules.specs.Steps.{Leads}
 use Rattle.def_rules.specs.BegunLaws.{begins_own}
 use Rattle.def_rules.specs.HeadlineLaws.{answers}
-use Rattle.def_collector.proofs.WaitingLemmas.{waiting-nil}
-
--- what holds of a value and follows from it
-pub if_ok : {T E : Type 0} {P Q : T → Type 0} (r : Result T E) → IfOk r P → ((x : T) → P x → Q x) → IfOk r Q
-if_ok (Ok x) p f = f x p
-if_ok (Err e) p f = p
+use Rattle.def_walk.specs.WaitingLaws.{waiting-nil}
 
 unmarked : (d : ModuleState) → ((name : Name) → d.failed name ≡ false) → All (λ (e : ModuleState). (name : Name) → e.failed name ≡ false) (d ∷ [])
 unmarked d none = All-cons (λ (e : ModuleState). (name : Name) → e.failed name ≡ false) d [] none (All-nil (λ (e : ModuleState). (name : Name) → e.failed name ≡ false))

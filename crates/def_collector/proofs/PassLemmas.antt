@@ -1,10 +1,10 @@
 -- What a pass over a list of imports keeps.
-use Rattle.std.proofs.Common.{◌≡◌, ◌<◌, ◌+◌, ℕ, Bool, false, true, [], arith, refl, sym, subst, ◌∙◌, below_more}
+use Rattle.std.proofs.Common.{◌≡◌, ◌<◌, ◌+◌, ℕ, Bool, false, true, [], arith, refl, sym, subst, below_more}
 use Rattle.def_map.specs.Oracle.{Oracle}
 use Rattle.def_ids.specs.declared.interner.Interner.{Interner}
-use Rattle.def_collector.specs.declared.collector.DefCollector.{DefCollector}
+use Rattle.def_walk.specs.declared.collector.DefCollector.{DefCollector}
 use Rattle.def_rules.specs.Turns.{Moves, turns_left}
-use Rattle.def_collector.specs.Collector.{state_of}
+use Rattle.def_walk.specs.Collector.{state_of}
 use Rattle.def_rules.specs.Steps.{Leads}
 use Rattle.def_rules.specs.StepsLaws.{leads_refl, leads_trans}
 

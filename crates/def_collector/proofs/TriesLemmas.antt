@@ -8,18 +8,19 @@ use Rattle.std.specs.declared.alloc.Global.{Global}
 use Rattle.def_ids.specs.declared.interner.Interner.{Interner}
 use Rattle.def_map.specs.declared.path_resolution.asked.ResolvePathResult.{ResolvePathResult}
 use Rattle.def_map.specs.Oracle.{Oracle}
-use Rattle.def_collector.specs.declared.collector.DefCollector.{DefCollector}
+use Rattle.def_walk.specs.declared.collector.DefCollector.{DefCollector}
 use Rattle.def_steps.specs.declared.directive.ImportDirective.{ImportDirective}
 use Rattle.def_steps.specs.declared.directive.NamespaceSet.{NamespaceSet}
 use Rattle.def_steps.specs.declared.directive.PartialDirective.{PartialDirective}
-use Rattle.def_collector.specs.Collector.{IsUnready, IsUnreadyAgain, state_of, waiting}
+use Rattle.def_walk.specs.Collector.{state_of, waiting}
+use Rattle.def_collector.specs.Collector.{IsUnready, IsUnreadyAgain}
 use Rattle.def_steps.specs.Shown.{kept_of, ns_set, partial_of, pending_of}
 use Rattle.def_rules.specs.Turns.{Moves, missing_from, turns_left}
 use Rattle.def_rules.specs.Performs.{Performs}
 use Rattle.def_rules.specs.Imports.{NoneReady, after_pending, answer_now, is_missing, is_ready, is_ready_again, kept_after, kept_list, no_namespaces, record_effect}
 use Rattle.def_rules.specs.State.{State, PartialImport, PendingImport}
 use Rattle.def_rules.specs.ImportsLaws.{moves_partial, moves_pending}
-use Rattle.def_collector.proofs.WaitingLemmas.{Around, around, waiting-all}
+use Rattle.def_walk.specs.WaitingLaws.{Around, around, waiting-all}
 
 -- an entry that was read stands at its place
 pub stands_at : {A : Type 0} (v : Vec (Option A) Global) (i : ℕ) (e : Option A) (x : A) → i < vec_len v → e ≡ get_or v.items i e → e ≡ Some x → slice_get v.items i ≡ Some (Some x)
@@ -55,14 +56,14 @@ turns_by : (s t : State) → t.imports ≡ s.imports → t.partial ≡ s.partial
 turns_by s t imports partial = λ i. 5 * length (imports i) + sum_by (λ p. 1 + missing_from p.recorded) (partial i)
 
 -- what a recorded import puts leaves the turns
-pub turns_kept : (session : Interner) (old new : DefCollector) → new ≡ record old { table = new.table; targets = new.targets } → turns_left (state_of new session) ≡ turns_left (state_of old session)
+pub turns_kept : (session : Interner) (old new : DefCollector) → new ≡ record old { def_map = new.def_map; table = new.table; targets = new.targets } → turns_left (state_of new session) ≡ turns_left (state_of old session)
 turns_kept session old new frame =
     turns_by (state_of old session) (state_of new session)
     (ap (λ (x : DefCollector). map pending_of (waiting x.unresolved_imports.items)) frame)
     (ap (λ (x : DefCollector). map partial_of (waiting x.indeterminate_imports.items)) frame)
 
 -- the same, where partial imports were changed before
-pub turns_partial : (session : Interner) (old new : DefCollector) (entries : Vec (Option PartialDirective) Global) → new ≡ record old { indeterminate_imports = entries; table = new.table; targets = new.targets }
+pub turns_partial : (session : Interner) (old new : DefCollector) (entries : Vec (Option PartialDirective) Global) → new ≡ record old { def_map = new.def_map; indeterminate_imports = entries; table = new.table; targets = new.targets }
     → turns_left (state_of new session) ≡ turns_left (record (state_of old session) { partial = map partial_of (waiting entries.items) })
 turns_partial session old new entries frame =
     turns_by (record (state_of old session) { partial = map partial_of (waiting entries.items) }) (state_of new session)

@@ -1,10 +1,14 @@
 //! The definition collector: from item trees to the map of modules and bindings.
 #![tactic(auto)]
 
-mod collector;
+mod globs;
+mod imports;
+mod prelude;
+mod run;
+mod seeding;
 
-pub use collector::collect_defs;
 pub use def_rules::{
     Collected, DefDiagnostic, DefDiagnosticKind, DefDiagnostics, Edge, LeftImport, LeftMacro,
     LeftMacroKind, Outcome,
 };
+pub use run::collect_defs;

@@ -24,7 +24,7 @@ use Rattle.def_map.specs.PerNs.{in_namespace}
 use Rattle.def_parts.specs.Globs.{with_recorded}
 use Rattle.def_rules.specs.Imports.{ImportStep, NoneReady, after_partial, after_pending, answer_now, given_set, is_extended, is_foreign, is_full, is_ready, no_namespaces, of_partial, of_pending}
 use Rattle.def_rules.specs.Settled.{HasEveryNamespace}
-use Rattle.def_rules.specs.State.{State, Effect, only, entered, Event, Recorded, NsSet, PendingImport, PartialImport, Moment, Task, Enter, Visit, Put, Rearranges, Site, order, AddEdge}
+use Rattle.def_rules.specs.State.{State, Effect, Event, Recorded, NsSet, PendingImport, PartialImport, Moment, Task, Enter, Visit, Put, Rearranges, Site, order, AddEdge}
 use Rattle.def_rules.specs.Steps.{Copies, Does, Reaches, Step, performs, copies, rearranges, records, put_event}
 use Rattle.def_parts.specs.Directories.{Directory}
 use Rattle.def_rules.specs.RunsLaws.{Leaves, kept_along, visits_leaves}

@@ -1,5 +1,5 @@
 -- What a glob brings, gathered entry by entry, and what it was recorded with.
-use Rattle.std.proofs.Common.{◌≡◌, ◌⊎◌, inl, inr, ◌+◌, ◌<◌, ℕ, zero, suc, Bool, true, false, cond, not, map, take, drop, length, get_or, if◌then◌else◌, List, [], ◌∷◌, ◌++◌, Option, Some, None, refl, sym, ap, ◌∙◌, subst, arith, inl, inr, append-nil, append_assoc, add-one}
+use Rattle.std.proofs.Common.{◌≡◌, ◌⊎◌, inl, inr, ◌+◌, ◌<◌, ℕ, zero, suc, Bool, true, false, cond, map, take, drop, length, if◌then◌else◌, List, [], ◌∷◌, ◌++◌, Option, Some, None, refl, sym, ap, ◌∙◌, subst, inl, inr, append-nil, append_assoc, add-one}
 use Rattle.std.specs.Prelude.{slice_get, unwrap_or}
 use Rattle.std.specs.List.{flat_map}
 use Rattle.std.proofs.lemmas.Bool.{cases_Bool}
@@ -7,7 +7,7 @@ use Rattle.std.proofs.lemmas.List.{map-append}
 use Rattle.std.proofs.lemmas.Option.{slice_get_within}
 use Rattle.def_ids.specs.declared.ids.Def.{Def}
 use Rattle.def_ids.specs.declared.ids.GlobId.{GlobId}
-use Rattle.def_ids.specs.Equality.{def_eq, glob_eq}
+use Rattle.def_ids.specs.Equality.{glob_eq}
 use Rattle.def_bindings.specs.IdLaws.{glob-eq}
 use Rattle.indexmap.specs.IndexMap.{IndexMap, get}
 use Rattle.item_tree.specs.declared.items.ImportKind.{ImportKind}
@@ -28,7 +28,7 @@ use Rattle.def_map.specs.Sources.{finished_map}
 use Rattle.def_parts.specs.Globs.{with_recorded}
 use Rattle.def_rules.specs.Performs.{Performs, Updated}
 use Rattle.def_rules.specs.Globs.{Targets, is_among, module_entries, scope_entries, with_def, with_target}
-use Rattle.def_rules.specs.Imports.{edge_tasks, glob_edge, glob_id, glob_tasks, import_vis, is_own_crate, record_effect, record_tasks, target_state, targets_after, types_def}
+use Rattle.def_rules.specs.Imports.{edge_tasks, glob_def, glob_edge, glob_id, glob_tasks, import_vis, is_own_crate, made_prelude, new_prelude, record_effect, record_tasks, target_state, targets_after, types_def, unless_prelude, with_new_prelude}
 use Rattle.def_rules.specs.State.{State, AddEdge, PendingImport, map_view, order, put_each, with_content, world}
 use Rattle.def_rules.specs.EdgeLaws.{glob_sound}
 use Rattle.def_rules.specs.StepsLaws.{performs_listed, performs_none, runs_edge}
@@ -183,16 +183,41 @@ module _ (oracle : Oracle) (s t : State) (p : PendingImport) (answer : ResolvePa
       (subst (λ g. Performs oracle (glob_tasks (world oracle s) g (Some d)) (record s { targets = with_target g.glob d s.targets }) t) same
       (subst (λ m. Performs oracle (glob_tasks (world oracle m) glob (Some d)) m t) added performs))
 
-  -- an import was recorded, by its kind
-  pub recorded_as : (k : ImportKind) → p.import.kind ≡ k → Performs oracle (record_tasks oracle s p answer k) (record s { targets = targets_after k (glob_id p) (types_def answer) s.targets }) t
-      → (let effect = record_effect oracle s p answer in Performs oracle effect.tasks effect.state t)
-  recorded_as k is performs = subst (λ k. Performs oracle (record_tasks oracle s p answer k) (record s { targets = targets_after k (glob_id p) (types_def answer) s.targets }) t) (sym is) performs
+  -- an import was recorded
+  abbrev IsRecordedNow : Type 0
+  IsRecordedNow = let effect = record_effect oracle s p answer in Performs oracle effect.tasks effect.state t
+
+  -- by its kind
+  recorded_as : (k : ImportKind) → p.import.kind ≡ k
+      → Performs oracle (record_tasks oracle s p answer k) (record s { targets = targets_after k (glob_id p) (glob_def p answer) s.targets; map = with_new_prelude (new_prelude p answer) s.map }) t
+      → IsRecordedNow
+  recorded_as k is performs =
+      subst (λ k. Performs oracle (record_tasks oracle s p answer k) (record s { targets = targets_after k (glob_id p) (glob_def p answer) s.targets; map = with_new_prelude (new_prelude p answer) s.map }) t) (sym is) performs
+
+  -- an import that makes no module the prelude
+  recorded_without : (k : ImportKind) → new_prelude p answer ≡ None → Performs oracle (record_tasks oracle s p answer k) (record s { targets = targets_after k (glob_id p) (glob_def p answer) s.targets }) t
+      → Performs oracle (record_tasks oracle s p answer k) (record s { targets = targets_after k (glob_id p) (glob_def p answer) s.targets; map = with_new_prelude (new_prelude p answer) s.map }) t
+  recorded_without k none performs =
+      subst (λ made. Performs oracle (record_tasks oracle s p answer k) (record s { targets = targets_after k (glob_id p) (glob_def p answer) s.targets; map = with_new_prelude made s.map }) t) (sym none) performs
+
+  named_by : (k : ImportKind) → p.import.kind ≡ k → made_prelude k p.is_prelude (types_def answer) ≡ None → new_prelude p answer ≡ None
+  named_by k is none = ap (λ k. made_prelude k p.is_prelude (types_def answer)) is ∙ none
 
   -- an import that binds names was recorded
-  pub recorded_named : (p.import.kind ≡ kind.Plain) ⊎ (p.import.kind ≡ kind.TypeOnly) → Performs oracle (record_tasks oracle s p answer kind.Plain) s t
-      → (let effect = record_effect oracle s p answer in Performs oracle effect.tasks effect.state t)
-  recorded_named (inl plain) performs = recorded_as kind.Plain plain performs
-  recorded_named (inr types) performs = recorded_as kind.TypeOnly types performs
+  pub recorded_named : (p.import.kind ≡ kind.Plain) ⊎ (p.import.kind ≡ kind.TypeOnly) → Performs oracle (record_tasks oracle s p answer kind.Plain) s t → IsRecordedNow
+  recorded_named (inl plain) performs = recorded_as kind.Plain plain (recorded_without kind.Plain (named_by kind.Plain plain refl) performs)
+  recorded_named (inr types) performs = recorded_as kind.TypeOnly types (recorded_without kind.TypeOnly (named_by kind.TypeOnly types refl) performs)
+
+  -- a glob that makes no module the prelude was recorded
+  pub recorded_glob : p.import.kind ≡ kind.Glob → new_prelude p answer ≡ None → GlobRecorded (types_def answer) → IsRecordedNow
+  recorded_glob glob none performs = recorded_as kind.Glob glob (recorded_without kind.Glob none (subst GlobRecorded (ap (λ made. unless_prelude made (types_def answer)) (sym none)) performs))
+
+  -- a glob that makes a module the prelude was recorded
+  pub recorded_prelude : (source : ModuleId) → p.import.kind ≡ kind.Glob → new_prelude p answer ≡ Some source → t ≡ record s { map = with_new_prelude (Some source) s.map } → IsRecordedNow
+  recorded_prelude source glob made after =
+      recorded_as kind.Glob glob
+      (subst (λ o. Performs oracle (glob_tasks (world oracle s) (glob_edge p (import_vis oracle s p)) (unless_prelude o (types_def answer))) (record (target_state s (glob_id p) (unless_prelude o (types_def answer))) { map = with_new_prelude o s.map }) t) (sym made)
+      (subst (λ u. Performs oracle [] (record s { map = with_new_prelude (Some source) s.map }) u) (sym after) (performs_none (record s { map = with_new_prelude (Some source) s.map }))))
 
 -- a glob of nothing
 pub glob_nothing : (oracle : Oracle) (s : State) (p : PendingImport) (answer : ResolvePathResult) → types_def answer ≡ None → GlobRecorded oracle s s p answer (types_def answer)

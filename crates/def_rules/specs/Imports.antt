@@ -1,6 +1,7 @@
 -- Imports: their classes, when one is ready, and what recording one does.
-use Rattle.std.specs.Prelude.{◌≡◌, ◌≢◌, ◌⊎◌, ℕ, Bool, true, false, cond, ◌&&◌, ◌||◌, not, ◌==◌, nat_eq, nat_lt, List, [], ◌∷◌, ◌++◌, length, slice_get, ◌-◌, Option, None, Some, is_some, option_map, unwrap_or, IsPermutation, Contains}
+use Rattle.std.specs.Prelude.{◌≡◌, Bool, true, false, cond, ◌&&◌, ◌||◌, not, ◌==◌, nat_eq, nat_lt, List, [], ◌∷◌, ◌++◌, length, slice_get, ◌-◌, Option, None, Some, is_some, option_map, unwrap_or, IsPermutation, Contains}
 use Rattle.std.specs.List.{flat_map}
+use Rattle.std.specs.Option.{option_or}
 use Rattle.item_tree.specs.declared.items.ImportAlias.{ImportAlias}
 use Rattle.item_tree.specs.declared.items.ImportAlias.TheVariants.{Alias, Underscore}
 use Rattle.item_tree.specs.declared.items.ImportKind.{ImportKind}
@@ -26,6 +27,7 @@ use Rattle.def_bindings.specs.declared.visibility.Visibility.TheVariants.{Public
 use Rattle.def_bindings.specs.Order.{Order}
 use Rattle.def_bindings.specs.Puts.{lessened}
 use Rattle.def_bindings.specs.Visibility.{order_over}
+use Rattle.def_modules.specs.MapState.{MapState}
 use Rattle.def_map.specs.declared.path_resolution.asked.ResolvePathResult.{ResolvePathResult}
 use Rattle.def_map.specs.declared.per_ns.PerNs.{PerNs}
 use Rattle.def_map.specs.Oracle.{Oracle}
@@ -183,6 +185,34 @@ types_def answer = option_map (λ item. item.def) (kept_item answer answer.resol
 abbrev pub is_own_crate : MapId → ModuleId → Bool
 is_own_crate id source = source.map.krate.0 == id.krate.0
 
+-- the module that a definition is, if it is to be the prelude
+abbrev pub module_if : Bool → Option Def → Option ModuleId
+module_if true (Some (def.Module source)) = Some source
+module_if prelude given = None
+
+-- the module that a glob of an item with `#[prelude_import]` makes the prelude, if it leads to one
+abbrev pub made_prelude : ImportKind → Bool → Option Def → Option ModuleId
+made_prelude kind.Plain prelude given = None
+made_prelude kind.TypeOnly prelude given = None
+made_prelude kind.Glob prelude given = module_if prelude given
+
+-- the module that an import makes the prelude, if it makes one
+abbrev pub new_prelude : PendingImport → ResolvePathResult → Option ModuleId
+new_prelude pending answer = made_prelude pending.import.kind pending.is_prelude (types_def answer)
+
+-- a definition, unless it became the prelude
+abbrev pub unless_prelude : Option ModuleId → Option Def → Option Def
+unless_prelude None given = given
+unless_prelude (Some source) given = None
+
+-- what a glob is recorded with: what its path gives in types, unless that became the prelude
+abbrev pub glob_def : PendingImport → ResolvePathResult → Option Def
+glob_def pending answer = unless_prelude (new_prelude pending answer) (types_def answer)
+
+-- the map with this prelude in the place of an earlier one, if there is one
+abbrev pub with_new_prelude : Option ModuleId → MapState → MapState
+with_new_prelude made m = record m { krate = record m.krate { prelude = option_or made m.krate.prelude } }
+
 -- a module of this crate gets an edge once its entries are put; one of another crate none
 abbrev pub edge_tasks : Bool → ModuleId → EdgeTo Visibility → List Task
 edge_tasks true source glob = AddEdge source glob ∷ []
@@ -203,7 +233,7 @@ record_tasks oracle s pending answer kind.Plain =
     put_each pending.scope (named_entries (order s) pending (import_vis oracle s pending) answer (bound_name pending.import))
 record_tasks oracle s pending answer kind.TypeOnly =
     put_each pending.scope (named_entries (order s) pending (import_vis oracle s pending) answer (bound_name pending.import))
-record_tasks oracle s pending answer kind.Glob = glob_tasks (world oracle s) (glob_edge pending (import_vis oracle s pending)) (types_def answer)
+record_tasks oracle s pending answer kind.Glob = glob_tasks (world oracle s) (glob_edge pending (import_vis oracle s pending)) (glob_def pending answer)
 
 -- a glob is recorded with the definition that its path gives
 abbrev pub targets_after : ImportKind → GlobId → Option Def → Targets → Targets
@@ -216,12 +246,17 @@ targets_after kind.Glob glob (Some d) targets = with_target glob d targets
 abbrev pub target_state : State → GlobId → Option Def → State
 target_state s glob given = record s { targets = targets_after kind.Glob glob given s.targets }
 
+-- the state in which an import was recorded with what its path gives, and nothing is put yet
+abbrev pub record_state : State → PendingImport → ResolvePathResult → State
+record_state s pending answer =
+    record s {
+      targets = targets_after pending.import.kind (glob_id pending) (glob_def pending answer) s.targets;
+      map = with_new_prelude (new_prelude pending answer) s.map;
+    }
+
 -- an import is recorded with what its path gives
 abbrev pub record_effect : Oracle → State → PendingImport → ResolvePathResult → Effect
-record_effect oracle s pending answer =
-    followed_by
-    (record s { targets = targets_after pending.import.kind (glob_id pending) (types_def answer) s.targets })
-    (record_tasks oracle s pending answer pending.import.kind)
+record_effect oracle s pending answer = followed_by (record_state s pending answer) (record_tasks oracle s pending answer pending.import.kind)
 
 -- a partial import as a list, if it stays one
 abbrev pub kept_list : PendingImport → Option NsSet → List PartialImport

@@ -1,5 +1,6 @@
 -- What visiting an item does, by its kind.
 use Rattle.std.specs.Prelude.{◌≡◌, ℕ, nat_eq, Bool, true, false, cond, not, ◌&&◌, List, [], ◌∷◌, ◌++◌, filter, length, map, Option, None, Some, Result, Ok, Err, option_and_then, option_map, is_some, slice_get, unwrap_or}
+use Rattle.item_tree.specs.declared.attrs.AttrsOrCfg.{AttrsOrCfg}
 use Rattle.item_tree.specs.declared.ids.CfgExpr.{CfgExpr}
 use Rattle.item_tree.specs.declared.ids.FileAstId.{FileAstId}
 use Rattle.item_tree.specs.declared.ids.HirFileId.TheVariants.{File}
@@ -18,8 +19,8 @@ use Rattle.item_tree.specs.declared.items.RawVisibility.{RawVisibility}
 use Rattle.item_tree.specs.declared.items.UseImport.{UseImport}
 use Rattle.item_tree.specs.declared.name.Name.{Name}
 use Rattle.item_tree.specs.declared.tree.ItemTree.{ItemTree}
-use Rattle.item_tree.specs.KnownNames.{name_eq, self_name}
-use Rattle.item_tree.specs.Attrs.{cfg_in, disabled_by, path_attr}
+use Rattle.item_tree.specs.KnownNames.{name_eq, prelude_import_name, self_name}
+use Rattle.item_tree.specs.Attrs.{attrs_of, cfg_in, disabled_by, has_attr, path_attr}
 use Rattle.def_ids.specs.declared.ids.Def.{Def}
 use Rattle.def_ids.specs.declared.ids.Def.TheVariants as def
 use Rattle.def_ids.specs.declared.ids.ExternCrateId.{ExternCrateId}
@@ -204,10 +205,14 @@ module_item oracle s site item name vis Outline =
     outline_item oracle s site item name vis
     (resolve_declaration (files_of oracle) site.tree.file site.directory (name_text s.session name) (path_attr item.attrs))
 
+-- whether an item has the attribute of a prelude import
+abbrev pub is_prelude_import : Option AttrsOrCfg → Bool
+is_prelude_import attrs = has_attr prelude_import_name (attrs_of attrs)
+
 -- the imports of a `use` as they pend
 abbrev pub pending_imports : Site → ItemNode → UseId → RawVisibility → List UseImport → List PendingImport
 pending_imports site item id vis imports =
-    map (λ import. record { scope = site.scope; position = position_of site item; use_id = id; import = import; vis = vis }) imports
+    map (λ import. record { scope = site.scope; position = position_of site item; use_id = id; import = import; vis = vis; is_prelude = is_prelude_import item.attrs }) imports
 
 -- the least of a visibility and those of a list, met in order; none where two that meet are unrelated
 abbrev pub least_of : Order Visibility → Visibility → List Visibility → Option Visibility

@@ -1,21 +1,19 @@
 -- Maps that grow by modules.
-use Rattle.std.proofs.Common.{◌≡◌, ◌⊎◌, ◌<◌, ◌+◌, ℕ, zero, suc, Bool, true, false, cond, List, [], ◌∷◌, ◌++◌, map, length, slice_get, Option, Some, None, refl, sym, ap, ◌∙◌, subst, arith, inl, inr, length-append, append-nil, append_assoc}
+use Rattle.std.proofs.Common.{◌≡◌, ◌⊎◌, ◌<◌, ◌+◌, ℕ, zero, suc, Bool, true, false, cond, List, [], ◌∷◌, ◌++◌, length, slice_get, Option, Some, None, refl, sym, ap, ◌∙◌, subst, arith, inl, inr, length-append, append-nil, append_assoc}
 use Rattle.std.specs.Prelude.{nat_lt}
 use Rattle.std.specs.Option.{option_and_then}
 use Rattle.std.proofs.lemmas.Bool.{ltb-true}
 use Rattle.item_tree.specs.declared.name.Name.{Name}
-use Rattle.def_ids.specs.declared.ids.Def.TheVariants as def
-use Rattle.def_ids.specs.declared.ids.ItemContainerId.TheVariants as contained
 use Rattle.def_ids.specs.declared.ids.ModuleId.{ModuleId}
 use Rattle.def_bindings.specs.declared.visibility.Visibility.{Visibility}
 use Rattle.def_bindings.specs.Tree.{AreParentsLower}
 use Rattle.def_modules.specs.declared.module_data.ModuleOrigin.{ModuleOrigin}
-use Rattle.def_modules.specs.declared.module_data.ModuleOrigin.TheVariants as origin
 use Rattle.def_modules.specs.MapState.{MapState, ModuleState}
 use Rattle.def_modules.specs.Maps.{known_parent, pushed, with_module}
 use Rattle.def_modules.specs.Scopes.{empty_module}
 use Rattle.def_modules.specs.Updates.{update_at}
 use Rattle.def_rules.specs.Closed.{IsOwn}
+use Rattle.def_rules.specs.Imports.{with_new_prelude}
 use Rattle.def_rules.specs.Items.{add_module, next_module}
 use Rattle.def_rules.specs.State.{State}
 use Rattle.def_rules.specs.SoundLaws.{IsLarger}
@@ -34,6 +32,10 @@ last_cases (z ∷ xs) y x (suc i) h = elim (last_cases xs y x i h) [ inl old ↦
 -- a map is as large as itself
 pub larger_refl : (m : MapState) → IsLarger m m
 larger_refl m = record { id = refl; containing = refl; more = []; parents = sym (append-nil m.parents); even = λ even. even; lower = λ lower. lower }
+
+-- a map with another prelude has the same modules
+pub larger_prelude : (made : Option ModuleId) (m : MapState) → IsLarger m (with_new_prelude made m)
+larger_prelude made m = record { id = refl; containing = refl; more = []; parents = sym (append-nil m.parents); even = λ even. even; lower = λ lower. lower }
 
 larger_trans : (a b c : MapState) → IsLarger a b → IsLarger b c → IsLarger a c
 larger_trans a b c p q =

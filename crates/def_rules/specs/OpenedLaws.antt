@@ -1,5 +1,5 @@
 -- What an item's visit opens: tasks within the map, and none for a glob.
-use Rattle.std.proofs.Common.{◌≡◌, ◌⊎◌, ◌+◌, ℕ, Bool, true, false, List, [], ◌∷◌, ◌++◌, map, length, Option, Some, None, Result, Ok, Err, Contains, refl, sym, ap, ◌∙◌, subst, inl, inr}
+use Rattle.std.proofs.Common.{◌≡◌, ◌⊎◌, ℕ, Bool, true, false, List, [], ◌∷◌, ◌++◌, length, Option, Some, None, Result, Ok, Err, Contains, refl, sym, ap, ◌∙◌, subst, inl, inr}
 use Rattle.std.proofs.lemmas.List.Elements.{Contains-append_cases}
 use Rattle.item_tree.specs.declared.ids.CfgExpr.{CfgExpr}
 use Rattle.item_tree.specs.declared.ids.ModItemId.{ModItemId}
@@ -37,7 +37,7 @@ use Rattle.def_parts.specs.ListLaws.{none_in, in_cases}
 use Rattle.def_rules.specs.declared.diagnostics.DefDiagnosticKind.TheVariants.{UnresolvedModule}
 use Rattle.def_rules.specs.Closed.{AreFollowed, AreOwnTasks, IsOwn, IsRecorded}
 use Rattle.def_rules.specs.Globs.{Targets}
-use Rattle.def_rules.specs.Items.{Declares, Handles, Visits, VisitsAt, VisitsNode, add_module, crate_effect, crate_entry, crate_name, ctor_task, diagnostic, ctor_vis, declared_effect, file_tree, inline_contents, inner_site, is_crate_root, module_effect, module_item, name_text, named_crate, naming_crate, next_module, node_at, noted_in, ordered, outline_found, outline_item, pending_imports, position_of, struct_effect, top_items, tree_cfg, visits, walk, written_vis}
+use Rattle.def_rules.specs.Items.{Declares, Handles, Visits, VisitsAt, VisitsNode, add_module, crate_effect, crate_entry, crate_name, ctor_task, diagnostic, ctor_vis, declared_effect, file_tree, inline_contents, inner_site, is_crate_root, is_prelude_import, module_effect, module_item, name_text, named_crate, naming_crate, next_module, node_at, noted_in, ordered, outline_found, outline_item, pending_imports, position_of, struct_effect, top_items, tree_cfg, visits, walk, written_vis}
 use Rattle.def_rules.specs.State.{State, Effect, followed_by, PendingImport, Site, Task, Enter, Visit, Put, AddEdge, reported}
 use Rattle.def_rules.specs.SoundLaws.{IsLarger}
 use Rattle.def_rules.specs.LargerLaws.{larger_add_module, larger_refl, larger_with_module, own_next}
@@ -181,7 +181,7 @@ module _ (oracle : Oracle) (s : State) (site : Site) (item : ItemNode) where
   pending_at : (id : UseId) (raw : RawVisibility) (imports : List UseImport) (p : PendingImport) → Contains (pending_imports site item id raw imports) p → p.scope ≡ site.scope
   pending_at id raw [] p h = absurd (none_in p h)
   pending_at id raw (x ∷ xs) p h =
-      elim (in_cases (record { scope = site.scope; position = position_of site item; use_id = id; import = x; vis = raw }) (pending_imports site item id raw xs) p h) [
+      elim (in_cases (record { scope = site.scope; position = position_of site item; use_id = id; import = x; vis = raw; is_prelude = is_prelude_import item.attrs }) (pending_imports site item id raw xs) p h) [
         | inl here ↦ ap (λ (q : PendingImport). q.scope) here
         | inr later ↦ pending_at id raw xs p later
       ]

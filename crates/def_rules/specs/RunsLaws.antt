@@ -1,5 +1,5 @@
 -- What holds along runs, and what a visit leaves as it is.
-use Rattle.std.proofs.Common.{◌≡◌, ℕ, zero, suc, Bool, true, false, List, [], ◌∷◌, length, All, Option, Some, None, Result, Ok, Err, refl, sym, ap, ◌∙◌, subst}
+use Rattle.std.proofs.Common.{◌≡◌, ℕ, zero, suc, Bool, true, false, List, [], ◌∷◌, length, All, Option, Some, None, Result, Ok, Err, refl, sym, subst}
 use Rattle.std.proofs.lemmas.List.Elements.{All-cons, All-head, All-tail, All-push}
 use Rattle.item_tree.specs.declared.ids.CfgExpr.{CfgExpr}
 use Rattle.item_tree.specs.declared.ids.ModItemId.{ModItemId}
@@ -150,9 +150,11 @@ visits_leaves oracle s site id effect does = visits_leaves_at oracle s site (nod
 
 -- No name fails along a run
 
-import_map : (oracle : Oracle) (s : State) (effect : Effect) → ImportStep oracle s effect → effect.state.map ≡ s.map
-import_map oracle s effect (of_pending pending rest recorded waits ready recording is) = ap (λ (e : Effect). e.state.map) is ∙ ap (λ (e : Effect). e.state.map) recording
-import_map oracle s effect (of_partial partial rest recorded waits ready recording is) = ap (λ (e : Effect). e.state.map) is ∙ ap (λ (e : Effect). e.state.map) recording
+import_none_failed : (oracle : Oracle) (s : State) (effect : Effect) → ImportStep oracle s effect → NoneFailed s.map → NoneFailed effect.state.map
+import_none_failed oracle s effect (of_pending pending rest recorded waits ready recording is) none =
+    subst (λ (e : Effect). NoneFailed e.state.map) (sym is) (subst (λ (e : Effect). NoneFailed e.state.map) (sym recording) none)
+import_none_failed oracle s effect (of_partial partial rest recorded waits ready recording is) none =
+    subst (λ (e : Effect). NoneFailed e.state.map) (sym is) (subst (λ (e : Effect). NoneFailed e.state.map) (sym recording) none)
 
 does_none_failed : (oracle : Oracle) (s : State) (task : Task) (effect : Effect) → Does oracle s task effect → NoneFailed s.map → NoneFailed effect.state.map
 does_none_failed oracle s (Enter at directory) effect does none = subst (λ (e : Effect). NoneFailed e.state.map) (sym does) none
@@ -164,7 +166,7 @@ step_none_failed : {oracle : Oracle} (a b : Moment) → Step oracle a b → None
 step_none_failed {oracle} a b (performs task rest effect first does is) none = subst (λ (m : Moment). NoneFailed m.state.map) (sym is) (does_none_failed oracle a.state task effect does none)
 step_none_failed a b (copies content copy is) none = subst (λ (m : Moment). NoneFailed m.state.map) (sym is) none
 step_none_failed a b (rearranges state same is) none = subst (λ (m : Moment). NoneFailed m.state.map) (sym is) (subst (λ (s : State). NoneFailed s.map) (sym same.rest) none)
-step_none_failed {oracle} a b (records effect idle step is) none = subst (λ (m : Moment). NoneFailed m.state.map) (sym is) (subst NoneFailed (sym (import_map oracle a.state effect step)) none)
+step_none_failed {oracle} a b (records effect idle step is) none = subst (λ (m : Moment). NoneFailed m.state.map) (sym is) (import_none_failed oracle a.state effect step none)
 
 -- no name is marked as failed along a run
 pub none_failed_along : {oracle : Oracle} {a b : Moment} → Reaches oracle a b → NoneFailed a.state.map → NoneFailed b.state.map

@@ -2,17 +2,19 @@
 use Rattle.std.proofs.Common.{◌≡◌, List, ◌∷◌, ◌++◌, Contains, Option, Some, None, sym, ap, subst, inl, inr, append-nil}
 use Rattle.std.proofs.lemmas.List.Elements.{Contains-append_cases}
 use Rattle.std.proofs.lemmas.List.Sorted.{Contains-permutation, IsPermutation-sym}
+use Rattle.def_modules.specs.MapState.{MapState}
 use Rattle.def_map.specs.declared.path_resolution.asked.ResolvePathResult.{ResolvePathResult}
 use Rattle.def_map.specs.Oracle.{Oracle}
 use Rattle.def_parts.specs.ListLaws.{first_in, later_in, none_in, only_in}
 use Rattle.def_rules.specs.Closed.{AreOwn, IsOwn, IsRecorded, IsSound, Stands}
-use Rattle.def_rules.specs.Imports.{ImportStep, of_pending, of_partial, after_pending, after_partial, answer_now, kept_list, record_effect}
+use Rattle.def_rules.specs.Imports.{ImportStep, of_pending, of_partial, after_pending, after_partial, answer_now, kept_list, new_prelude, record_effect, record_state, record_tasks, with_new_prelude}
 use Rattle.def_rules.specs.State.{State, Effect, Moment, NsSet, PartialImport, PendingImport, Task, Enter, Visit, Put, AddEdge, order}
 use Rattle.def_rules.specs.Steps.{Does, Reaches, Step, performs, copies, rearranges, records}
-use Rattle.def_rules.specs.LargerLaws.{larger_refl, own_larger}
+use Rattle.def_rules.specs.LargerLaws.{larger_prelude, larger_refl, own_larger}
 use Rattle.def_rules.specs.OpenedLaws.{visits_opened}
 use Rattle.def_rules.specs.OwnLaws.{own_both, own_copied, own_edge, own_first, own_put, own_stays, tasks_stay}
 use Rattle.def_rules.specs.RunsLaws.{kept_along}
+use Rattle.def_rules.specs.SoundLaws.{IsLarger, sound_larger}
 use Rattle.def_rules.specs.TasksLaws.{record_own, record_sound, record_stays}
 
 -- the first of what is to be done stands alone
@@ -47,10 +49,23 @@ module _ (oracle : Oracle) (s : State) where
 -- the state in which an import was recorded, and its tasks
 pub recorded_stands : (oracle : Oracle) (u : State) (p : PendingImport) (answer : ResolvePathResult) → AreOwn u.map u.targets u.content u.imports u.partial → IsOwn u.map p.scope
     → (let effect = record_effect oracle u p answer in Stands effect.tasks effect.state)
-recorded_stands oracle u p answer own at = record {
-  state = own_stays u.map u.map u.targets _ (larger_refl u.map) (record_stays oracle u p answer p.import.kind) u.content u.imports u.imports u.partial u.partial (λ p h. inl h) (λ p h. inl h) own;
-  tasks = record_own oracle u p answer p.import.kind at;
-}
+recorded_stands oracle u p answer own at =
+    let now : State = record_state u p answer in
+    let larger : IsLarger u.map now.map = larger_prelude (new_prelude p answer) u.map in
+    record {
+      state = own_stays u.map now.map u.targets now.targets larger (record_stays oracle u p answer p.import.kind) u.content u.imports u.imports u.partial u.partial (λ p h. inl h) (λ p h. inl h) own;
+      tasks = tasks_stay u.map now.map now.targets now.targets larger (λ g h. h) (record_tasks oracle u p answer p.import.kind) (record_own oracle u p answer p.import.kind at);
+    }
+
+-- names stay sound in it
+recorded_sound : (oracle : Oracle) (u : State) (p : PendingImport) (answer : ResolvePathResult) {q : List PendingImport} {r : List PartialImport} → AreOwn u.map u.targets u.content q r → IsSound u
+    → IsSound (record_effect oracle u p answer).state
+recorded_sound oracle u p answer {q} {r} own sound =
+    let m : MapState = with_new_prelude (new_prelude p answer) u.map in
+    let larger : IsLarger u.map m = larger_prelude (new_prelude p answer) u.map in
+    record_sound oracle (record u { map = m }) p answer
+    (own_stays u.map m u.targets u.targets larger (λ g h. h) u.content q q r r (λ p h. inl h) (λ p h. inl h) own)
+    (sound_larger own sound larger) p.import.kind
 
 kept_in : (p : PendingImport) (kept : Option NsSet) (x : PartialImport) → Contains (kept_list p kept) x → x.pending ≡ p
 kept_in p None x h = absurd (none_in x h)
@@ -89,11 +104,11 @@ pub import_sound : (oracle : Oracle) (s : State) (effect : Effect) → ImportSte
 import_sound oracle s effect (of_pending p rest recorded waits ready recording is) own sound =
     let answer : ResolvePathResult = answer_now oracle s p in
     let u : State = after_pending s p rest answer in
-    subst (λ (e : Effect). IsSound e.state) (sym is) (subst (λ (e : Effect). IsSound e.state) (sym recording) (record_sound oracle u p answer own sound p.import.kind))
+    subst (λ (e : Effect). IsSound e.state) (sym is) (subst (λ (e : Effect). IsSound e.state) (sym recording) (recorded_sound oracle u p answer own sound))
 import_sound oracle s effect (of_partial p rest recorded waits ready recording is) own sound =
     let answer : ResolvePathResult = answer_now oracle s p.pending in
     let u : State = after_partial s p rest answer in
-    subst (λ (e : Effect). IsSound e.state) (sym is) (subst (λ (e : Effect). IsSound e.state) (sym recording) (record_sound oracle u p.pending answer own sound p.pending.import.kind))
+    subst (λ (e : Effect). IsSound e.state) (sym is) (subst (λ (e : Effect). IsSound e.state) (sym recording) (recorded_sound oracle u p.pending answer own sound))
 
 -- a moment stands
 abbrev StandsAt : Moment → Type 0

@@ -45,6 +45,8 @@ pub record PendingImport : Type 0 where
   pub use_id : UseId
   pub import : UseImport
   pub vis : RawVisibility
+  -- whether the item has `#[prelude_import]`
+  pub is_prelude : Bool
 
 -- a set of namespaces
 pub record NsSet : Type 0 where

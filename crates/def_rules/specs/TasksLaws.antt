@@ -26,7 +26,7 @@ use Rattle.def_map.specs.PerNs.{Item}
 use Rattle.def_parts.specs.ListLaws.{none_in, only_in}
 use Rattle.def_rules.specs.Closed.{AreFollowed, AreOwn, AreOwnTasks, AreSound, IsOwn, own_module, target_of}
 use Rattle.def_rules.specs.Globs.{Targets, module_entries, variant_entries, with_target}
-use Rattle.def_rules.specs.Imports.{bound_name, edge_tasks, entry_of, glob_edge, glob_id, glob_tasks, import_vis, is_own_crate, keeps_ns, kept_item, named_entries, origin_of, record_tasks, taken_types, targets_after, types_def}
+use Rattle.def_rules.specs.Imports.{bound_name, edge_tasks, entry_of, glob_def, glob_edge, glob_id, glob_tasks, import_vis, is_own_crate, keeps_ns, kept_item, named_entries, origin_of, record_tasks, taken_types, targets_after}
 use Rattle.def_rules.specs.State.{State, PendingImport, PartialImport, Task, AddEdge, order, put_each, world}
 use Rattle.def_rules.specs.BroughtLaws.{module_by, variants_by}
 use Rattle.def_rules.specs.OwnLaws.{StayRecorded, own_both}
@@ -149,7 +149,7 @@ module _ (oracle : Oracle) (u : State) (glob : EdgeTo Visibility) where
 module _ (oracle : Oracle) (u : State) (p : PendingImport) (answer : ResolvePathResult) where
   -- what globs were recorded with once the import was recorded
   abbrev After : ImportKind → Targets
-  After k = targets_after k (glob_id p) (types_def answer) u.targets
+  After k = targets_after k (glob_id p) (glob_def p answer) u.targets
 
   named_own : (targets : Targets) → IsOwn u.map p.scope → AreOwnTasks u.map targets (put_each p.scope (named_entries (order u) p (import_vis oracle u p) answer (bound_name p.import)))
   named_own targets own = own_puts u.map targets p.scope _ own (λ e g listed by. absurd (none_by (order u) p (import_vis oracle u p) answer (bound_name p.import) e g listed by))
@@ -164,13 +164,13 @@ module _ (oracle : Oracle) (u : State) (p : PendingImport) (answer : ResolvePath
   pub record_own : (k : ImportKind) → IsOwn u.map p.scope → AreOwnTasks u.map (After k) (record_tasks oracle u p answer k)
   record_own kind.Plain own = named_own u.targets own
   record_own kind.TypeOnly own = named_own u.targets own
-  record_own kind.Glob own = glob_own oracle u (glob_edge p (import_vis oracle u p)) own (types_def answer)
+  record_own kind.Glob own = glob_own oracle u (glob_edge p (import_vis oracle u p)) own (glob_def p answer)
 
   -- and end by the edge of its glob
   pub record_followed : (k : ImportKind) → AreFollowed (target_of u.map.id (After k)) (record_tasks oracle u p answer k)
   record_followed kind.Plain = named_followed (target_of u.map.id u.targets)
   record_followed kind.TypeOnly = named_followed (target_of u.map.id u.targets)
-  record_followed kind.Glob = glob_followed oracle u (glob_edge p (import_vis oracle u p)) (types_def answer)
+  record_followed kind.Glob = glob_followed oracle u (glob_edge p (import_vis oracle u p)) (glob_def p answer)
 
   after_stays : (given : Option Def) → StayRecorded u.targets (targets_after kind.Glob (glob_id p) given u.targets)
   after_stays None g h = h
@@ -179,7 +179,7 @@ module _ (oracle : Oracle) (u : State) (p : PendingImport) (answer : ResolvePath
   pub record_stays : (k : ImportKind) → StayRecorded u.targets (After k)
   record_stays kind.Plain g h = h
   record_stays kind.TypeOnly g h = h
-  record_stays kind.Glob g h = after_stays (types_def answer) g h
+  record_stays kind.Glob g h = after_stays (glob_def p answer) g h
 
   module _ {q : List PendingImport} {r : List PartialImport} (own : AreOwn u.map u.targets u.content q r) (sound : AreSound u.map u.targets u.content) where
     after_sound : (given : Option Def) → AreSound u.map (targets_after kind.Glob (glob_id p) given u.targets) u.content
@@ -190,4 +190,4 @@ module _ (oracle : Oracle) (u : State) (p : PendingImport) (answer : ResolvePath
     pub record_sound : (k : ImportKind) → AreSound u.map (After k) u.content
     record_sound kind.Plain = sound
     record_sound kind.TypeOnly = sound
-    record_sound kind.Glob = after_sound (types_def answer)
+    record_sound kind.Glob = after_sound (glob_def p answer)

@@ -22,7 +22,6 @@ use Rattle.def_ids.specs.declared.ids.Def.{Def}
 use Rattle.def_ids.specs.declared.ids.Def.TheVariants.{Module}
 use Rattle.def_ids.specs.declared.ids.ExternCrateId.{ExternCrateId}
 use Rattle.def_ids.specs.declared.ids.ModuleId.{ModuleId}
-use Rattle.def_ids.specs.Session.{Session}
 use Rattle.def_bindings.specs.declared.bindings.Namespace.TheVariants.{Types}
 use Rattle.def_bindings.specs.declared.visibility.Visibility.{Visibility}
 use Rattle.def_modules.specs.MapView.{ExternCrateEntry}
@@ -36,7 +35,6 @@ use Rattle.def_rules.specs.Performs.{Handled}
 use Rattle.def_rules.specs.Work.{Opened, behind, block_at, block_items, file_opened, item_opened, item_work, kind_opened, module_opened, opened_work, task_work, work, work_behind}
 use Rattle.def_rules.specs.Items.{Handles, crate_effect, crate_name, crates_first, ctor_task, diagnostic, file_tree, inline_contents, inner_site, is_crate_root, module_effect, module_item, name_text, named_crate, names_crate, naming_crate, next_module, node_at, noted_in, ordered, outline_found, outline_item, put_declared, top_items, tree_cfg, visits, walk, written_vis}
 use Rattle.def_rules.specs.State.{State, Effect, Site, Task, Enter, Visit, Put, AddEdge, reported, with_missing}
-use Rattle.def_rules.specs.Steps.{put_effect}
 use Rattle.def_rules.specs.LevelsLaws.{IsDeeper, declaration_deeper, descend_deeper}
 
 -- sums of what is no more

@@ -20,7 +20,7 @@ use Rattle.def_rules.specs.State.{NsSet, PendingImport, PartialImport}
 
 -- an import that waits, with what it refers to in the place of the references
 abbrev pub pending_of : ImportDirective → PendingImport
-pending_of d = record { scope = d.module_id; position = d.position; use_id = d.use_id; import = d.import.now; vis = d.vis.now }
+pending_of d = record { scope = d.module_id; position = d.position; use_id = d.use_id; import = d.import.now; vis = d.vis.now; is_prelude = d.is_prelude }
 
 -- a set of namespaces
 abbrev pub ns_set : NamespaceSet → NsSet

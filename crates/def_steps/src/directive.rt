@@ -1,15 +1,16 @@
 //! Imports that wait, and the namespaces that they were recorded from.
-ghost use Rattle.std.specs.Prelude.{◌≡◌, ◌&&◌, length, nat_lt, option_map};
+ghost use Rattle.std.specs.Prelude.{◌≡◌, ◌&&◌, true, length, nat_lt, option_map};
 ghost use Rattle.def_rules.specs.Imports as imports;
 ghost use Rattle.def_rules.specs.Items as items;
 ghost use Rattle.def_steps.specs.Shown.{kept_of, ns_set, pending_of};
 ghost use Rattle.def_rules.specs.Globs.{is_public};
 
 use def_bindings::{ImportOrExternCrate, Namespace, Visibility};
-use def_ids::{GlobId, ImportId, ModuleId, UseId};
+use def_ids::{Def, GlobId, ImportId, ModuleId, UseId};
 use def_map::{Item, PerNs, ReachedFixedPoint, ResolvePathResult};
 use item_tree::{
-    FileAstId, ImportAlias, ImportKind, InFile, ModPath, Name, PathKind, RawVisibility, UseImport,
+    FileAstId, ImportAlias, ImportKind, InFile, ItemNode, ModPath, Name, PathKind, RawVisibility,
+    UseImport, sym,
 };
 
 /// One import of a `use` item that was reached, with the module and the item that it stands in.
@@ -21,6 +22,8 @@ pub struct ImportDirective<'a> {
     pub use_id: UseId,
     pub import: &'a UseImport,
     pub vis: &'a RawVisibility,
+    /// Whether the item has `#[prelude_import]`.
+    pub is_prelude: bool,
 }
 
 /// A set of namespaces.
@@ -174,6 +177,45 @@ fn is_plain_or_self(kind: PathKind) -> bool
         PathKind::Plain => true,
         PathKind::Super(levels) => levels == 0,
         _ => false,
+    }
+}
+
+/// The module that an import makes the prelude: that which the glob of an item with
+/// `#[prelude_import]` leads to.
+pub fn new_prelude(directive: &ImportDirective, answer: &ResolvePathResult) -> Option<ModuleId>
+    ensures { result ≡ imports.new_prelude (pending_of directive.now) answer.now }
+{
+    match directive.import.kind {
+        ImportKind::Plain | ImportKind::TypeOnly => None,
+        ImportKind::Glob => {
+            if !directive.is_prelude {
+                return None;
+            }
+            module_of(kept_item(answer, answer.resolved_def.types))
+        }
+    }
+}
+
+/// The module that was found, if it is one.
+fn module_of(item: Option<Item>) -> Option<ModuleId>
+    ensures { result ≡ imports.module_if true (option_map (λ i. i.def) item) }
+{
+    match item {
+        Some(found) => match found.def {
+            Def::Module(source) => Some(source),
+            _ => None,
+        },
+        None => None,
+    }
+}
+
+/// Whether an item has `#[prelude_import]`.
+pub fn is_prelude_import(node: &ItemNode) -> bool
+    ensures { result ≡ items.is_prelude_import node.now.attrs }
+{
+    match &node.attrs {
+        Some(attrs) => attrs.attrs().by_key(sym::PRELUDE_IMPORT).exists(),
+        None => false,
     }
 }
 

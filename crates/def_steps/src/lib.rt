@@ -15,7 +15,8 @@ pub use crate_attrs::{is_proc_macro_with, set_attrs, top_attrs};
 pub use crate_deps::{add_all, dependencies, deps_by_name, is_proc_macro_crate};
 pub use directive::{
     ImportDirective, NamespaceSet, PartialDirective, crate_name, import_name, is_missing,
-    is_public, is_ready_again, keeps_ns, kept_after, kept_item, reexported,
+    is_prelude_import, is_public, is_ready_again, keeps_ns, kept_after, kept_item, new_prelude,
+    reexported,
 };
 pub use glob_scope::{GlobScope, variants_entries};
 pub use item_order::{crates_first, is_crate_root};

@@ -1,7 +1,7 @@
 -- Looking for a vector by its name.
 use Rattle.std.proofs.Common.{◌≡◌, ◌||◌, refl, ap, ℕ, List, [], ◌∷◌, map, bytes_eq}
 use Rattle.std.specs.List.{list_any}
-use Rattle.def_workspace.specs.declared.script.Vector.{Vector}
+use Rattle.def_scripted.specs.declared.script.Vector.{Vector}
 
 -- a vector of a name is there where the name is
 pub any_named : (vectors : List Vector) (name : List ℕ) → list_any (λ v. bytes_eq v.name.now name) vectors ≡ list_any (λ known. bytes_eq known name) (map (λ v. v.name.now) vectors)

@@ -1,14 +1,6 @@
 -- What the words of a command line ask for.
-use Rattle.std.specs.Prelude.{Bool, true, false, ◌&&◌, ℕ, List, [], ◌∷◌, codes, bytes_eq}
-use Rattle.std.specs.List.{list_any}
-
--- the names of the vectors, in byte order
-abbrev pub vector_names : List (List ℕ)
-vector_names = codes "attrs" ∷ codes "circular" ∷ codes "cycle" ∷ codes "empty" ∷ codes "excused" ∷ codes "fields" ∷ codes "glob" ∷ codes "list" ∷ codes "plain" ∷ codes "private" ∷ codes "underscore" ∷ []
-
--- whether there is a vector of this name
-unfoldable pub is_vector : List ℕ → Bool
-is_vector name = list_any (λ known. bytes_eq known name) vector_names
+use Rattle.std.specs.Prelude.{Bool, false, ◌&&◌, ℕ, List, [], ◌∷◌, codes, bytes_eq}
+use Rattle.def_workspace.specs.Vectors.{is_vector}
 
 -- the word that asks for the names
 unfoldable pub is_list : List ℕ → Bool

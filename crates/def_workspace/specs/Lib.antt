@@ -1,3 +1,4 @@
 pub mod Command
 pub mod Scripted
+pub mod Vectors
 pub mod Workspace

@@ -1,5 +1,5 @@
 -- What a scripted database answers.
-use Rattle.std.specs.Prelude.{Bool, true, false, ◌==◌, ◌&&◌, List, [], ℕ, String, Option, Some, None, option_map, Result, Err}
+use Rattle.std.specs.Prelude.{Bool, false, ◌==◌, ◌&&◌, List, [], ℕ, String, Option, Some, None, option_map, Err}
 use Rattle.indexmap.specs.IndexMap.{IndexMap, get, get_by_text}
 use Rattle.item_tree.specs.declared.ids.BlockId.{BlockId}
 use Rattle.item_tree.specs.declared.ids.Crate.{Crate}

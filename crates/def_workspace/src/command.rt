@@ -3,17 +3,15 @@
 ghost use Rattle.std.specs.Prelude.{◌≡◌, ◌<◌, ◌∷◌, [], true, false, map, OnOk, OnErr};
 ghost use Rattle.def_workspace.specs.Command.{is_answerable, is_list, is_show};
 
-use crate::fault::Fault;
-use crate::lines::print;
-use crate::script::{CrateText, Vector};
-use crate::vectors;
+use crate::vectors::{all, find};
 use crate::workspace::Workspace;
+use def_scripted::{CrateText, Fault, Vector, print};
 use std::alloc::Global;
 use std::io;
 
 /// Prints the names of the vectors.
 fn list<W: io::Write>(out: &mut W) -> Result<(), Fault> {
-    for vector in vectors::all() {
+    for vector in all() {
         let name = vector.name;
         writeln!(out, "{name}")?;
     }
@@ -114,7 +112,7 @@ fn run_words<O: io::Write, E: io::Write>(
     if !is_show(word) {
         return usage(err);
     }
-    match vectors::find(name) {
+    match find(name) {
         Some(vector) => status(show(alloc, vector, out), err),
         None => {
             let _ = writeln!(err, "unknown vector: {name}");

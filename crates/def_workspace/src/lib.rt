@@ -1,23 +1,17 @@
-//! Scripted crates, a database in data, and the commands that print what is collected of them.
+//! A database in data, scripted workspaces over it, and the commands that print what is collected
+//! of them.
 #![tactic(auto)]
 
 mod command;
-mod fault;
-mod lines;
-mod script;
 mod scripted;
-mod trees;
 mod vectors;
 mod workspace;
 
 pub use command::{out_of_memory, run, show};
-pub use fault::Fault;
-pub use lines::print;
-pub use script::{
-    AttrText, BuiltinText, CrateText, CtorText, DependencyText, ImportText, ItemText, Line,
-    PathText, PlainKind, VariantsText, Vector, VisText,
+pub use def_scripted::{
+    AttrText, BuiltinText, CrateText, CtorText, DependencyText, Fault, ImportText, ItemText, Line,
+    PathText, PlainKind, VariantsText, Vector, VisText, print, tree_of,
 };
 pub use scripted::Scripted;
-pub use trees::tree_of;
 pub use vectors::find;
 pub use workspace::Workspace;

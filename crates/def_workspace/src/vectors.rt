@@ -2,12 +2,12 @@
 
 ghost use Rattle.std.specs.Prelude.{◌≡◌, map, is_some, bytes_eq};
 ghost use Rattle.std.specs.List.{list_any};
-ghost use Rattle.def_workspace.specs.Command.{is_vector, vector_names};
+ghost use Rattle.def_workspace.specs.Vectors.{is_vector, vector_names};
 
-use crate::script::{
+use def_ids::Edition;
+use def_scripted::{
     AttrText, CrateText, CtorText, ImportText, ItemText, Line, PathText, PlainKind, Vector, VisText,
 };
-use def_ids::Edition;
 use item_tree::{ImportKind, PathKind};
 
 /// The vectors in byte order of their names.

@@ -2,17 +2,16 @@
 
 ghost use Rattle.std.specs.Prelude.{◌≡◌, IfOk};
 ghost use Rattle.def_ids.specs.Session.{Grows, session_of};
-ghost use Rattle.def_collector.specs.Collector.{shown};
+ghost use Rattle.def_walk.specs.Collector.{shown};
 ghost use Rattle.def_rules.specs.Headline.{Answers};
 ghost use Rattle.def_workspace.specs.Scripted.{answers_of};
 ghost use Rattle.def_workspace.specs.Workspace.{file_tree, setting};
 
-use crate::script::{CrateText, DependencyText, Line, VariantsText, Vector};
 use crate::scripted::Scripted;
-use crate::trees::{file_path, tree_of};
 use def_collector::{Collected, collect_defs};
 use def_ids::{Interner, VariantId};
 use def_map::{CrateData, DefMap, Dependency, EnumVariant};
+use def_scripted::{CrateText, DependencyText, Line, VariantsText, Vector, file_path, tree_of};
 use indexmap::IndexMap;
 use item_tree::{Crate, FileAstId, FileId, HirFileId, InFile, Seq, TreeId};
 use std::alloc::{AllocError, Global};

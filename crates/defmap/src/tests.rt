@@ -11,6 +11,7 @@ mod glob_kinds;
 mod globs;
 mod kinds;
 mod paths;
+mod prelude_imports;
 mod proc_macros;
 mod program;
 mod second_visit;

@@ -1,4 +1,4 @@
-use Rattle.std.proofs.Common.{◌<◌, ◌^◌, arith, refl, length, ap}
+use Rattle.std.proofs.Common.{◌<◌, ◌^◌, arith, length}
 use Rattle.def_bindings.specs.NumberedTable.{all_edges}
 use Rattle.def_steps.specs.Shown.{shown_edge}
 use Rattle.def_rules.specs.GlobsLaws.{listed_all, listed_more, within_index}

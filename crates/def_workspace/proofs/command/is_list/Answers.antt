@@ -1,4 +1,3 @@
-use Rattle.std.proofs.Common.{◌≡◌}
 use Rattle.def_workspace.specs.Command.{is_list}
 use Rattle.def_workspace.proofs.command.is_list.Goals as goal
 

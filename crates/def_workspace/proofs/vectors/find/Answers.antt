@@ -1,6 +1,6 @@
-use Rattle.std.proofs.Common.{◌≡◌, ◌∙◌, ap, bytes_eq}
+use Rattle.std.proofs.Common.{◌∙◌, ap, bytes_eq}
 use Rattle.std.specs.List.{list_any}
-use Rattle.def_workspace.specs.Command.{is_vector}
+use Rattle.def_workspace.specs.Vectors.{is_vector}
 use Rattle.def_workspace.proofs.VectorLemmas.{any_named}
 use Rattle.def_workspace.proofs.vectors.find.Goals as goal
 

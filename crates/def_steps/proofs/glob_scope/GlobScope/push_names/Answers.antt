@@ -1,4 +1,4 @@
-use Rattle.std.proofs.Common.{◌≡◌, ◌<◌, ◌^◌, arith, refl, length}
+use Rattle.std.proofs.Common.{◌<◌, ◌^◌, arith, refl, length}
 use Rattle.def_bindings.specs.ModuleTree.{chain_in}
 use Rattle.def_bindings.specs.Visibility.{order_over}
 use Rattle.def_rules.specs.Globs.{name_entries}

@@ -1,0 +1,38 @@
+use Rattle.std.proofs.Common.{◌+◌, ◌<◌, ℕ, Some, refl, arith, sym, subst, ◌∙◌}
+use Rattle.std.proofs.lemmas.Option.{slice_get_within}
+use Rattle.def_walk.specs.declared.collector.DefCollector.{DefCollector}
+use Rattle.def_walk.specs.Collector.{state_of}
+use Rattle.def_collector.specs.Collector.{IsUnreadyAgain}
+use Rattle.def_collector.proofs.PassLemmas.{TriedSoFar, tried_moved, tried_none, tried_unready}
+use Rattle.def_collector.proofs.imports.try_indeterminate_imports.Goals as goal
+use Rattle.def_collector.proofs.imports.try_indeterminate_imports.Goals.{then-branch, else-branch}
+
+pub indeterminate-init : goal.indeterminate-init
+indeterminate-init g c =
+    let session = c.args.session.now in
+    let oracle = g.D.SourceDatabase.oracle c.args.db.now in
+    let Stays : DefCollector → ℕ → Type 0 = λ self index. IsUnreadyAgain oracle (state_of self session) self.indeterminate_imports.items index in
+    record { len = refl; tried = tried_none oracle session Stays c.args.collector.now }
+
+pub indeterminate-preserved : goal.indeterminate-preserved
+indeterminate-preserved g c =
+    let session = c.args.session.now in
+    let oracle = g.D.SourceDatabase.oracle c.args.db.now in
+    let Stays : DefCollector → ℕ → Type 0 = λ self index. IsUnreadyAgain oracle (state_of self session) self.indeterminate_imports.items index in
+    let next : DefCollector = c.try_indeterminate_import.new.collector in
+    record {
+      len = c.in_ok-try_indeterminate_import.ensures.len ∙ c.indeterminate.invariant.len;
+      tried = elim c.if-branch.branch [
+        | then-branch w ↦ subst (λ moved. TriedSoFar oracle session Stays c.args.collector.now next moved (c.indeterminate.i + 1)) (sym w.moved-is)
+            (tried_moved oracle session Stays c.args.collector.now c.indeterminate.collector next c.indeterminate.moved c.indeterminate.i c.indeterminate.invariant.tried (c.in_ok-try_indeterminate_import.ensures.moved w.if-branch.true))
+        | else-branch w ↦ subst (λ moved. TriedSoFar oracle session Stays c.args.collector.now next moved (c.indeterminate.i + 1)) (sym w.moved-is)
+            (tried_unready oracle session Stays c.args.collector.now c.indeterminate.collector next c.indeterminate.moved c.indeterminate.i c.indeterminate.invariant.tried
+            (c.in_ok-try_indeterminate_import.ensures.same w.if-branch.false) (c.in_ok-try_indeterminate_import.ensures.unready w.if-branch.false))
+      ];
+    }
+
+pub returns-clause-unready : goal.returns-clause-unready
+returns-clause-unready g c = λ was index d here.
+    let within = slice_get_within c.args.collector.now.indeterminate_imports.items index (Some d) here in
+    let tried : index < c.indeterminate.i = omega (arith, c.args.collector.now.indeterminate_imports.ok.0) in
+    c.indeterminate.invariant.tried.unready was index tried d here

@@ -1,0 +1,189 @@
+//! A whole run: what is known of a crate is read, its items are walked, and imports are recorded
+//! until none resolves any further.
+ghost use Rattle.std.specs.Prelude.{◌≡◌, ◌++◌, [], Some, is_some, option_map, IfOk, OnOk};
+ghost use Rattle.def_ids.specs.declared.interner.Interner.{Interner};
+ghost use Rattle.def_ids.specs.Session.{Grows, session_of};
+ghost use Rattle.def_map.specs.DefMaps as whole;
+ghost use Rattle.def_map.specs.Fresh.{IsFresh};
+ghost use Rattle.def_modules.specs.Locals.{local_view};
+ghost use Rattle.def_modules.specs.Maps.{map_state};
+ghost use Rattle.def_walk.specs.Collector.{state_of};
+ghost use Rattle.def_walk.specs.Collector.{shown};
+ghost use Rattle.def_collector.specs.Collector.{setting_of};
+ghost use Rattle.def_rules.specs.Headline.{Answers};
+ghost use Rattle.def_rules.specs.Imports.{NoneReady};
+ghost use Rattle.def_rules.specs.Start.{first_reports, first_tasks, first_tree, site_at, started};
+ghost use Rattle.def_rules.specs.Steps.{Leads};
+
+use crate::imports::resolve_imports;
+use crate::seeding::seed;
+use def_ids::{Interner, ItemContainerId, MapId, ModuleId};
+use def_map::{DefMap, LocalDefMap, SourceDatabase};
+use def_parts::{Globs, ModDir};
+use def_rules::{Collected, DefDiagnostic, DefDiagnosticKind};
+use def_steps::{MissingCrates, ModDirs, deps_by_name, is_proc_macro_crate, top_attrs};
+use def_walk::{DefCollector, ItemList, disabled_by, top_items};
+use indexmap::IndexMap;
+use item_tree::{CfgExpr, FileAstId, HirFileId, InFile, TreeId};
+use std::alloc::{AllocError, Global};
+
+/// Collects the definitions of a crate or a block into its seeded map.
+///
+/// The map is fresh, as `DefMap::seed` leaves one; the tree is a block's, and `crate_local` is
+/// given, exactly where the map is a block's. A tree that the database lacks counts as empty. Want
+/// of memory answers no map; the session keeps all earlier entries, perhaps with more.
+pub fn collect_defs<D: SourceDatabase>(
+    alloc: Global,
+    db: &D,
+    session: &mut Interner,
+    def_map: DefMap,
+    tree_id: TreeId,
+    crate_local: Option<&LocalDefMap>,
+) -> Result<Collected, AllocError>
+    requires fresh { IsFresh (whole.state_of def_map) (whole.content_of def_map) }
+    requires tree { is_some tree_id.block ≡ is_some (whole.state_of def_map).id.block }
+    requires local { is_some crate_local ≡ is_some (whole.state_of def_map).id.block }
+
+    // What is answered ends a run of the machine.
+    ensures answers { IfOk result (λ collected.
+        Answers (setting_of (D.oracle db.now) def_map tree_id (option_map (λ l. local_view l.now) crate_local.entry))
+        (session_of session.old) (session_of session.new) (shown collected)) }
+
+    // Whatever is answered, the session keeps its entries.
+    ensures session { Grows (session_of session.old) (session_of session.new) }
+{
+    let (data, table) = def_map.into_parts();
+    let is_proc_macro = is_proc_macro_crate(db, data.tree.map.krate);
+    let deps = deps_by_name(alloc, db, data.tree.map.krate)?;
+    let mut collector = DefCollector {
+        alloc,
+        def_map: data,
+        table: Globs::new(alloc, table),
+        targets: IndexMap::new(alloc),
+        local_def_map: LocalDefMap::new(alloc),
+        crate_local,
+        is_proc_macro,
+        deps,
+        missing_crates: MissingCrates::new(alloc),
+        mod_dirs: ModDirs::new(alloc),
+        unresolved_imports: Vec::new(alloc),
+        indeterminate_imports: Vec::new(alloc),
+        diagnostics: Vec::new(alloc),
+    };
+    collect(&mut collector, db, session, tree_id)?;
+    collector.finish()
+}
+
+/// Walks the items, and records imports until none is ready. On `Err` nothing but safety is
+/// promised.
+fn collect<'a, D: SourceDatabase>(
+    collector: &mut DefCollector<'a>,
+    db: &'a D,
+    session: &mut Interner,
+    tree_id: TreeId,
+) -> Result<(), AllocError>
+    ensures run { OnOk result (Leads (D.oracle db.now)
+        (first_tasks (D.oracle db.now) (map_state collector.old.def_map) tree_id)
+        (started (D.oracle db.now) tree_id (state_of collector.old session.old))
+        [] (state_of collector.new session.new)) }
+    ensures settled { OnOk result (NoneReady (D.oracle db.now) (state_of collector.new session.new)) }
+    ensures session { Grows (session_of session.old) (session_of session.new) }
+{
+    seed_with_top_level(collector, db, session, tree_id)?;
+    resolution_loop(collector, db, session)
+}
+
+/// Learns what is known of the crate, and walks the top items of its root file, or of the block.
+/// On `Err` nothing but safety is promised.
+fn seed_with_top_level<'a, D: SourceDatabase>(
+    collector: &mut DefCollector<'a>,
+    db: &'a D,
+    session: &mut Interner,
+    tree_id: TreeId,
+) -> Result<(), AllocError>
+    ensures run { OnOk result (Leads (D.oracle db.now)
+        (first_tasks (D.oracle db.now) (map_state collector.old.def_map) tree_id)
+        (started (D.oracle db.now) tree_id (state_of collector.old session.old))
+        [] (state_of collector.new session.new)) }
+    ensures session { Grows (session_of session.old) (session_of session.new) }
+{
+    let map = collector.def_map.tree.map;
+    let tree_id = first_tree(db, map, tree_id);
+    let tree = db.item_tree(tree_id);
+    let disabled = disabled_by(tree);
+    seed(collector, db, session, top_attrs(tree), disabled)?;
+    if let Some(cfg) = disabled {
+        return report_disabled(collector, tree_id, cfg);
+    }
+    collector.walk(
+        db,
+        session,
+        ItemList {
+            module_id: ModuleId { map, index: 0 },
+            container: ItemContainerId::Module(ModuleId { map, index: 0 }),
+            tree_id,
+            tree,
+            items: top_items(tree),
+            dir: ModDir::root(collector.alloc),
+        },
+    )
+}
+
+/// Reports a crate's root file that cfg disables. Of a block nothing is reported. On `Err`
+/// nothing but safety is promised.
+fn report_disabled<'a>(
+    collector: &mut DefCollector<'a>,
+    tree_id: TreeId,
+    cfg: CfgExpr,
+) -> Result<(), AllocError>
+    ensures { OnOk result ((session : Interner) →
+        let s = state_of collector.old session in
+        state_of collector.new session
+        ≡ record s { diagnostics = s.diagnostics ++ first_reports (site_at s.map tree_id) (is_some s.map.id.block) (Some cfg) }) }
+{
+    let map = collector.def_map.tree.map;
+    let in_block = map.block.is_some();
+    if in_block {
+        return Ok(());
+    }
+    collector.diagnostics.push(DefDiagnostic {
+        module: ModuleId { map, index: 0 },
+        ast_id: InFile {
+            file: tree_id.file,
+            value: FileAstId(0),
+        },
+        kind: DefDiagnosticKind::UnconfiguredCode { cfg },
+    })?;
+    Ok(())
+}
+
+/// Records imports until none is ready. On `Err` nothing but safety is promised.
+fn resolution_loop<'a, D: SourceDatabase>(
+    collector: &mut DefCollector<'a>,
+    db: &D,
+    session: &Interner,
+) -> Result<(), AllocError>
+    ensures run { OnOk result (Leads (D.oracle db.now)
+        [] (state_of collector.old session.now) [] (state_of collector.new session.now)) }
+    ensures settled { OnOk result (NoneReady (D.oracle db.now) (state_of collector.new session.now)) }
+{
+    'resolve_imports: while resolve_imports(collector, db, session)? {}
+    Ok(())
+}
+
+/// The tree whose top items are walked: that of the crate's root file, where its data name one,
+/// or the one that was handed in.
+fn first_tree<D: SourceDatabase>(db: &D, map: MapId, tree_id: TreeId) -> TreeId
+    ensures { result ≡ first_tree (D.oracle db.now) map tree_id }
+{
+    if map.block.is_some() {
+        return tree_id;
+    }
+    match db.crate_data(map.krate) {
+        Some(known) => TreeId {
+            file: HirFileId::File(known.root_file),
+            block: None,
+        },
+        None => tree_id,
+    }
+}

@@ -1,0 +1,4 @@
+pub mod FinishLemmas
+pub mod ItemsLemmas
+pub mod VisitLemmas
+pub mod WalkLemmas

@@ -1,0 +1,77 @@
+-- The walk: what is to be visited, and that it gets less.
+use Rattle.std.proofs.Common.{◌≡◌, ◌<◌, ◌+◌, ℕ, suc, List, [], ◌∷◌, ◌++◌, length, drop, Some, slice_get, arith, refl, sym, ap, ◌∙◌, append_assoc, append-nil, add-one}
+use Rattle.std.proofs.lemmas.List.{length_push}
+use Rattle.std.proofs.lemmas.List.Sums.{sum_by-append, sum_by-cons}
+use Rattle.std.proofs.lemmas.Option.{slice_get_within, get_or_from_slice_get}
+use Rattle.std.proofs.Math.Seq.{drop-cons}
+use Rattle.item_tree.specs.declared.ids.ModItemId.{ModItemId}
+use Rattle.item_tree.specs.declared.name.Name.{Name}
+use Rattle.def_map.specs.Oracle.{Oracle}
+use Rattle.def_walk.specs.declared.collector.walk.Frame.{Frame}
+use Rattle.def_walk.specs.Collector.{agenda_of, list_site, listed, left_of, walk_measure}
+use Rattle.def_rules.specs.Work.{task_work, work}
+use Rattle.def_rules.specs.Items.{visits}
+use Rattle.def_rules.specs.State.{Task, Visit}
+
+-- a frame's items
+abbrev pub frame_tasks : Frame → List Task
+frame_tasks frame = visits (list_site frame.list) (left_of frame)
+
+-- the last frame comes first
+pub agenda_of-push : (frames : List Frame) (frame : Frame) → agenda_of (frames ++ frame ∷ []) ≡ frame_tasks frame ++ agenda_of frames
+unfolding agenda_of
+agenda_of-push [] frame = sym (append-nil (frame_tasks frame))
+agenda_of-push (below ∷ frames) frame =
+    ap (λ agenda. agenda ++ frame_tasks below) (agenda_of-push frames frame) ∙ append_assoc (frame_tasks frame) (agenda_of frames) (frame_tasks below)
+
+pub agenda_of-none : agenda_of [] ≡ []
+unfolding agenda_of
+agenda_of-none = refl
+
+-- one frame is what is left of its list
+pub agenda_of-one : (frame : Frame) → agenda_of (frame ∷ []) ≡ frame_tasks frame
+unfolding agenda_of
+agenda_of-one frame = refl
+
+-- a frame that has nothing left is no work
+pub agenda_of-done : (frames : List Frame) (frame : Frame) → left_of frame ≡ [] → agenda_of (frames ++ frame ∷ []) ≡ agenda_of frames
+agenda_of-done frames frame done = agenda_of-push frames frame ∙ ap (λ left. visits (list_site frame.list) left ++ agenda_of frames) done
+
+-- the frame once its next item was taken
+abbrev pub after_turn : Frame → Frame
+after_turn frame = record frame { next = frame.next + 1 }
+
+-- the next item, and those after it
+pub left_of-cons : (frame : Frame) (id : ModItemId) → Some id ≡ slice_get (listed frame) frame.next → left_of frame ≡ id ∷ left_of (after_turn frame)
+left_of-cons frame id found =
+    let within : frame.next < length (listed frame) = slice_get_within (listed frame) frame.next id (sym found) in
+    drop-cons (listed frame) frame.next id within
+    ∙ ap (λ x. x ∷ drop (suc frame.next) (listed frame)) (get_or_from_slice_get (listed frame) frame.next id id (sym found))
+    ∙ ap (λ n. id ∷ drop n (listed frame)) (sym (add-one frame.next))
+
+-- the last frame's next item comes first
+pub agenda_of-next : (frames : List Frame) (frame : Frame) (id : ModItemId) → Some id ≡ slice_get (listed frame) frame.next
+    → agenda_of (frames ++ frame ∷ []) ≡ Visit (list_site frame.list) id ∷ agenda_of (frames ++ after_turn frame ∷ [])
+agenda_of-next frames frame id found =
+    agenda_of-push frames frame
+    ∙ ap (λ left. visits (list_site frame.list) left ++ agenda_of frames) (left_of-cons frame id found)
+    ∙ ap (λ agenda. Visit (list_site frame.list) id ∷ agenda) (sym (agenda_of-push frames (after_turn frame)))
+
+module _ (oracle : Oracle) (texts : Name → List ℕ) where
+  -- one frame more
+  pub measure_pushed : (frames : List Frame) (frame : Frame) → walk_measure oracle texts (frames ++ frame ∷ []) ≡ suc (work oracle texts (frame_tasks frame) + walk_measure oracle texts frames)
+  measure_pushed frames frame =
+      let parts : work oracle texts (agenda_of (frames ++ frame ∷ [])) ≡ work oracle texts (frame_tasks frame) + work oracle texts (agenda_of frames) =
+      ap (work oracle texts) (agenda_of-push frames frame) ∙ sum_by-append (task_work oracle texts) (frame_tasks frame) (agenda_of frames) in
+      let long = length_push frames frame in
+      omega (arith, parts, long)
+
+  -- one item less
+  pub measure_next : (frames : List Frame) (frame : Frame) (id : ModItemId) → Some id ≡ slice_get (listed frame) frame.next
+      → walk_measure oracle texts (frames ++ frame ∷ []) ≡ task_work oracle texts (Visit (list_site frame.list) id) + walk_measure oracle texts (frames ++ after_turn frame ∷ [])
+  measure_next frames frame id found =
+      let parts : work oracle texts (agenda_of (frames ++ frame ∷ [])) ≡ task_work oracle texts (Visit (list_site frame.list) id) + work oracle texts (agenda_of (frames ++ after_turn frame ∷ [])) =
+      ap (work oracle texts) (agenda_of-next frames frame id found) ∙ sum_by-cons (task_work oracle texts) (Visit (list_site frame.list) id) (agenda_of (frames ++ after_turn frame ∷ [])) in
+      let before = length_push frames frame in
+      let after = length_push frames (after_turn frame) in
+      omega (arith, parts, before, after)

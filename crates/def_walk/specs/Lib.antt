@@ -1,0 +1,3 @@
+pub mod Collector
+pub mod ResultLaws
+pub mod WaitingLaws

@@ -1,0 +1,195 @@
+//! The walk of item trees, over an explicit stack of lists.
+ghost use Rattle.std.specs.Prelude.{◌≡◌, ◌<◌, ◌+◌, ◌++◌, ◌∷◌, [], true, List, All, is_some, option_and_then, slice_get, IfOk, OnOk};
+ghost use Rattle.std.specs.Option.{option_copied};
+ghost use Rattle.item_tree.specs.Trees.{item_at};
+ghost use Rattle.def_ids.specs.declared.interner.Interner.{Interner};
+ghost use Rattle.def_ids.specs.Session.{Grows, session_of};
+ghost use Rattle.def_walk.specs.Collector.{AreKnown, agenda_of, inner_of, is_frame_known, is_known, left_of, list_site, listed, state_of, tree_in, walk_measure};
+ghost use Rattle.def_rules.specs.Work.{task_work, work};
+ghost use Rattle.def_rules.specs.Items.{name_text, ordered, walk};
+ghost use Rattle.def_rules.specs.State.{Task, Visit, entered};
+ghost use Rattle.def_rules.specs.Steps.{Leads};
+
+use super::DefCollector;
+use def_ids::{Interner, ItemContainerId, ModuleId};
+use def_map::SourceDatabase;
+use def_parts::ModDir;
+use def_rules::DefDiagnosticKind;
+use def_steps::{crates_first, is_crate_root};
+use item_tree::{ItemNode, ItemTree, ModItemId, TreeId};
+use std::alloc::AllocError;
+
+/// A list of items in a module that is to be walked.
+#[derive(Drop)]
+pub struct ItemList<'a> {
+    pub module_id: ModuleId,
+    /// The module, or an extern block in it.
+    pub container: ItemContainerId,
+    pub tree_id: TreeId,
+    /// None where the database lacks the tree.
+    pub tree: Option<&'a ItemTree>,
+    pub items: &'a [ModItemId],
+    /// Where the files of the module's children lie.
+    pub dir: ModDir,
+}
+
+/// A list that is being walked, from the place `next` on. The last of a stack of frames goes first.
+#[derive(Drop)]
+pub struct Frame<'a> {
+    list: ItemList<'a>,
+    /// The items in the order of their visits, where that differs from the list's.
+    sorted: Option<Vec<ModItemId>>,
+    next: usize,
+}
+
+/// Where the items of a list stand: their module, what contains them (the module, or an extern
+/// block in it), the tree that holds them, and the directory of the module.
+#[derive(Clone, Copy)]
+pub struct Site<'a> {
+    pub module_id: ModuleId,
+    pub container: ItemContainerId,
+    pub tree_id: TreeId,
+    pub dir: &'a ModDir,
+}
+
+impl Frame<'_> {
+    /// The next item, if one is left.
+    fn next_item(&self) -> Option<ModItemId>
+        ensures item { result ≡ slice_get (listed self.now) self.now.next }
+        ensures room { is_some result ≡ true → self.now.next < usize.MAX }
+    {
+        match &self.sorted {
+            Some(sorted) => sorted.as_slice().get(self.next).copied(),
+            None => self.list.items.get(self.next).copied(),
+        }
+    }
+}
+
+impl<'a> DefCollector<'a> {
+    /// Walks a list of items: each is handled, and its own items are walked before the next. The
+    /// files of modules that include each other end with the depth of their directories. On `Err`
+    /// nothing but safety is promised.
+    pub fn walk<D: SourceDatabase>(
+        &mut self,
+        db: &'a D,
+        session: &mut Interner,
+        first: ItemList<'a>,
+    ) -> Result<(), AllocError>
+        requires { is_known (D.oracle db.now) first }
+        ensures run { OnOk result (Leads (D.oracle db.now) (walk (D.oracle db.now) (list_site first.entry) first.entry.items.now)
+            (state_of self.old session.old) [] (state_of self.new session.new)) }
+        ensures session { Grows (session_of session.old) (session_of session.new) }
+    {
+        let frame = self.open(first)?;
+        let mut frames = Vec::new(self.alloc);
+        frames.push(frame)?;
+        'frames: while let Some(frame) = frames.pop() {
+            self.visit_next(db, session, &mut frames, frame)?;
+        }
+        Ok(())
+    }
+
+    /// Begins to walk a list: the directory of its module is stored, and at a crate's root extern
+    /// crates are to go first. On `Err` nothing but safety is promised.
+    fn open(&mut self, list: ItemList<'a>) -> Result<Frame<'a>, AllocError>
+        ensures list { IfOk result (λ frame. frame.list ≡ list.entry) }
+        ensures left { IfOk result (λ frame. left_of frame ≡ ordered (tree_in list.entry) list.entry.module_id list.entry.items.now) }
+        ensures entered { OnOk result ((session : Interner) →
+            state_of self.new session ≡ entered (state_of self.old session) list.entry.module_id list.entry.dir) }
+    {
+        self.mod_dirs.insert(list.module_id, list.dir.clone()?)?;
+        let sorted = if is_crate_root(list.module_id) {
+            Some(crates_first(self.alloc, list.tree, list.items)?)
+        } else {
+            None
+        };
+        Ok(Frame {
+            list,
+            sorted,
+            next: 0,
+        })
+    }
+
+    /// Visits the next item of a frame, if it has one left, and puts back what is left to be
+    /// walked. On `Err` nothing but safety is promised.
+    fn visit_next<D: SourceDatabase>(
+        &mut self,
+        db: &'a D,
+        session: &mut Interner,
+        frames: &mut Vec<Frame<'a>>,
+        frame: Frame<'a>,
+    ) -> Result<(), AllocError>
+        requires known { All (is_frame_known (D.oracle db.now)) (frames.old.items ++ frame ∷ []) }
+        ensures run { OnOk result (Leads (D.oracle db.now)
+            (agenda_of (frames.old.items ++ frame.entry ∷ [])) (state_of self.old session.old)
+            (agenda_of frames.new.items) (state_of self.new session.new)) }
+        ensures known { OnOk result (All (is_frame_known (D.oracle db.now)) frames.new.items) }
+        ensures fewer { OnOk result (let texts = name_text (session_of session.old) in
+            walk_measure (D.oracle db.now) texts frames.new.items
+            < walk_measure (D.oracle db.now) texts (frames.old.items ++ frame.entry ∷ [])) }
+        ensures session { Grows (session_of session.old) (session_of session.new) }
+        ensures names { session.new.names ≡ session.old.names }
+    {
+        let Some(id) = frame.next_item() else {
+            return Ok(());
+        };
+        let opened = self.visit(db, session, &frame.list, id)?;
+        frames.push(Frame {
+            list: frame.list,
+            sorted: frame.sorted,
+            next: frame.next + 1,
+        })?;
+        if let Some(list) = opened {
+            let inner = self.open(list)?;
+            frames.push(inner)?;
+        }
+        Ok(())
+    }
+
+    /// Visits an item: one that cfg disables is reported, any other is handled. Answers the list
+    /// of items that are to be walked next, if it opens one. On `Err` nothing but safety is
+    /// promised.
+    fn visit<D: SourceDatabase>(
+        &mut self,
+        db: &'a D,
+        session: &mut Interner,
+        list: &ItemList<'a>,
+        id: ModItemId,
+    ) -> Result<Option<ItemList<'a>>, AllocError>
+        requires { is_known (D.oracle db.now) list.now }
+        ensures run { IfOk result (λ opened. (rest : List Task) →
+            Leads (D.oracle db.now) (Visit (list_site list.now) id ∷ rest) (state_of self.old session.old)
+            (inner_of (D.oracle db.now) opened ++ rest) (state_of self.new session.new)) }
+        ensures fewer { IfOk result (λ opened. let texts = name_text (session_of session.old) in
+            1 + work (D.oracle db.now) texts (inner_of (D.oracle db.now) opened)
+            < task_work (D.oracle db.now) texts (Visit (list_site list.now) id)) }
+        ensures known { IfOk result (λ opened. AreKnown (D.oracle db.now) opened) }
+        ensures session { Grows (session_of session.old) (session_of session.new) }
+        ensures names { session.new.names ≡ session.old.names }
+    {
+        let Some(node) = item_in(list.tree, id) else {
+            return Ok(None);
+        };
+        let site = Site {
+            module_id: list.module_id,
+            container: list.container,
+            tree_id: list.tree_id,
+            dir: &list.dir,
+        };
+        if let Some(cfg) = node.disabled_by() {
+            self.report(site, node, DefDiagnosticKind::UnconfiguredCode { cfg })?;
+            return Ok(None);
+        }
+        self.collect_item(db, session, site, node)
+    }
+}
+
+/// The item of this number, if the tree is there and has it.
+fn item_in<'a>(tree: Option<&'a ItemTree>, id: ModItemId) -> Option<&'a ItemNode>
+    ensures { option_copied result ≡ option_and_then (λ t. item_at t.now.items id) tree.entry }
+{
+    match tree {
+        Some(tree) => tree.index(id),
+        None => None,
+    }
+}

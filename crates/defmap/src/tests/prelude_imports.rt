@@ -1,0 +1,210 @@
+//! Globs of a module of another crate, and `#[prelude_import]`, with which a glob makes a module
+//! the prelude.
+#![tactic(auto)]
+
+use def_ids::Edition;
+use def_workspace::{
+    AttrText, CrateText, CtorText, DependencyText, Fault, ImportText, ItemText, Line, PathText,
+    Vector, VisText, Workspace, print,
+};
+use item_tree::{ImportKind, PathKind};
+use std::alloc::Global;
+
+/// Crate 1 on its own, and crate 0 over it under the name `d`.
+static CRATES: [CrateText; 2] = [
+    CrateText {
+        krate: 1,
+        edition: Edition::Edition2021,
+        root_file: 1,
+        deps: &[],
+    },
+    CrateText {
+        krate: 0,
+        edition: Edition::Edition2021,
+        root_file: 0,
+        deps: &[DependencyText {
+            name: "d",
+            krate: 1,
+            prelude: true,
+            sysroot: false,
+        }],
+    },
+];
+
+/// use O as P;
+const USE_OF_O: Line = Line {
+    depth: 0,
+    item: ItemText::Use {
+        vis: VisText::PubSelf,
+        imports: &[ImportText {
+            path: PathText {
+                kind: PathKind::Plain,
+                segments: &["O"],
+            },
+            kind: ImportKind::Plain,
+            alias: Some("P"),
+        }],
+    },
+};
+
+const MODULE_P: Line = Line {
+    depth: 0,
+    item: ItemText::Mod {
+        vis: VisText::Public,
+        name: "p",
+    },
+};
+
+const STRUCT_O: Line = Line {
+    depth: 1,
+    item: ItemText::Struct {
+        vis: VisText::Public,
+        name: "O",
+        ctor: CtorText::Vis(VisText::Public),
+    },
+};
+
+/// use d::p::*; over pub mod p { pub struct O; struct Q; }
+static WITHOUT_ATTR: [&[Line]; 2] = [
+    &[Line {
+        depth: 0,
+        item: ItemText::Use {
+            vis: VisText::PubSelf,
+            imports: &[ImportText {
+                path: PathText {
+                    kind: PathKind::Plain,
+                    segments: &["d", "p"],
+                },
+                kind: ImportKind::Glob,
+                alias: None,
+            }],
+        },
+    }],
+    &[
+        MODULE_P,
+        STRUCT_O,
+        Line {
+            depth: 1,
+            item: ItemText::Struct {
+                vis: VisText::PubSelf,
+                name: "Q",
+                ctor: CtorText::Vis(VisText::PubSelf),
+            },
+        },
+    ],
+];
+
+/// #[prelude_import] use d::p::*; use O as P; over pub mod p { pub struct O; }
+static OF_ANOTHER: [&[Line]; 2] = [
+    &[
+        Line {
+            depth: 0,
+            item: ItemText::WithAttr {
+                name: "prelude_import",
+                input: AttrText::Word,
+                item: &ItemText::Use {
+                    vis: VisText::PubSelf,
+                    imports: &[ImportText {
+                        path: PathText {
+                            kind: PathKind::Plain,
+                            segments: &["d", "p"],
+                        },
+                        kind: ImportKind::Glob,
+                        alias: None,
+                    }],
+                },
+            },
+        },
+        USE_OF_O,
+    ],
+    &[MODULE_P, STRUCT_O],
+];
+
+/// use O as P; #[prelude_import] use crate::p::*; pub mod p { pub struct O; }
+static OF_ITS_OWN: [&[Line]; 2] = [
+    &[
+        USE_OF_O,
+        Line {
+            depth: 0,
+            item: ItemText::WithAttr {
+                name: "prelude_import",
+                input: AttrText::Word,
+                item: &ItemText::Use {
+                    vis: VisText::PubSelf,
+                    imports: &[ImportText {
+                        path: PathText {
+                            kind: PathKind::Crate,
+                            segments: &["p"],
+                        },
+                        kind: ImportKind::Glob,
+                        alias: None,
+                    }],
+                },
+            },
+        },
+        MODULE_P,
+        STRUCT_O,
+    ],
+    &[],
+];
+
+/// The lines of crate 0, and of how many globs it has targets.
+fn collected(alloc: Global, files: &'static [&'static [Line]]) -> Result<(Vec<u8>, usize), Fault> {
+    let vector = Vector {
+        name: "a test's",
+        files,
+        crates: &CRATES,
+        builtin_types: &[],
+        enums: &[],
+    };
+    let mut workspace = Workspace::new(alloc, &vector)?;
+    workspace.collect_dependency(&CRATES[0])?;
+    let collected = workspace.collect(&CRATES[1])?;
+    let mut lines = Vec::new(alloc);
+    print(alloc, &workspace.session, &collected, &mut lines)?;
+    Ok((lines, collected.outcome.targets.len()))
+}
+
+#[test]
+fn a_glob_takes_what_is_public_of_another_crate(rt: HostRuntime) -> Result<(), Fault> {
+    let (lines, targets) = collected(rt.alloc(), &WITHOUT_ATTR)?;
+    assert_eq!(rt;
+        lines.as_slice(),
+        "module 0 - crate
+binding 0 O types struct:0 in:0 glob:0.0
+binding 0 O values struct:0 in:0 glob:0.0
+"
+            .as_bytes()
+    );
+    assert!(rt; targets == 1);
+    Ok(())
+}
+
+#[test]
+fn a_prelude_import_adds_no_edge_and_no_target(rt: HostRuntime) -> Result<(), Fault> {
+    let (lines, targets) = collected(rt.alloc(), &OF_ANOTHER)?;
+    assert_eq!(rt;
+        lines.as_slice(),
+        "module 0 - crate
+binding 0 P types struct:0 in:0 import:1.0
+binding 0 P values struct:0 in:0 import:1.0
+"
+            .as_bytes()
+    );
+    assert!(rt; targets == 0);
+    let (lines, targets) = collected(rt.alloc(), &OF_ITS_OWN)?;
+    assert_eq!(rt;
+        lines.as_slice(),
+        "module 0 - crate
+module 1 0 p
+binding 0 P types struct:0 in:0 import:0.0
+binding 0 P values struct:0 in:0 import:0.0
+binding 0 p types mod:1 pub decl
+binding 1 O types struct:0 pub decl
+binding 1 O values struct:0 pub decl
+"
+            .as_bytes()
+    );
+    assert!(rt; targets == 0);
+    Ok(())
+}
