@@ -152,7 +152,7 @@ impl ModuleData {
     }
 
     /// Adds a declaration behind the others.
-    pub fn declare(&mut self, def: Def) -> Result<(), AllocError>
+    pub(crate) fn declare(&mut self, def: Def) -> Result<(), AllocError>
         ensures { OnOk result (module_state self.new ≡ declared_in def (module_state self.old)) }
     {
         self.scope.declarations.push(def)?;
@@ -160,7 +160,7 @@ impl ModuleData {
     }
 
     /// Leads a child's name to its index.
-    pub fn set_child(&mut self, name: Name, child: usize) -> Result<(), AllocError>
+    pub(crate) fn set_child(&mut self, name: Name, child: usize) -> Result<(), AllocError>
         ensures { OnOk result (module_state self.new ≡ with_child name child (module_state self.old)) }
     {
         self.children.insert(name, child)?;
@@ -168,7 +168,11 @@ impl ModuleData {
     }
 
     /// Defines a textual macro, which shadows the earlier ones of its name.
-    pub fn define_legacy_macro(&mut self, name: Name, macro_id: MacroId) -> Result<(), AllocError>
+    pub(crate) fn define_legacy_macro(
+        &mut self,
+        name: Name,
+        macro_id: MacroId,
+    ) -> Result<(), AllocError>
         ensures { OnOk result (module_state self.new ≡ with_textual name macro_id (module_state self.old)) }
     {
         push_under(&mut self.scope.legacy_macros, name, macro_id)?;
@@ -176,7 +180,7 @@ impl ModuleData {
     }
 
     /// Records an `extern crate` item.
-    pub fn define_extern_crate_decl(&mut self, id: ExternCrateId) -> Result<(), AllocError>
+    pub(crate) fn define_extern_crate_decl(&mut self, id: ExternCrateId) -> Result<(), AllocError>
         ensures { OnOk result (module_state self.new ≡ with_extern_crate id (module_state self.old)) }
     {
         self.scope.extern_crates.push(id)?;
@@ -184,7 +188,7 @@ impl ModuleData {
     }
 
     /// Records an extern block.
-    pub fn define_extern_block(&mut self, id: ExternBlockId) -> Result<(), AllocError>
+    pub(crate) fn define_extern_block(&mut self, id: ExternBlockId) -> Result<(), AllocError>
         ensures { OnOk result (module_state self.new ≡ with_extern_block id (module_state self.old)) }
     {
         self.scope.extern_blocks.push(id)?;
@@ -192,7 +196,7 @@ impl ModuleData {
     }
 
     /// Records a constant without a name.
-    pub fn define_unnamed_const(&mut self, id: ConstId) -> Result<(), AllocError>
+    pub(crate) fn define_unnamed_const(&mut self, id: ConstId) -> Result<(), AllocError>
         ensures { OnOk result (module_state self.new ≡ with_unnamed_const id (module_state self.old)) }
     {
         self.scope.unnamed_consts.push(id)?;
@@ -200,7 +204,7 @@ impl ModuleData {
     }
 
     /// Records an impl, and whether it is one of a trait.
-    pub fn define_impl(&mut self, id: ImplId, is_trait_impl: bool) -> Result<(), AllocError>
+    pub(crate) fn define_impl(&mut self, id: ImplId, is_trait_impl: bool) -> Result<(), AllocError>
         ensures { OnOk result (module_state self.new ≡ with_impl id is_trait_impl (module_state self.old)) }
     {
         self.scope.impls.push((id, is_trait_impl))?;
@@ -208,7 +212,10 @@ impl ModuleData {
     }
 
     /// Records the impl of a builtin derive.
-    pub fn define_builtin_derive_impl(&mut self, id: BuiltinDeriveImplId) -> Result<(), AllocError>
+    pub(crate) fn define_builtin_derive_impl(
+        &mut self,
+        id: BuiltinDeriveImplId,
+    ) -> Result<(), AllocError>
         ensures { OnOk result (module_state self.new ≡ with_derive_impl id (module_state self.old)) }
     {
         self.scope.builtin_derive_impls.push(id)?;
@@ -217,7 +224,7 @@ impl ModuleData {
 
     /// Records a derive attribute's call and what each path of its list gave, in the place of an
     /// earlier record of the same attribute.
-    pub fn set_derive(
+    pub(crate) fn set_derive(
         &mut self,
         position: Position,
         attr: AttrId,
@@ -232,7 +239,7 @@ impl ModuleData {
     }
 
     /// Records the call of one path of a derive attribute, where the attribute has such a path.
-    pub fn set_derive_call(
+    pub(crate) fn set_derive_call(
         &mut self,
         position: Position,
         attr: AttrId,
@@ -255,7 +262,7 @@ impl ModuleData {
     }
 
     /// Records a macro call at its position.
-    pub fn add_macro_invoc(
+    pub(crate) fn add_macro_invoc(
         &mut self,
         position: Position,
         call: MacroCallId,
@@ -269,7 +276,7 @@ impl ModuleData {
     }
 
     /// Marks a name that an import left over would have bound.
-    pub fn mark_failed(&mut self, name: Name) -> Result<(), AllocError>
+    pub(crate) fn mark_failed(&mut self, name: Name) -> Result<(), AllocError>
         ensures { OnOk result (module_state self.new ≡ marked_failed name (module_state self.old)) }
     {
         self.scope.failed.insert(name)?;
