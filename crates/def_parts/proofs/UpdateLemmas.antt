@@ -1,6 +1,6 @@
 -- What an update keeps, by what its two parts ensure.
-use Rattle.std.proofs.Common.{◌≡◌, Bool, true, false, cond, Option, Some, None, List, [], ◌∷◌, refl, sym, ap, ◌∙◌, subst, inl, inr}
-use Rattle.std.specs.Prelude.{slice_get, Contains, option_to_list}
+use Rattle.std.proofs.Common.{◌≡◌, ℕ, Bool, true, false, cond, Option, Some, None, List, [], ◌∷◌, refl, sym, ap, ◌∙◌, subst, inl, inr, arith}
+use Rattle.std.specs.Prelude.{is_some, slice_get, Contains, option_to_list}
 use Rattle.std.proofs.lemmas.List.Elements.{Contains-append_left, Contains-append_right, Contains-append_cases}
 use Rattle.def_ids.specs.declared.ids.ModuleId.{ModuleId}
 use Rattle.def_ids.specs.declared.ids.GlobId.{GlobId}
@@ -9,15 +9,17 @@ use Rattle.def_bindings.specs.declared.bindings.Binding.{Binding}
 use Rattle.def_bindings.specs.declared.bindings.EdgeTo.{EdgeTo}
 use Rattle.def_bindings.specs.declared.bindings.Entry.{Entry}
 use Rattle.def_bindings.specs.declared.bindings.Slot.{Slot}
+use Rattle.def_bindings.specs.declared.bindings.Slot.TheVariants.{Named}
 use Rattle.def_bindings.specs.Order.{Order}
 use Rattle.def_bindings.specs.Content.{Content}
 use Rattle.def_bindings.specs.Puts.{put_entry, puts, slot_of, offered}
 use Rattle.def_bindings.specs.Closure.{IsClosed, IsCoherent}
 use Rattle.def_parts.specs.Waves.{Copies, none, more, def_at, slots_of, BeginsAt, LedOrHome, EntriesFollow, ListsAll, IsClosedTo, KeepsGlobs}
 use Rattle.def_parts.specs.RecordingLaws.{edges_updated, recorded_closed, globs_updated}
-use Rattle.def_parts.specs.Pending.{changed_at, changed_by, AllAt, ClosedBut, CoherentBut}
+use Rattle.def_parts.specs.Pending.{changed_at, changed_by, carried_by, AllAt, ClosedBut, CoherentBut}
 use Rattle.def_parts.specs.ListLaws.{none_in}
 use Rattle.def_parts.specs.PuttingLaws.{edges_puts}
+use Rattle.def_parts.proofs.WavingLemmas.{past_end}
 use Rattle.def_parts.proofs.PlacedLemmas.{closed_puts, coherent_puts}
 
 changed_in : (changed : Bool) (x y : Slot) → Contains (cond changed (x ∷ []) []) y → Contains (x ∷ []) y
@@ -40,19 +42,45 @@ pub copies_mono : {V : Type 0} (o : Order V) (xs ys : List Slot) (def_of : Slot 
 copies_mono o xs ys def_of f none = none
 copies_mono o xs ys def_of f (more s e x k before at within def) = more s e x k (copies_mono o xs ys def_of f before) at (f x within) def
 
+carried_in : {V : Type 0} (first : Option (EdgeTo V)) (xs : List Slot) (y : Slot) → Contains (cond (is_some first) xs []) y → Contains xs y
+carried_in None xs y h = absurd (none_in y h)
+carried_in (Some e) xs y h = h
+
+carried_all : {V : Type 0} (first : Option (EdgeTo V)) (xs : List Slot) (y : Slot) → (first ≡ None → ⊥) → Contains xs y → Contains (cond (is_some first) xs []) y
+carried_all None xs y some h = absurd (some refl)
+carried_all (Some e) xs y some h = h
+
+-- what is pending along an edge travels
+travels : {V : Type 0} (o : Order V) (m : ModuleId) (list : List (Entry V)) (c : Content V) (s : ModuleId) (k : ℕ) (y : Slot) (e : EdgeTo V)
+    → slice_get ((puts o m list c).edges s) k ≡ Some e → AllAt m (changed_by o m list c) s k y → AllAt m (carried_by o m list c) s k y
+travels o m list c s k y e at p =
+    let here : slice_get (c.edges m) k ≡ Some e =
+    ap (λ n. slice_get (c.edges n) k) (sym p.0) ∙ ap (λ (f : ModuleId → List (EdgeTo _)). slice_get (f s) k) (sym (edges_puts o m list c)) ∙ at in
+    (p.0, carried_all (slice_get (c.edges m) 0) (changed_by o m list c) y (λ none. past_end (c.edges m) 0 k e none (omega arith) here) p.1)
+
 -- what a list in a closed module leaves closed
 pub closed_after : {V : Type 0} (o : Order V) (left_out : ModuleId → Bool) (m : ModuleId) (list : List (Entry V)) (c : Content V)
-    → IsClosed o left_out c → ClosedBut o left_out (AllAt m (changed_by o m list c)) (puts o m list c)
-closed_after o left_out m list c closed =
-    closed_puts o left_out (AllAt m (changed_by o m list c)) m list c (λ y h j. (refl, h)) (λ s k e x b at left h seen. inl (closed s k e x b at left h seen))
+    → IsClosed o left_out c → ClosedBut o left_out (AllAt m (carried_by o m list c)) (puts o m list c)
+closed_after o left_out m list c closed s k e x b at left h seen =
+    let after : ClosedBut o left_out (AllAt m (changed_by o m list c)) (puts o m list c) =
+    closed_puts o left_out (AllAt m (changed_by o m list c)) m list c (λ y h j. (refl, h)) (λ s k e x b at left h seen. inl (closed s k e x b at left h seen)) in
+    elim (after s k e x b at left h seen) [ inl bound ↦ inl bound | inr p ↦ inr (travels o m list c s k x e at p) ]
 
 pub coherent_after : {V : Type 0} (o : Order V) (left_out : ModuleId → Bool) (target_of : GlobId → Option ModuleId) (m : ModuleId) (list : List (Entry V)) (c : Content V)
     → EntriesFollow left_out target_of m list c → LedOrHome left_out target_of m c → IsCoherent o left_out target_of c
-    → CoherentBut o left_out target_of (AllAt m (changed_by o m list c)) (puts o m list c) × LedOrHome left_out target_of m (puts o m list c)
+    → CoherentBut o left_out target_of (AllAt m (carried_by o m list c)) (puts o m list c) × LedOrHome left_out target_of m (puts o m list c)
 coherent_after o left_out target_of m list c follow led coherent =
+    let after : CoherentBut o left_out target_of (AllAt m (changed_by o m list c)) (puts o m list c) × LedOrHome left_out target_of m (puts o m list c) =
     coherent_puts o left_out (AllAt m (changed_by o m list c)) m target_of list c (λ y h j. (refl, h))
     (λ e name g t q n by known lm lt. inr (follow e name g t q n by known lm lt)) led
-    (λ i name ns b g t here by known li lt. inl (coherent i name ns b g t here by known li lt))
+    (λ i name ns b g t here by known li lt. inl (coherent i name ns b g t here by known li lt)) in (
+      λ i name ns b g t here by known li lt.
+          elim (after.0 i name ns b g t here by known li lt) [
+            | inl follows ↦ inl follows
+            | inr p ↦ inr (p.0, (p.1.0, (p.1.1.0, p.1.1.1, p.1.1.2, p.1.1.3, travels o m list c t p.1.0 (Named name ns) p.1.1.0 p.1.1.1 p.1.1.4)))
+          ],
+      after.1,
+    )
 
 pub begins_after_puts : {V : Type 0} (o : Order V) (target_of : GlobId → Option ModuleId) (m : ModuleId) (list : List (Entry V)) (c : Content V) → BeginsAt target_of c → BeginsAt target_of (puts o m list c)
 begins_after_puts o target_of m list c begins s k e t at known =
@@ -60,16 +88,17 @@ begins_after_puts o target_of m list c begins s k e t at known =
 
 -- the contract of an update, by what its two parts ensure
 module _ {V : Type 0} (o : Order V) (m : ModuleId) (list : List (Entry V)) (c c1 c2 : Content V) (xs : List Slot)
-    (parts : (xs ≡ changed_by o m list c) × (c1 ≡ puts o m list c)) where
+    (parts : (xs ≡ carried_by o m list c) × (c1 ≡ puts o m list c)) where
   pub update_copies : Copies o xs (def_at c1 m) c1 c2 → Copies o (slots_of list) (def_at (puts o m list c) m) (puts o m list c) c2
   update_copies copies =
       let now = subst (λ d. Copies o xs (def_at d m) d c2) parts.1 copies in
-      copies_mono o xs (slots_of list) (def_at (puts o m list c) m) (λ y h. within_list o m list c y (subst (λ ys. Contains ys y) parts.0 h)) now
+      copies_mono o xs (slots_of list) (def_at (puts o m list c) m)
+      (λ y h. within_list o m list c y (carried_in (slice_get (c.edges m) 0) (changed_by o m list c) y (subst (λ ys. Contains ys y) parts.0 h))) now
 
   pub update_closed : ((left_out : ModuleId → Bool) → ClosedBut o left_out (AllAt m xs) c1 → IsClosed o left_out c2)
       → (left_out : ModuleId → Bool) → IsClosed o left_out c → IsClosed o left_out c2
   update_closed spread left_out closed =
-      spread left_out (subst (λ ys. ClosedBut o left_out (AllAt m ys) c1) (sym parts.0) (subst (λ d. ClosedBut o left_out (AllAt m (changed_by o m list c)) d) (sym parts.1)
+      spread left_out (subst (λ ys. ClosedBut o left_out (AllAt m ys) c1) (sym parts.0) (subst (λ d. ClosedBut o left_out (AllAt m (carried_by o m list c)) d) (sym parts.1)
       (closed_after o left_out m list c closed)))
 
   pub update_coherent : ((left_out : ModuleId → Bool) (target_of : GlobId → Option ModuleId) → BeginsAt target_of c1 → LedOrHome left_out target_of m c1
@@ -81,7 +110,7 @@ module _ {V : Type 0} (o : Order V) (m : ModuleId) (list : List (Entry V)) (c c1
       spread left_out target_of
       (subst (λ d. BeginsAt target_of d) (sym parts.1) (begins_after_puts o target_of m list c begins))
       (subst (λ d. LedOrHome left_out target_of m d) (sym parts.1) after.1)
-      (subst (λ ys. CoherentBut o left_out target_of (AllAt m ys) c1) (sym parts.0) (subst (λ d. CoherentBut o left_out target_of (AllAt m (changed_by o m list c)) d) (sym parts.1) after.0))
+      (subst (λ ys. CoherentBut o left_out target_of (AllAt m ys) c1) (sym parts.0) (subst (λ d. CoherentBut o left_out target_of (AllAt m (carried_by o m list c)) d) (sym parts.1) after.0))
 
   pub update_edges : Copies o xs (def_at c1 m) c1 c2 → c2.edges ≡ c.edges
   update_edges copies = edges_updated o m list (slots_of list) (def_at (puts o m list c) m) c c2 (update_copies copies)

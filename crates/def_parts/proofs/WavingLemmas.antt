@@ -175,7 +175,7 @@ wave_coherent o home slots vs c0 c frames over wave left_out target_of begins le
       now.1,
     )
 
-past_end : {X : Type 0} (xs : List X) (k j : ℕ) (x : X) → slice_get xs k ≡ None → k ≤ j → slice_get xs j ≡ Some x → ⊥
+pub past_end : {X : Type 0} (xs : List X) (k j : ℕ) (x : X) → slice_get xs k ≡ None → k ≤ j → slice_get xs j ≡ Some x → ⊥
 past_end [] k j x h le at = cc
 past_end (y ∷ xs) zero j x h le at = cc
 past_end (y ∷ xs) (suc k) zero x h le at = absurd (omega arith)
@@ -214,10 +214,17 @@ module _ {V : Type 0} (c : Content V) (rest : List Frame) (f : Frame) (ends : sl
         );
   }
 
--- a wave from a module without edges is over as it begins
-pub wave_alone : {V : Type 0} (o : Order V) (sources : List ModuleId) (c : Content V) (f : Frame)
-    → slice_get (c.edges f.source) f.next ≡ None → f.next ≡ 0
-    → Wave o f.source f.slots.items (all_vis c f.source f.slots.items sources) c c []
-wave_alone o sources c f ends first =
-    wave_without c [] f ends o f.source f.slots.items (all_vis c f.source f.slots.items sources) c
-    (wave_start o f.source f.slots.items sources c f refl first refl)
+-- a wave without slots is over as it begins
+pub wave_still : {V : Type 0} (o : Order V) (home : ModuleId) (slots : List Slot) (c : Content V) → length slots ≡ 0 → Wave o home slots [] c c []
+wave_still o home slots c empty =
+    let pending : (m : ModuleId) (j : ℕ) (y : Slot) → AllAt home slots m j y → PendingIn [] m j y = λ m j y p. absurd (empty_in slots y empty p.1) in
+    record {
+      edges = refl;
+      copies = none;
+      within = λ h q. absurd (none_in h q);
+      defs = λ h q. absurd (none_in h q);
+      home_defs = λ y q. absurd (empty_in slots y empty q);
+      vises = λ h q. absurd (none_in h q);
+      closed = λ left_out start. closed_mono o left_out (AllAt home slots) (PendingIn []) c pending start;
+      coherent = λ left_out target_of begins led start. (coherent_mono o left_out target_of (AllAt home slots) (PendingIn []) c pending start, led);
+    }

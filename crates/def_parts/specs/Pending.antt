@@ -41,6 +41,10 @@ abbrev pub changed_by : {V : Type 0} → Order V → ModuleId → List (Entry V)
 changed_by o m [] c = []
 changed_by o m (e ∷ es) c = changed_at o m (slot_of e) (offered e) c ++ changed_by o m es (put_entry o m e c)
 
+-- those that travel: without an edge none does
+abbrev pub carried_by : {V : Type 0} → Order V → ModuleId → List (Entry V) → Content V → List Slot
+carried_by o m list c = cond (is_some (slice_get (c.edges m) 0)) (changed_by o m list c) []
+
 -- what is still to be copied: a module's slot along the edge of an index
 abbrev pub Pending : Type 1
 Pending = ModuleId → ℕ → Slot → Type 0

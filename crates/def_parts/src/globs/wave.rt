@@ -2,7 +2,7 @@
 ghost use Rattle.std.specs.Prelude.{◌≡◌, IfOk, OnOk};
 ghost use Rattle.def_bindings.specs.Puts.{puts};
 ghost use Rattle.def_parts.specs.Waves.{Copies, def_at};
-ghost use Rattle.def_parts.specs.Pending.{copied_all, reached, changed_by, ClosesPending, MendsPending};
+ghost use Rattle.def_parts.specs.Pending.{copied_all, reached, carried_by, ClosesPending, MendsPending};
 
 use def_bindings::{
     Binding, BindingTable, EdgeTo, Entry, Slot, VisOrder, copy_along, put_at, slot_of_entry,
@@ -18,7 +18,8 @@ struct Frame {
     slots: Vec<Slot>,
 }
 
-/// Puts a list in a module, and answers the slots that changed.
+/// Puts a list in a module, and answers the slots that changed, where the module has an edge to
+/// copy them along.
 pub fn put_list<T: BindingTable, O: VisOrder<Vis = T::Vis>>(
     alloc: Global,
     table: &mut T,
@@ -27,9 +28,11 @@ pub fn put_list<T: BindingTable, O: VisOrder<Vis = T::Vis>>(
     list: &[Entry<T::Vis>],
 ) -> Result<Vec<Slot>, AllocError>
     ensures { IfOk result (λ changed. let c = T.content table.old in let o = O.order order.now in
-        (changed.items ≡ changed_by o «module» list.now c)
+        (changed.items ≡ carried_by o «module» list.now c)
         × (T.content table.new ≡ puts o «module» list.now c)) }
 {
+    // Most modules have no edge, and then the changed slots need no memory.
+    let has_edge = table.edge_at(module, 0).is_some();
     let mut changed = Vec::new(alloc);
     for entry in list {
         if let Some(slot) = slot_of_entry(entry) {
@@ -38,7 +41,7 @@ pub fn put_list<T: BindingTable, O: VisOrder<Vis = T::Vis>>(
                 vis: entry.vis,
                 import: entry.origin,
             };
-            if put_at(table, order, module, slot, offer)? {
+            if put_at(table, order, module, slot, offer)? && has_edge {
                 changed.push(slot)?;
             }
         }
@@ -86,8 +89,8 @@ pub fn spread<T: BindingTable, O: VisOrder<Vis = T::Vis>>(
         (MendsPending (O.order order.now) «module» slots.items (T.content table.old)
         (T.content table.new)) }
 {
-    // Most modules have no edge, and then there is nothing to keep a stack for.
-    if table.edge_at(module, 0).is_none() {
+    // Mostly there is no slot, and then there is nothing to keep a stack for.
+    if slots.is_empty() {
         return Ok(());
     }
     let mut frames = Vec::new(alloc);

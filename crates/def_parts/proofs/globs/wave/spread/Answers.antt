@@ -1,9 +1,9 @@
-use Rattle.std.proofs.Common.{◌≡◌, refl, sym, ◌∙◌, rules, arith, Some, None, List, [], length, slice_get, ◌<◌, ◌^◌}
+use Rattle.std.proofs.Common.{◌≡◌, refl, sym, ◌∙◌, arith, Some, None, List, [], length, slice_get, ◌<◌, ◌^◌}
 use Rattle.std.proofs.lemmas.Option.{slice_get_within}
 use Rattle.std.specs.Prelude.{vec_len}
 use Rattle.std.proofs.lemmas.Bool.{eqb-true, eq-eqb, false≢true}
 use Rattle.def_bindings.specs.declared.bindings.EdgeTo.{EdgeTo}
-use Rattle.def_parts.proofs.WavingLemmas.{wave_start, wave_closed, wave_coherent, wave_without, wave_alone}
+use Rattle.def_parts.proofs.WavingLemmas.{wave_start, wave_closed, wave_coherent, wave_without, wave_still}
 use Rattle.def_parts.proofs.IterationLemmas.{iterate_on, iterate_reached, measure_on, measure_reached, some_slot}
 use Rattle.def_parts.proofs.MeasureLemmas.{measure_ends}
 use Rattle.def_parts.specs.Waves.{none}
@@ -79,15 +79,15 @@ returns-clause-coherent g c =
     let none : length c.frames.frames.items ≡ 0 = sym c.frames.frames.ok.0 ∙ c.in_default.ensures.cases.0 in
     wave_coherent _ _ _ _ _ _ c.frames.frames.items none c.frames.invariant
 
-pub returns-then-is_none-clause-copies : goal.returns-then-is_none-clause-copies
-returns-then-is_none-clause-copies g c = none
+pub returns-then-is_empty-clause-copies : goal.returns-then-is_empty-clause-copies
+returns-then-is_empty-clause-copies g c = none
 
-pub returns-then-is_none-clause-closed : goal.returns-then-is_none-clause-closed
-returns-then-is_none-clause-closed g c =
-    let ends : slice_get ((g.T.BindingTable.content c.args.table.now).edges c.args.module) 0 ≡ None = search rules in
-    wave_closed _ _ _ _ _ _ [] refl (wave_alone (g.O.VisOrder.order c.args.order.now) [] (g.T.BindingTable.content c.args.table.now) (record { source = c.args.module; next = 0; slots = c.args.slots }) ends refl)
+pub returns-then-is_empty-clause-closed : goal.returns-then-is_empty-clause-closed
+returns-then-is_empty-clause-closed g c =
+    let empty : length c.args.slots.items ≡ 0 = sym c.args.slots.ok.0 ∙ eqb-true _ _ (sym c.if-is_empty.ensures) in
+    wave_closed _ _ _ _ _ _ [] refl (wave_still (g.O.VisOrder.order c.args.order.now) c.args.module c.args.slots.items (g.T.BindingTable.content c.args.table.now) empty)
 
-pub returns-then-is_none-clause-coherent : goal.returns-then-is_none-clause-coherent
-returns-then-is_none-clause-coherent g c =
-    let ends : slice_get ((g.T.BindingTable.content c.args.table.now).edges c.args.module) 0 ≡ None = search rules in
-    wave_coherent _ _ _ _ _ _ [] refl (wave_alone (g.O.VisOrder.order c.args.order.now) [] (g.T.BindingTable.content c.args.table.now) (record { source = c.args.module; next = 0; slots = c.args.slots }) ends refl)
+pub returns-then-is_empty-clause-coherent : goal.returns-then-is_empty-clause-coherent
+returns-then-is_empty-clause-coherent g c =
+    let empty : length c.args.slots.items ≡ 0 = sym c.args.slots.ok.0 ∙ eqb-true _ _ (sym c.if-is_empty.ensures) in
+    wave_coherent _ _ _ _ _ _ [] refl (wave_still (g.O.VisOrder.order c.args.order.now) c.args.module c.args.slots.items (g.T.BindingTable.content c.args.table.now) empty)
