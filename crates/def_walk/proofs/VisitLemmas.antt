@@ -1,5 +1,5 @@
 -- One turn of the walk, from what the code found.
-use Rattle.std.proofs.Common.{◌≡◌, ◌<◌, ◌≤◌, ◌+◌, ℕ, List, [], ◌∷◌, ◌++◌, length, All, Option, inl, inr, Some, None, Bor, option_map, slice_get, option_and_then, arith, refl, sym, ap, subst, ◌∙◌}
+use Rattle.std.proofs.Common.{◌≡◌, ◌<◌, ◌≤◌, ◌+◌, ℕ, List, [], ◌∷◌, ◌++◌, length, All, Option, inl, inr, Some, None, true, false, Bor, option_map, slice_get, option_and_then, arith, refl, sym, ap, subst, ◌∙◌}
 use Rattle.std.proofs.lemmas.List.{drop_all}
 use Rattle.std.proofs.lemmas.List.Sums.{sum_by-cons}
 use Rattle.std.proofs.lemmas.List.Elements.{All-append, All-cons, All-head, All-nil, All-same, All-tail}
@@ -10,28 +10,35 @@ use Rattle.item_tree.specs.declared.name.Name.{Name}
 use Rattle.item_tree.specs.declared.tree.ItemTree.{ItemTree}
 use Rattle.item_tree.specs.Trees.{item_at}
 use Rattle.std.specs.Option.{unwrap_or}
+use Rattle.std.specs.Prelude.{is_some}
 use Rattle.def_ids.specs.declared.interner.Interner.{Interner}
 use Rattle.def_ids.specs.Session.{session_of}
 use Rattle.def_map.specs.Oracle.{Oracle}
 use Rattle.def_walk.specs.declared.collector.walk.Frame.{Frame}
 use Rattle.def_walk.specs.declared.collector.walk.ItemList.{ItemList}
-use Rattle.def_walk.specs.Collector.{AreKnown, agenda_of, inner_of, is_frame_known, is_known, left_of, list_site, listed, tree_in, walk_measure}
+use Rattle.def_walk.specs.Collector.{AreKnown, agenda_of, frame_tasks, inner_of, is_frame_known, is_known, left_of, list_site, listed, tree_in, walk_measure}
 use Rattle.def_rules.specs.Work.{task_work, work}
 use Rattle.def_rules.specs.Items.{name_text, node_at, ordered, visits, walk}
 use Rattle.def_rules.specs.State.{State, Task, Enter, Visit, entered}
 use Rattle.def_rules.specs.Steps.{Leads}
-use Rattle.def_rules.specs.StepsLaws.{leads_enter, leads_refl, leads_trans}
-use Rattle.def_walk.proofs.WalkLemmas.{after_turn, agenda_of-done, agenda_of-next, agenda_of-one, agenda_of-push, frame_tasks, measure_next, measure_pushed}
+use Rattle.def_rules.specs.StepsLaws.{leads_enter, leads_trans}
+use Rattle.def_walk.proofs.WalkLemmas.{after_turn, agenda_of-one, agenda_of-push, frame_tasks-next, left_of-cons, measure_pushed, work_next}
+
+below : {X : Type 0} (P : X → Type 0) (xs : List X) (x : X) → All P (xs ++ x ∷ []) → All P xs
+below P [] x all = All-nil P
+below P (y ∷ xs) x all = All-cons P y xs (All-head P y (xs ++ x ∷ []) all) (below P xs x (All-tail P y (xs ++ x ∷ []) all))
+
+last : {X : Type 0} (P : X → Type 0) (xs : List X) (x : X) → All P (xs ++ x ∷ []) → P x
+last P [] x all = All-head P x [] all
+last P (y ∷ xs) x all = last P xs x (All-tail P y (xs ++ x ∷ []) all)
 
 -- what holds of a list and one more holds of the list
-pub all_below : {X : Type 0} (P : X → Type 0) (xs : List X) (x : X) → All P (xs ++ x ∷ []) → All P xs
-all_below P [] x all = All-nil P
-all_below P (y ∷ xs) x all = All-cons P y xs (All-head P y (xs ++ x ∷ []) all) (all_below P xs x (All-tail P y (xs ++ x ∷ []) all))
+pub all_below : {X : Type 0} (P : X → Type 0) (xs ys : List X) (x : X) → ys ≡ xs ++ x ∷ [] → All P ys → All P xs
+all_below P xs ys x pushed all = below P xs x (subst (All P) pushed all)
 
 -- and of the one more
-pub all_last : {X : Type 0} (P : X → Type 0) (xs : List X) (x : X) → All P (xs ++ x ∷ []) → P x
-all_last P [] x all = All-head P x [] all
-all_last P (y ∷ xs) x all = all_last P xs x (All-tail P y (xs ++ x ∷ []) all)
+pub all_last : {X : Type 0} (P : X → Type 0) (xs ys : List X) (x : X) → ys ≡ xs ++ x ∷ [] → All P ys → P x
+all_last P xs ys x pushed all = last P xs x (subst (All P) pushed all)
 
 -- and the other way round
 pub all_pushed : {X : Type 0} (P : X → Type 0) (xs ys : List X) (x : X) → ys ≡ xs ++ x ∷ [] → All P xs → P x → All P ys
@@ -88,66 +95,93 @@ fewer_still oracle first now before between after same names fewer =
     subst (λ fs. walk_measure oracle (name_text (session_of first)) after < walk_measure oracle (name_text (session_of first)) fs) (sym same)
     (subst (λ ns. walk_measure oracle (λ name. unwrap_or (slice_get ns name.0) []) after < walk_measure oracle (λ name. unwrap_or (slice_get ns name.0) []) between) names fewer)
 
-module _ (oracle : Oracle) (frames : List Frame) (frame : Frame) where
-  -- a frame that has nothing left is no work
-  pub turn_done : (s : State) → length (listed frame) ≤ frame.next → Leads oracle (agenda_of (frames ++ frame ∷ [])) s (agenda_of frames) s
-  turn_done s past = subst (λ agenda. Leads oracle agenda s (agenda_of frames) s) (sym (agenda_of-done frames frame (drop_all frame.next (listed frame) past))) (leads_refl (agenda_of frames) s)
-
-  -- and takes a turn
-  pub done_fewer : (texts : Name → List ℕ) → walk_measure oracle texts frames < walk_measure oracle texts (frames ++ frame ∷ [])
-  done_fewer texts = let more = measure_pushed oracle texts frames frame in omega (arith, more)
-
-  module _ (known : All (is_frame_known oracle) (frames ++ frame ∷ [])) (id : ModItemId) (found : Some id ≡ slice_get (listed frame) frame.next) (next : List Frame) (taken : next ≡ frames ++ after_turn frame ∷ []) (opened : Option ItemList) where
-    -- all frames go over trees that the oracle has
-    pub turn_known : All (is_frame_known oracle) next
-    turn_known = all_pushed (is_frame_known oracle) frames next (after_turn frame) taken (all_below (is_frame_known oracle) frames frame known) (all_last (is_frame_known oracle) frames frame known)
-
-    -- what the visit leads to
-    before : (s t : State) → ((rest : List Task) → Leads oracle (Visit (list_site frame.list) id ∷ rest) s (inner_of oracle opened ++ rest) t) → Leads oracle (agenda_of (frames ++ frame ∷ [])) s (inner_of oracle opened ++ agenda_of next) t
-    before s t run =
-        subst (λ agenda. Leads oracle agenda s (inner_of oracle opened ++ agenda_of next) t) (sym (agenda_of-next frames frame id found))
-        (subst (λ fs. Leads oracle (Visit (list_site frame.list) id ∷ agenda_of (frames ++ after_turn frame ∷ [])) s (inner_of oracle opened ++ agenda_of fs) t) (sym taken) (run (agenda_of (frames ++ after_turn frame ∷ []))))
-
-    -- a turn that opens nothing
-    pub turn_closed : (s t : State) → None ≡ opened → ((rest : List Task) → Leads oracle (Visit (list_site frame.list) id ∷ rest) s (inner_of oracle opened ++ rest) t) → Leads oracle (agenda_of (frames ++ frame ∷ [])) s (agenda_of next) t
-    turn_closed s t none run = subst (λ o. Leads oracle (agenda_of (frames ++ frame ∷ [])) s (inner_of oracle o ++ agenda_of next) t) (sym none) (before s t run)
-
-    -- leaves less
-    pub closed_fewer : (texts : Name → List ℕ) → 1 + work oracle texts (inner_of oracle opened) < task_work oracle texts (Visit (list_site frame.list) id) → walk_measure oracle texts next < walk_measure oracle texts (frames ++ frame ∷ [])
-    closed_fewer texts less =
-        let item = measure_next oracle texts frames frame id found in
-        let same : walk_measure oracle texts next ≡ walk_measure oracle texts (frames ++ after_turn frame ∷ []) = ap (walk_measure oracle texts) taken in
-        omega (arith, less, item, same)
-
-    module _ (list : ItemList) (some : Some list ≡ opened) (inner : Frame) (same_list : inner.list ≡ list) (left : left_of inner ≡ ordered (tree_in list) list.module_id list.items.now) (lies : AreKnown oracle opened) (last : List Frame) (pushed : last ≡ next ++ inner ∷ []) where
-      list_known : is_known oracle list
-      list_known = subst (AreKnown oracle) (sym some) lies
-
-      pub opened_known : All (is_frame_known oracle) last
-      opened_known = all_pushed (is_frame_known oracle) next last inner pushed turn_known (subst (is_known oracle) (sym same_list) list_known)
-
-      -- a turn that opens a list, whose directory is stored
-      pub turn_opened : (s t u : State) → ((rest : List Task) → Leads oracle (Visit (list_site frame.list) id ∷ rest) s (inner_of oracle opened ++ rest) t) → u ≡ entered t list.module_id list.dir → Leads oracle (agenda_of (frames ++ frame ∷ [])) s (agenda_of last) u
-      turn_opened s t u run stored =
-          let opens : Leads oracle (agenda_of (frames ++ frame ∷ [])) s (walk oracle (list_site list) list.items.now ++ agenda_of next) t =
-          subst (λ o. Leads oracle (agenda_of (frames ++ frame ∷ [])) s (inner_of oracle o ++ agenda_of next) t) (sym some) (before s t run) in
-          let agenda : agenda_of last ≡ frame_tasks inner ++ agenda_of next = ap agenda_of pushed ∙ agenda_of-push next inner in
-          let enters : Leads oracle (walk oracle (list_site list) list.items.now ++ agenda_of next) t (frame_tasks inner ++ agenda_of next) (entered t list.module_id list.dir) =
-          subst (λ tasks. Leads oracle (tasks ++ agenda_of next) t (frame_tasks inner ++ agenda_of next) (entered t list.module_id list.dir)) (sym (opened_tasks oracle list inner list_known same_list left))
-          (leads_enter list.module_id list.dir (frame_tasks inner ++ agenda_of next) t) in
-          subst (λ tasks. Leads oracle (agenda_of (frames ++ frame ∷ [])) s tasks u) (sym agenda)
-          (subst (λ x. Leads oracle (agenda_of (frames ++ frame ∷ [])) s (frame_tasks inner ++ agenda_of next) x) (sym stored) (leads_trans opens enters))
-
-      -- leaves less
-      pub opened_fewer : (texts : Name → List ℕ) → 1 + work oracle texts (inner_of oracle opened) < task_work oracle texts (Visit (list_site frame.list) id) → walk_measure oracle texts last < walk_measure oracle texts (frames ++ frame ∷ [])
-      opened_fewer texts less =
-          let item = measure_next oracle texts frames frame id found in
-          let same : walk_measure oracle texts next ≡ walk_measure oracle texts (frames ++ after_turn frame ∷ []) = ap (walk_measure oracle texts) taken in
-          let more : walk_measure oracle texts last ≡ _ = ap (walk_measure oracle texts) pushed ∙ measure_pushed oracle texts next inner in
-          let enter = sum_by-cons (task_work oracle texts) (Enter list.module_id list.dir) (frame_tasks inner) in
-          let inside : work oracle texts (inner_of oracle opened) ≡ work oracle texts (Enter list.module_id list.dir ∷ frame_tasks inner) = ap (λ o. work oracle texts (inner_of oracle o)) (sym some) ∙ ap (work oracle texts) (opened_tasks oracle list inner list_known same_list left) in
-          omega (arith, less, item, same, more, enter, inside)
-
 -- sessions with the same names have the same texts
 pub texts_same : (a b : Interner) → a.names ≡ b.names → name_text (session_of a) ≡ name_text (session_of b)
 texts_same a b names = ap (λ ns name. unwrap_or (slice_get ns name.0) []) names
+
+-- an item of a frame is visited
+module _ (oracle : Oracle) (frame : Frame) (id : ModItemId) (found : Some id ≡ slice_get (listed frame) frame.next) where
+  pub visited : (s t : State) (opened taken : Option ItemList) → opened ≡ taken → ((rest : List Task) → Leads oracle (Visit (list_site frame.list) id ∷ rest) s (inner_of oracle opened ++ rest) t)
+      → (rest : List Task) → Leads oracle (frame_tasks frame ++ rest) s (inner_of oracle taken ++ (frame_tasks (after_turn frame) ++ rest)) t
+  visited s t opened taken same run rest =
+      subst (λ o. Leads oracle (frame_tasks frame ++ rest) s (inner_of oracle o ++ (frame_tasks (after_turn frame) ++ rest)) t) same
+      (subst (λ tasks. Leads oracle (tasks ++ rest) s (inner_of oracle opened ++ (frame_tasks (after_turn frame) ++ rest)) t) (sym (frame_tasks-next frame id found))
+      (run (frame_tasks (after_turn frame) ++ rest)))
+
+  -- which leaves less, also where it opens a list
+  pub visited_fewer : (first now : Interner) (opened taken : Option ItemList) (all : ℕ) → now.names ≡ first.names → opened ≡ taken
+      → work oracle (name_text (session_of first)) (frame_tasks frame) ≤ all
+      → 1 + work oracle (name_text (session_of now)) (inner_of oracle opened) < task_work oracle (name_text (session_of now)) (Visit (list_site frame.list) id)
+      → 1 + work oracle (name_text (session_of first)) (inner_of oracle taken) + work oracle (name_text (session_of first)) (frame_tasks (after_turn frame)) < all
+  visited_fewer first now opened taken all names same before less =
+      let texts = name_text (session_of first) in
+      let here : 1 + work oracle texts (inner_of oracle taken) < task_work oracle texts (Visit (list_site frame.list) id) =
+      subst (λ o. 1 + work oracle texts (inner_of oracle o) < task_work oracle texts (Visit (list_site frame.list) id)) same
+      (subst (λ ts. 1 + work oracle ts (inner_of oracle opened) < task_work oracle ts (Visit (list_site frame.list) id)) (texts_same now first names) less) in
+      let item = work_next oracle texts frame id found in
+      omega (arith, here, item, before)
+
+  pub visited_within : (texts : Name → List ℕ) (all : ℕ) → work oracle texts (frame_tasks frame) ≤ all → work oracle texts (frame_tasks (after_turn frame)) ≤ all
+  visited_within texts all before = let item = work_next oracle texts frame id found in omega (arith, item, before)
+
+  -- and the frame has less left
+  pub shorter : length (left_of (after_turn frame)) < length (left_of frame)
+  shorter = let long = ap length (left_of-cons frame id found) in omega (arith, long)
+
+-- a frame whose items are all visited has nothing left
+pub none_left : (frame : Frame) → None ≡ slice_get (listed frame) frame.next → left_of frame ≡ []
+none_left frame none = drop_all frame.next (listed frame) (past_end (listed frame) frame.next none)
+
+-- the last frame has been walked up to a list that one of its items opened, or to its end
+module _ (oracle : Oracle) (all frames : List Frame) (frame after : Frame) (popped : all ≡ frames ++ frame ∷ []) (opened : Option ItemList) (s t : State)
+    (run : (rest : List Task) → Leads oracle (frame_tasks frame ++ rest) s (inner_of oracle opened ++ (frame_tasks after ++ rest)) t) where
+  before : Leads oracle (agenda_of all) s (inner_of oracle opened ++ (frame_tasks after ++ agenda_of frames)) t
+  before = subst (λ tasks. Leads oracle tasks s (inner_of oracle opened ++ (frame_tasks after ++ agenda_of frames)) t) (sym (ap agenda_of popped ∙ agenda_of-push frames frame)) (run (agenda_of frames))
+
+  -- at its end it goes
+  pub walked : opened ≡ None → (is_some opened ≡ false → left_of after ≡ []) → Leads oracle (agenda_of all) s (agenda_of frames) t
+  walked none ends =
+      subst (λ left. Leads oracle (agenda_of all) s (visits (list_site after.list) left ++ agenda_of frames) t) (ends (ap is_some none))
+      (subst (λ o. Leads oracle (agenda_of all) s (inner_of oracle o ++ (frame_tasks after ++ agenda_of frames)) t) none before)
+
+  module _ (list : ItemList) (some : opened ≡ Some list) (inner : Frame) (same_list : inner.list ≡ list) (left : left_of inner ≡ ordered (tree_in list) list.module_id list.items.now) (lies : AreKnown oracle opened)
+      (next last : List Frame) (kept : next ≡ frames ++ after ∷ []) (pushed : last ≡ next ++ inner ∷ []) where
+    list_known : is_known oracle list
+    list_known = subst (AreKnown oracle) some lies
+
+    -- all frames go over trees that the oracle has
+    pub opened_known : All (is_frame_known oracle) frames → is_frame_known oracle after → All (is_frame_known oracle) last
+    opened_known below at =
+        all_pushed (is_frame_known oracle) next last inner pushed (all_pushed (is_frame_known oracle) frames next after kept below at) (subst (is_known oracle) (sym same_list) list_known)
+
+    -- the directory of the opened list is stored, and its items come first
+    pub opens : (u : State) → u ≡ entered t list.module_id list.dir → Leads oracle (agenda_of all) s (agenda_of last) u
+    opens u stored =
+        let rest : agenda_of next ≡ frame_tasks after ++ agenda_of frames = ap agenda_of kept ∙ agenda_of-push frames after in
+        let opening : Leads oracle (agenda_of all) s (walk oracle (list_site list) list.items.now ++ agenda_of next) t =
+        subst (λ tasks. Leads oracle (agenda_of all) s (walk oracle (list_site list) list.items.now ++ tasks) t) (sym rest)
+        (subst (λ o. Leads oracle (agenda_of all) s (inner_of oracle o ++ (frame_tasks after ++ agenda_of frames)) t) some before) in
+        let agenda : agenda_of last ≡ frame_tasks inner ++ agenda_of next = ap agenda_of pushed ∙ agenda_of-push next inner in
+        let enters : Leads oracle (walk oracle (list_site list) list.items.now ++ agenda_of next) t (frame_tasks inner ++ agenda_of next) (entered t list.module_id list.dir) =
+        subst (λ tasks. Leads oracle (tasks ++ agenda_of next) t (frame_tasks inner ++ agenda_of next) (entered t list.module_id list.dir)) (sym (opened_tasks oracle list inner list_known same_list left))
+        (leads_enter list.module_id list.dir (frame_tasks inner ++ agenda_of next) t) in
+        subst (λ tasks. Leads oracle (agenda_of all) s tasks u) (sym agenda)
+        (subst (λ x. Leads oracle (agenda_of all) s (frame_tasks inner ++ agenda_of next) x) (sym stored) (leads_trans opening enters))
+
+    -- which leaves less
+    pub opened_fewer : (texts : Name → List ℕ) → (is_some opened ≡ true → 1 + work oracle texts (inner_of oracle opened) + work oracle texts (frame_tasks after) < work oracle texts (frame_tasks frame))
+        → walk_measure oracle texts last < walk_measure oracle texts (frames ++ frame ∷ [])
+    opened_fewer texts fewer =
+        let less = fewer (ap is_some some) in
+        let first = measure_pushed oracle texts frames frame in
+        let stays : walk_measure oracle texts next ≡ _ = ap (walk_measure oracle texts) kept ∙ measure_pushed oracle texts frames after in
+        let more : walk_measure oracle texts last ≡ _ = ap (walk_measure oracle texts) pushed ∙ measure_pushed oracle texts next inner in
+        let enter = sum_by-cons (task_work oracle texts) (Enter list.module_id list.dir) (frame_tasks inner) in
+        let inside : work oracle texts (inner_of oracle opened) ≡ work oracle texts (Enter list.module_id list.dir ∷ frame_tasks inner) =
+        ap (λ o. work oracle texts (inner_of oracle o)) some ∙ ap (work oracle texts) (opened_tasks oracle list inner list_known same_list left) in
+        omega (arith, less, first, stays, more, enter, inside)
+
+-- a frame that goes takes its turn with it
+pub done_fewer : (oracle : Oracle) (texts : Name → List ℕ) (all frames : List Frame) (frame : Frame) → all ≡ frames ++ frame ∷ [] → walk_measure oracle texts frames < walk_measure oracle texts all
+done_fewer oracle texts all frames frame popped =
+    let more : walk_measure oracle texts all ≡ _ = ap (walk_measure oracle texts) popped ∙ measure_pushed oracle texts frames frame in omega (arith, more)

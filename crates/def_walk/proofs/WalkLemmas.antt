@@ -8,14 +8,10 @@ use Rattle.item_tree.specs.declared.ids.ModItemId.{ModItemId}
 use Rattle.item_tree.specs.declared.name.Name.{Name}
 use Rattle.def_map.specs.Oracle.{Oracle}
 use Rattle.def_walk.specs.declared.collector.walk.Frame.{Frame}
-use Rattle.def_walk.specs.Collector.{agenda_of, list_site, listed, left_of, walk_measure}
+use Rattle.def_walk.specs.Collector.{agenda_of, frame_tasks, list_site, listed, left_of, walk_measure}
 use Rattle.def_rules.specs.Work.{task_work, work}
 use Rattle.def_rules.specs.Items.{visits}
-use Rattle.def_rules.specs.State.{Task, Visit}
-
--- a frame's items
-abbrev pub frame_tasks : Frame → List Task
-frame_tasks frame = visits (list_site frame.list) (left_of frame)
+use Rattle.def_rules.specs.State.{Visit}
 
 -- the last frame comes first
 pub agenda_of-push : (frames : List Frame) (frame : Frame) → agenda_of (frames ++ frame ∷ []) ≡ frame_tasks frame ++ agenda_of frames
@@ -33,10 +29,6 @@ pub agenda_of-one : (frame : Frame) → agenda_of (frame ∷ []) ≡ frame_tasks
 unfolding agenda_of
 agenda_of-one frame = refl
 
--- a frame that has nothing left is no work
-pub agenda_of-done : (frames : List Frame) (frame : Frame) → left_of frame ≡ [] → agenda_of (frames ++ frame ∷ []) ≡ agenda_of frames
-agenda_of-done frames frame done = agenda_of-push frames frame ∙ ap (λ left. visits (list_site frame.list) left ++ agenda_of frames) done
-
 -- the frame once its next item was taken
 abbrev pub after_turn : Frame → Frame
 after_turn frame = record frame { next = frame.next + 1 }
@@ -49,13 +41,9 @@ left_of-cons frame id found =
     ∙ ap (λ x. x ∷ drop (suc frame.next) (listed frame)) (get_or_from_slice_get (listed frame) frame.next id id (sym found))
     ∙ ap (λ n. id ∷ drop n (listed frame)) (sym (add-one frame.next))
 
--- the last frame's next item comes first
-pub agenda_of-next : (frames : List Frame) (frame : Frame) (id : ModItemId) → Some id ≡ slice_get (listed frame) frame.next
-    → agenda_of (frames ++ frame ∷ []) ≡ Visit (list_site frame.list) id ∷ agenda_of (frames ++ after_turn frame ∷ [])
-agenda_of-next frames frame id found =
-    agenda_of-push frames frame
-    ∙ ap (λ left. visits (list_site frame.list) left ++ agenda_of frames) (left_of-cons frame id found)
-    ∙ ap (λ agenda. Visit (list_site frame.list) id ∷ agenda) (sym (agenda_of-push frames (after_turn frame)))
+-- the next item is visited first
+pub frame_tasks-next : (frame : Frame) (id : ModItemId) → Some id ≡ slice_get (listed frame) frame.next → frame_tasks frame ≡ Visit (list_site frame.list) id ∷ frame_tasks (after_turn frame)
+frame_tasks-next frame id found = ap (λ left. visits (list_site frame.list) left) (left_of-cons frame id found)
 
 module _ (oracle : Oracle) (texts : Name → List ℕ) where
   -- one frame more
@@ -67,11 +55,6 @@ module _ (oracle : Oracle) (texts : Name → List ℕ) where
       omega (arith, parts, long)
 
   -- one item less
-  pub measure_next : (frames : List Frame) (frame : Frame) (id : ModItemId) → Some id ≡ slice_get (listed frame) frame.next
-      → walk_measure oracle texts (frames ++ frame ∷ []) ≡ task_work oracle texts (Visit (list_site frame.list) id) + walk_measure oracle texts (frames ++ after_turn frame ∷ [])
-  measure_next frames frame id found =
-      let parts : work oracle texts (agenda_of (frames ++ frame ∷ [])) ≡ task_work oracle texts (Visit (list_site frame.list) id) + work oracle texts (agenda_of (frames ++ after_turn frame ∷ [])) =
-      ap (work oracle texts) (agenda_of-next frames frame id found) ∙ sum_by-cons (task_work oracle texts) (Visit (list_site frame.list) id) (agenda_of (frames ++ after_turn frame ∷ [])) in
-      let before = length_push frames frame in
-      let after = length_push frames (after_turn frame) in
-      omega (arith, parts, before, after)
+  pub work_next : (frame : Frame) (id : ModItemId) → Some id ≡ slice_get (listed frame) frame.next
+      → work oracle texts (frame_tasks frame) ≡ task_work oracle texts (Visit (list_site frame.list) id) + work oracle texts (frame_tasks (after_turn frame))
+  work_next frame id found = ap (work oracle texts) (frame_tasks-next frame id found) ∙ sum_by-cons (task_work oracle texts) (Visit (list_site frame.list) id) (frame_tasks (after_turn frame))

@@ -90,6 +90,10 @@ listed frame = listed_in frame.sorted frame.list.items.now
 abbrev pub left_of : Frame → List ModItemId
 left_of frame = drop frame.next (listed frame)
 
+-- the visits that a frame has left
+abbrev pub frame_tasks : Frame → List Task
+frame_tasks frame = visits (list_site frame.list) (left_of frame)
+
 -- the walk of the list that an item opened, if it opened one
 abbrev pub inner_of : Oracle → Option ItemList → List Task
 inner_of oracle None = []
@@ -98,7 +102,7 @@ inner_of oracle (Some list) = walk oracle (list_site list) list.items.now
 -- what is to be visited, where the last frame comes first
 unfoldable pub agenda_of : List Frame → List Task
 agenda_of [] = []
-agenda_of (frame ∷ above) = agenda_of above ++ visits (list_site frame.list) (left_of frame)
+agenda_of (frame ∷ above) = agenda_of above ++ frame_tasks frame
 
 -- a list goes over the tree that the oracle has, or over none
 abbrev pub is_known : Oracle → ItemList → Type 0

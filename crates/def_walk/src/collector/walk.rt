@@ -1,10 +1,10 @@
 //! The walk of item trees, over an explicit stack of lists.
-ghost use Rattle.std.specs.Prelude.{◌≡◌, ◌<◌, ◌+◌, ◌++◌, ◌∷◌, [], true, List, All, is_some, option_and_then, slice_get, IfOk, OnOk};
+ghost use Rattle.std.specs.Prelude.{◌≡◌, ◌<◌, ◌+◌, ◌++◌, ◌∷◌, [], true, false, List, is_some, option_and_then, slice_get, IfOk, OnOk};
 ghost use Rattle.std.specs.Option.{option_copied};
 ghost use Rattle.item_tree.specs.Trees.{item_at};
 ghost use Rattle.def_ids.specs.declared.interner.Interner.{Interner};
 ghost use Rattle.def_ids.specs.Session.{Grows, session_of};
-ghost use Rattle.def_walk.specs.Collector.{AreKnown, agenda_of, inner_of, is_frame_known, is_known, left_of, list_site, listed, state_of, tree_in, walk_measure};
+ghost use Rattle.def_walk.specs.Collector.{AreKnown, frame_tasks, inner_of, is_frame_known, is_known, left_of, list_site, listed, state_of, tree_in};
 ghost use Rattle.def_rules.specs.Work.{task_work, work};
 ghost use Rattle.def_rules.specs.Items.{name_text, ordered, walk};
 ghost use Rattle.def_rules.specs.State.{Task, Visit, entered};
@@ -83,8 +83,13 @@ impl<'a> DefCollector<'a> {
         let frame = self.open(first)?;
         let mut frames = Vec::new(self.alloc);
         frames.push(frame)?;
-        'frames: while let Some(frame) = frames.pop() {
-            self.visit_next(db, session, &mut frames, frame)?;
+        'frames: while let Some(mut frame) = frames.pop() {
+            let opened = self.walk_list(db, session, &mut frame)?;
+            if let Some(list) = opened {
+                frames.push(frame)?;
+                let inner = self.open(list)?;
+                frames.push(inner)?;
+            }
         }
         Ok(())
     }
@@ -110,40 +115,38 @@ impl<'a> DefCollector<'a> {
         })
     }
 
-    /// Visits the next item of a frame, if it has one left, and puts back what is left to be
-    /// walked. On `Err` nothing but safety is promised.
-    fn visit_next<D: SourceDatabase>(
+    /// Visits the items that a frame has left, up to one that opens a list, which is answered. The
+    /// frame stays where it is. On `Err` nothing but safety is promised.
+    fn walk_list<D: SourceDatabase>(
         &mut self,
         db: &'a D,
         session: &mut Interner,
-        frames: &mut Vec<Frame<'a>>,
-        frame: Frame<'a>,
-    ) -> Result<(), AllocError>
-        requires known { All (is_frame_known (D.oracle db.now)) (frames.old.items ++ frame ∷ []) }
-        ensures run { OnOk result (Leads (D.oracle db.now)
-            (agenda_of (frames.old.items ++ frame.entry ∷ [])) (state_of self.old session.old)
-            (agenda_of frames.new.items) (state_of self.new session.new)) }
-        ensures known { OnOk result (All (is_frame_known (D.oracle db.now)) frames.new.items) }
-        ensures fewer { OnOk result (let texts = name_text (session_of session.old) in
-            walk_measure (D.oracle db.now) texts frames.new.items
-            < walk_measure (D.oracle db.now) texts (frames.old.items ++ frame.entry ∷ [])) }
+        frame: &mut Frame<'a>,
+    ) -> Result<Option<ItemList<'a>>, AllocError>
+        requires { is_frame_known (D.oracle db.now) frame.old }
+        ensures run { IfOk result (λ opened. (rest : List Task) →
+            Leads (D.oracle db.now) (frame_tasks frame.old ++ rest) (state_of self.old session.old)
+            (inner_of (D.oracle db.now) opened ++ (frame_tasks frame.new ++ rest))
+            (state_of self.new session.new)) }
+        ensures ends { IfOk result (λ opened. is_some opened ≡ false → left_of frame.new ≡ []) }
+        ensures fewer { IfOk result (λ opened. let texts = name_text (session_of session.old) in
+            is_some opened ≡ true →
+            1 + work (D.oracle db.now) texts (inner_of (D.oracle db.now) opened)
+            + work (D.oracle db.now) texts (frame_tasks frame.new)
+            < work (D.oracle db.now) texts (frame_tasks frame.old)) }
+        ensures known { IfOk result (λ opened. AreKnown (D.oracle db.now) opened
+            × is_frame_known (D.oracle db.now) frame.new) }
         ensures session { Grows (session_of session.old) (session_of session.new) }
         ensures names { session.new.names ≡ session.old.names }
     {
-        let Some(id) = frame.next_item() else {
-            return Ok(());
-        };
-        let opened = self.visit(db, session, &frame.list, id)?;
-        frames.push(Frame {
-            list: frame.list,
-            sorted: frame.sorted,
-            next: frame.next + 1,
-        })?;
-        if let Some(list) = opened {
-            let inner = self.open(list)?;
-            frames.push(inner)?;
+        'items: while let Some(id) = frame.next_item() {
+            frame.next += 1;
+            let opened = self.visit(db, session, &frame.list, id)?;
+            if let Some(list) = opened {
+                return Ok(Some(list));
+            }
         }
-        Ok(())
+        Ok(None)
     }
 
     /// Visits an item: one that cfg disables is reported, any other is handled. Answers the list
