@@ -32,7 +32,7 @@ pub struct CrateItem<'a> {
 
 impl<'a> DefCollector<'a> {
     /// The root of a named crate, if it is found: `self` is this crate, and any other a dependency.
-    pub fn named_crate(&self, name: Name) -> Option<ModuleId>
+    pub(crate) fn named_crate(&self, name: Name) -> Option<ModuleId>
         ensures { (session : Interner) → result ≡ items.named_crate (state_of self.now session) name }
     {
         if name == sym::SELF {
@@ -46,7 +46,7 @@ impl<'a> DefCollector<'a> {
 
     /// Puts an extern crate in types, if it is found. Any other is reported, and its name
     /// remembered. On `Err` nothing but safety is promised.
-    pub fn collect_extern_crate(
+    pub(crate) fn collect_extern_crate(
         &mut self,
         item: CrateItem<'_>,
         root: Option<ModuleId>,

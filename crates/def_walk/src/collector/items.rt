@@ -50,7 +50,7 @@ impl Site<'_> {
 impl<'a> DefCollector<'a> {
     /// Handles an item. Answers the list of items that are to be walked next, if it opens one. On
     /// `Err` nothing but safety is promised.
-    pub fn collect_item<D: SourceDatabase>(
+    pub(crate) fn collect_item<D: SourceDatabase>(
         &mut self,
         db: &'a D,
         session: &mut Interner,
@@ -358,7 +358,7 @@ impl<'a> DefCollector<'a> {
     }
 
     /// Puts a declared name. On `Err` nothing but safety is promised.
-    pub fn put_declared(
+    pub(crate) fn put_declared(
         &mut self,
         module_id: ModuleId,
         name: Name,

@@ -57,7 +57,7 @@ impl ModuleItem<'_> {
 impl<'a> DefCollector<'a> {
     /// Declares a module. Answers the list of its items, if they are to be walked. On `Err` nothing
     /// but safety is promised.
-    pub fn collect_module<D: SourceDatabase>(
+    pub(crate) fn collect_module<D: SourceDatabase>(
         &mut self,
         db: &'a D,
         session: &Interner,
@@ -187,7 +187,7 @@ impl<'a> DefCollector<'a> {
     }
 
     /// Reports something of an item. On `Err` nothing but safety is promised.
-    pub fn report(
+    pub(crate) fn report(
         &mut self,
         site: Site<'_>,
         node: &ItemNode,
