@@ -16,7 +16,7 @@ use Rattle.def_bindings.specs.PutsLaws.{explicit_stays-put_entry, explicit_after
 use Rattle.def_map.specs.Oracle.{Oracle}
 use Rattle.def_parts.specs.Globs.{with_recorded}
 use Rattle.def_rules.specs.Imports.{ImportStep, answer_now, is_foreign, of_pending, of_partial}
-use Rattle.def_rules.specs.Settled.{IsDeclared}
+use Rattle.def_rules.specs.Settled.{IsDeclared, WasPut}
 use Rattle.def_rules.specs.State.{State, Effect, Event, PutExplicit, Recorded, PendingImport, Moment, Task, Enter, Visit, Put, order, AddEdge}
 use Rattle.def_rules.specs.Steps.{Copies, Does, Reaches, Step, performs, copies, rearranges, records, event_of, put_event}
 use Rattle.def_rules.specs.ListLaws.{not_empty, split_last}
@@ -43,7 +43,7 @@ record Declares (events : List Event) (content : Content Visibility) : Type 0 wh
 
 -- what stands, as it is stated of the end
 is_declared : (events : List Event) (content : Content Visibility) → Declares events content → IsDeclared events content
-is_declared events content all before after at name ns held happened origin =
+is_declared events content all before after at name ns held happened =
     let stands = all.declared before after at name ns held happened in
     (stands.now, stands.is_bound, stands.came)
 
@@ -191,8 +191,15 @@ declares-step {oracle} a b (records effect idle step is) all = subst DeclaresAt 
 declares_nothing : Declares [] empty
 declares_nothing = record { known = λ at name ns held there explicit. cc; declared = λ before after at name ns held happened. absurd (not_empty before after _ happened) }
 
--- each declaration stands, or what was put there before it, after a run from nothing
-pub declared_along : {oracle : Oracle} {a b : Moment} → Reaches oracle a b → a.events ≡ [] → a.state.content ≡ empty → IsDeclared b.events b.state.content
-declared_along {oracle} {a} {b} r none nothing =
+declares_along : {oracle : Oracle} {a b : Moment} → Reaches oracle a b → a.events ≡ [] → a.state.content ≡ empty → DeclaresAt b
+declares_along {oracle} {a} {b} r none nothing =
     let begins : DeclaresAt a = subst (λ es. Declares es a.state.content) (sym none) (subst (λ c. Declares [] c) (sym nothing) declares_nothing) in
-    is_declared b.events b.state.content (kept_along {oracle = oracle} DeclaresAt (declares-step {oracle = oracle}) r begins)
+    kept_along {oracle = oracle} DeclaresAt (declares-step {oracle = oracle}) r begins
+
+-- each explicit binding that was put stands, or what was put there before it, after a run from nothing
+pub declared_along : {oracle : Oracle} {a b : Moment} → Reaches oracle a b → a.events ≡ [] → a.state.content ≡ empty → IsDeclared b.events b.state.content
+declared_along {oracle} {a} {b} r none nothing = is_declared b.events b.state.content (declares_along {oracle = oracle} r none nothing)
+
+-- each explicit binding that stands was put, after a run from nothing
+pub was_put_along : {oracle : Oracle} {a b : Moment} → Reaches oracle a b → a.events ≡ [] → a.state.content ≡ empty → WasPut b.events b.state.content
+was_put_along {oracle} {a} {b} r none nothing = (declares_along {oracle = oracle} {a = a} {b = b} r none nothing).known

@@ -6,7 +6,7 @@ use Rattle.def_rules.specs.Closed.{none_left_out, target_of}
 use Rattle.def_rules.specs.State.{Setting, Moment, order}
 use Rattle.def_rules.specs.Steps.{Reaches}
 use Rattle.def_rules.specs.Start.{start}
-use Rattle.def_rules.specs.Settled.{IsDeclared, ExplicitStays, IsSettled, HasEveryNamespace}
+use Rattle.def_rules.specs.Settled.{IsDeclared, WasPut, ExplicitStays, IsSettled, HasEveryNamespace}
 use Rattle.def_rules.specs.Report.{Answer, IsAnswerOf, report}
 
 -- a run, from its start to an end at which nothing is left to do
@@ -32,8 +32,10 @@ pub record Answers (w : Setting) (before after : Session) (answer : Answer) : Ty
   pub closed : IsClosed (order run.end.state) none_left_out answer.content
   -- what a glob bound that was recorded with one module of this map, that module binds too, to the same definition or unseen
   pub coherent : IsCoherent (order run.end.state) none_left_out (target_of run.end.state.map.id run.end.state.targets) answer.content
-  -- each declaration stands at its place, or an explicit binding made before it does
+  -- each explicit binding that was made stands at its place, or one made there before it does
   pub declared : IsDeclared run.end.events run.end.state.content
+  -- and no explicit binding stands that was not made
+  pub was_put : WasPut run.end.events run.end.state.content
   -- no explicit binding is ever replaced
   pub explicit_stays : (a b : Moment) → IsOnRun w before run.end a b → ExplicitStays a b
   pub settled : IsSettled w.oracle run.end.state

@@ -10,7 +10,7 @@ use Rattle.def_rules.specs.Start.{first_tasks, seeded_state, start, started}
 use Rattle.def_rules.specs.State.{Setting, State, Moment, order}
 use Rattle.def_rules.specs.Steps.{Leads, Reaches, at}
 use Rattle.def_rules.specs.BegunLaws.{sound_empty}
-use Rattle.def_rules.specs.DeclaredLaws.{declared_along}
+use Rattle.def_rules.specs.DeclaredLaws.{declared_along, was_put_along}
 use Rattle.def_rules.specs.EveryNamespaceLaws.{every_namespace_along}
 use Rattle.def_rules.specs.RunsLaws.{none_failed_along}
 use Rattle.def_rules.specs.StaysLaws.{explicit_stays_along}
@@ -27,6 +27,7 @@ answers w before after answer t leads settled session clean stands finished =
       closed = subst (IsClosed (order t) none_left_out) (sym finished.content) sound.closed;
       coherent = subst (IsCoherent (order t) none_left_out (target_of t.map.id t.targets)) (sym finished.content) sound.coherent;
       declared = declared_along runs refl refl;
+      was_put = was_put_along runs refl refl;
       explicit_stays = λ a b run. explicit_stays_along run.goes_on;
       settled = record { imports = settled };
       every_namespace = every_namespace_along runs refl refl refl settled;

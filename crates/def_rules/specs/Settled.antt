@@ -1,14 +1,12 @@
 -- What holds of a run and of its end.
-use Rattle.std.specs.Prelude.{◌≡◌, ◌⊎◌, true, false, List, ◌∷◌, ◌++◌, None, Some, Contains, IsSome}
+use Rattle.std.specs.Prelude.{◌≡◌, ◌⊎◌, true, false, List, ◌∷◌, ◌++◌, Some, Contains, IsSome}
 use Rattle.item_tree.specs.declared.name.Name.{Name}
 use Rattle.def_ids.specs.declared.ids.ModuleId.{ModuleId}
 use Rattle.def_bindings.specs.declared.bindings.Binding.{Binding}
-use Rattle.def_bindings.specs.declared.bindings.ImportOrExternCrate.{ImportOrExternCrate}
-use Rattle.def_bindings.specs.declared.bindings.ImportOrExternCrate.TheVariants.{ExternCrate}
 use Rattle.def_bindings.specs.declared.bindings.Namespace.{Namespace}
 use Rattle.def_bindings.specs.declared.visibility.Visibility.{Visibility}
 use Rattle.def_bindings.specs.Content.{Content}
-use Rattle.def_bindings.specs.Puts.{Origin, IsExplicit}
+use Rattle.def_bindings.specs.Puts.{IsExplicit}
 use Rattle.def_map.specs.Oracle.{Oracle}
 use Rattle.def_map.specs.PerNs.{in_namespace}
 use Rattle.def_rules.specs.State.{State, PendingImport, Event, PutExplicit, Recorded, Moment}
@@ -18,22 +16,18 @@ use Rattle.def_rules.specs.Imports.{NoneReady, is_ready, answer_now, bound_name,
 pub record IsSettled (oracle : Oracle) (end : State) : Type 0 where
   pub imports : NoneReady oracle end
 
--- an extern crate brought it
-abbrev pub IsExternCrate : ImportOrExternCrate → Type 0
-IsExternCrate (ExternCrate id) = Unit {0}
-IsExternCrate _ = ⊥
-
--- a declaration or an extern crate brought it
-abbrev pub IsDeclaredOrigin : Origin → Type 0
-IsDeclaredOrigin None = Unit {0}
-IsDeclaredOrigin (Some import) = IsExternCrate import
-
--- each declaration and extern crate that was put stands at its place, or an explicit binding put there before does
+-- each explicit binding that was put, by a declaration, an extern crate or a named import, stands at its place, or one put there before it does
 abbrev pub IsDeclared : List Event → Content Visibility → Type 0
 IsDeclared events content =
     (before after : List Event) (at : ModuleId) (name : Name) (ns : Namespace) (held : Binding Visibility)
-    → events ≡ before ++ PutExplicit at name ns held ∷ after → IsDeclaredOrigin held.import
+    → events ≡ before ++ PutExplicit at name ns held ∷ after
     → (stands : Binding Visibility) × (content.binding at name ns ≡ Some stands) × ((stands ≡ held) ⊎ Contains before (PutExplicit at name ns stands))
+
+-- each explicit binding that stands was put
+abbrev pub WasPut : List Event → Content Visibility → Type 0
+WasPut events content =
+    (at : ModuleId) (name : Name) (ns : Namespace) (held : Binding Visibility)
+    → content.binding at name ns ≡ Some held → IsExplicit held.import → Contains events (PutExplicit at name ns held)
 
 -- an explicit binding stays as it is
 abbrev pub ExplicitStays : Moment → Moment → Type 0
