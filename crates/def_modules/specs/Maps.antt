@@ -1,5 +1,5 @@
 -- What a map shows, and what each write does to it.
-use Rattle.std.specs.Prelude.{Bool, true, cond, nat_lt, List, [], ◌∷◌, ◌++◌, ℕ, Option, None, Some, length, map, slice_get, unwrap_or}
+use Rattle.std.specs.Prelude.{Bool, true, cond, nat_lt, if◌then◌else◌, List, [], ◌∷◌, ◌++◌, ℕ, Option, None, Some, length, map, slice_get, unwrap_or}
 use Rattle.std.specs.Option.{option_map_or}
 use Rattle.indexmap.specs.IndexMap.{IndexMap, get}
 use Rattle.indexmap.specs.IndexSet.{contains}
@@ -8,6 +8,7 @@ use Rattle.def_ids.specs.declared.ids.FunctionId.{FunctionId}
 use Rattle.def_ids.specs.declared.ids.MacroId.{MacroId}
 use Rattle.def_ids.specs.declared.ids.ProcMacroId.{ProcMacroId}
 use Rattle.def_ids.specs.Equality.{macro_eq}
+use Rattle.def_ids.specs.Ids.{is_same_map}
 use Rattle.def_bindings.specs.Content.{is_name}
 use Rattle.def_bindings.specs.Tree.{chain_of}
 use Rattle.def_modules.specs.declared.map.DeriveHelper.{DeriveHelper}
@@ -78,7 +79,7 @@ first_of_list xs = slice_get xs 0
 abbrev pub textual_at : MapState → ℕ → Name → List MacroId
 textual_at s index name = option_map_or (λ (m : ModuleState). m.textual name) (slice_get s.modules index) []
 
--- what paths read of what a map shows
+-- what paths read of what a map shows; a module of another map has no textual macros here
 abbrev pub facts_in : MapState → MapFacts
 facts_in s =
     record {
@@ -87,7 +88,7 @@ facts_in s =
       chain = chain_of s.id s.parents s.containing;
       containing = s.containing;
       prelude = s.krate.prelude;
-      textual_macro = λ at name. first_of_list (textual_at s at.index name);
+      textual_macro = λ at name. if is_same_map at.map s.id then first_of_list (textual_at s at.index name) else None;
       macro_use = s.krate.macro_use;
       exported_helpers = s.krate.exported_helpers;
     }

@@ -21,10 +21,13 @@ impl ModuleData {
 }
 
 impl MapData {
-    /// The last textual macro of a name in a module.
+    /// The last textual macro of a name in a module. A module of another map has none here.
     pub fn textual_macro(&self, place: ModuleId, name: Name) -> Option<MacroId>
         ensures { result ≡ (facts_of self.now).textual_macro place name }
     {
+        if place.map != self.tree.map {
+            return None;
+        }
         match self.modules.get(place.index) {
             Some(found) => found.last_legacy_macro(name),
             None => None,
