@@ -1,5 +1,5 @@
 -- Answers of paths: what a missing prefix gives, and answers joined one after the other.
-use Rattle.std.proofs.Common.{◌≡◌, ◌∙◌, ap, sym, refl, arith, ◌+◌, ◌<◌, ℕ, Bool, true, false, not, ◌&&◌, ◌||◌, cond, if◌then◌else◌, List, [], ◌∷◌, ◌++◌, length, take, drop, get_or, drop-cons, add-one, Option, Some, None, is_none}
+use Rattle.std.proofs.Common.{◌≡◌, ◌∙◌, ap, sym, refl, arith, ◌+◌, ◌<◌, ◌≤◌, ℕ, suc, Bool, true, false, not, ◌&&◌, ◌||◌, cond, if◌then◌else◌, List, [], ◌∷◌, ◌++◌, length, take, drop, get_or, drop-cons, add-one, Option, Some, None, is_none}
 use Rattle.std.proofs.lemmas.List.{take_more}
 use Rattle.std.specs.List.{list_any, find, cons_option}
 use Rattle.std.specs.Option.{option_or, unwrap_or}
@@ -13,12 +13,13 @@ use Rattle.def_map.specs.declared.path_resolution.asked.ReachedFixedPoint.TheVar
 use Rattle.def_map.specs.declared.path_resolution.asked.ResolvePathResult.{ResolvePathResult}
 use Rattle.def_map.specs.declared.per_ns.MacroSubNs.{MacroSubNs}
 use Rattle.def_map.specs.declared.per_ns.PerNs.{PerNs}
-use Rattle.def_map.specs.Answers.{missing, walk, answer_after, answer_from, leading, is_reached, joined, first_resolved}
+use Rattle.def_map.specs.Answers.{HasSameTypes, missing, walk, step, is_elsewhere, answer_after, answer_from, leading, is_reached, joined, first_resolved}
 use Rattle.def_modules.specs.MapView.{MapView}
 use Rattle.def_map.specs.Items.{is_fitting}
 use Rattle.def_map.specs.OuterMaps.{is_alone, answer_outside, answers_outside}
-use Rattle.def_map.specs.PerNs.{Item, otherwise, is_nothing, per_namespace}
-use Rattle.def_map.specs.Sources.{Question, Source, first_found, by_sources, relative_sources}
+use Rattle.def_map.specs.PerNs.{Item, in_types, otherwise, is_nothing}
+use Rattle.def_bindings.specs.declared.bindings.Namespace.TheVariants.{Types}
+use Rattle.def_map.specs.Sources.{Question, first_found, found_in, by_sources, relative_sources}
 use Rattle.def_map.proofs.SourcesLemmas.{option_or-none, option_or-or, per_namespace-equal}
 
 -- with nothing in types no later segment means anything
@@ -27,27 +28,68 @@ pub walk-missing : (q : Question) (own : MapView) (crossed : Bool) (found : PerN
 walk-missing q own crossed found i [] result whole p e l w = let none : ⊥ = omega arith in absurd none
 walk-missing q own crossed found i (name ∷ names) result whole p e l w = p ∙ (rw e at w)
 
--- a path by sources, from what its first segment means
-answer_from-first : (q : Question) (own : MapView) (keep : Item → Bool) (sources : List Source) (names : List Name) (d : Name) (found : PerNs)
-    → 0 < length names → found ≡ per_namespace (first_found keep sources (get_or names 0 d))
-    → answer_after q own found (drop 1 names) ≡ answer_from q own keep (by_sources sources) names
-answer_from-first q own keep sources [] d found l p = let none : ⊥ = omega arith in absurd none
-answer_from-first q own keep sources (name ∷ names) d found l p = ap (λ f. answer_after q own f names) p
+-- what later segments mean depends on types alone
+walk-types : (q : Question) (own : MapView) (crossed : Bool) (a b : PerNs) (i : ℕ) (names : List Name)
+    → 0 < length names → a.types ≡ b.types → walk q own crossed a i names ≡ walk q own crossed b i names
+walk-types q own crossed a b i [] l e = let none : ⊥ = omega arith in absurd none
+walk-types q own crossed a b i (name ∷ names) l e = rw e
 
--- a plain path, from what its first segment means
-pub plain-answer : (q : Question) (own : MapView) (place : ModuleId) (asked : Option MacroSubNs) (segments names : List Name)
-    (alone : Bool) (sub : Option MacroSubNs) (d : Name) (found : PerNs) (result : ResolvePathResult)
-    → segments ≡ names → 0 < length segments → alone ≡ is_alone segments → sub ≡ (if alone then asked else None)
-    → found ≡ per_namespace (first_found (is_fitting q.kind_of sub) (relative_sources q own place alone) (get_or segments 0 d))
-    → result ≡ answer_after q own found (drop 1 segments)
+-- a segment of a walk: in types at least what the definition has of it, and all of that where it is the last
+pub walk-step : (q : Question) (own : MapView) (crossed : Bool) (found next : PerNs) (i : ℕ) (names rest : List Name) (name : Name) (item : Item)
+    (stepped : Option PerNs) (is_last : Bool) (whole : ResolvePathResult)
+    → names ≡ name ∷ rest → found.types ≡ Some item → stepped ≡ Some next
+    → HasSameTypes stepped (step q own item.def name) → (is_last ≡ true → stepped ≡ step q own item.def name) → (is_last ≡ false → 0 < length rest)
+    → walk q own crossed found i names ≡ whole
+    → walk q own (crossed || is_elsewhere own item.def) next (i + 1) rest ≡ whole
+walk-step q own crossed found next i names rest name item stepped is_last whole split has gives same all more w =
+    ap (λ j. walk q own (crossed || is_elsewhere own item.def) next j rest) (add-one i) ∙ by_step (step q own item.def name) refl
+  where
+    go : PerNs → ResolvePathResult
+    go n = walk q own (crossed || is_elsewhere own item.def) n (suc i) rest
+
+    by_step : (s : Option PerNs) → step q own item.def name ≡ s → go next ≡ whole
+    by_step None e = let none : ⊥ = cc in absurd none
+    by_step (Some n) e = by_last is_last refl ∙ (rw (split, has, walk, e) at w)
+      where
+        by_last : (b : Bool) → is_last ≡ b → go next ≡ go n
+        by_last true t = let whole_step = all t in ap go cc
+        by_last false f = walk-types q own (crossed || is_elsewhere own item.def) next n (suc i) rest (more f) cc
+
+-- a path of more segments, after what its first means in types
+pub prefix-some : (q : Question) (own : MapView) (all : PerNs) (item : Item) (names : List Name)
+    → 0 < length names → all.types ≡ Some item → walk q own false (in_types item) 1 names ≡ answer_after q own all names
+prefix-some q own all item names l e = walk-types q own false (in_types item) all 1 names l (sym e) ∙ (rw e)
+
+pub prefix-none : (q : Question) (own : MapView) (all : PerNs) (names : List Name)
+    → 0 < length names → all.types ≡ None → missing false ≡ answer_after q own all names
+prefix-none q own all [] l e = let none : ⊥ = omega arith in absurd none
+prefix-none q own all (name ∷ names) l e = by_test (is_nothing all)
+  where
+    by_test : (b : Bool) → missing false ≡ (if b then missing false else walk q own false all 1 (name ∷ names))
+    by_test true = refl
+    by_test false = rw e
+
+-- a plain path of one segment
+pub plain-alone : (q : Question) (own : MapView) (place : ModuleId) (asked : Option MacroSubNs) (segments names : List Name) (d : Name) (found : PerNs) (result : ResolvePathResult)
+    → segments ≡ names → 1 ≤ length segments → length segments < 2
+    → found ≡ found_in (is_fitting q.kind_of asked) (relative_sources q own place true) (get_or segments 0 d)
+    → result ≡ answer_after q own found []
     → result ≡ answer_from q own (is_fitting q.kind_of (if is_alone names then asked else None)) (by_sources (relative_sources q own place (is_alone names))) names
-plain-answer q own place asked segments names alone sub d found result same some is_one is_asked first after =
-    let answer : Bool → Option MacroSubNs → List Name → ResolvePathResult = λ b s n. answer_from q own (is_fitting q.kind_of s) (by_sources (relative_sources q own place b)) n in
-    after
-    ∙ answer_from-first q own (is_fitting q.kind_of sub) (relative_sources q own place alone) segments d found some first
-    ∙ ap (λ s. answer alone s segments) is_asked
-    ∙ ap (λ b. answer b (if b then asked else None) segments) is_one
-    ∙ ap (λ n. answer (is_alone n) (if is_alone n then asked else None) n) same
+plain-alone q own place asked [] names d found result same some one first after = let none : ⊥ = omega arith in absurd none
+plain-alone q own place asked (name ∷ []) names d found result same some one first after =
+    rw (← same) (after ∙ ap (λ f. answer_after q own f []) first)
+plain-alone q own place asked (name ∷ other ∷ rest) names d found result same some one first after = let none : ⊥ = omega arith in absurd none
+
+-- one of more segments
+pub plain-longer : (q : Question) (own : MapView) (place : ModuleId) (asked : Option MacroSubNs) (segments names : List Name) (d : Name) (types : Option Item) (result : ResolvePathResult)
+    → segments ≡ names → 2 ≤ length segments
+    → types ≡ first_found (is_fitting q.kind_of None) (relative_sources q own place false) (get_or segments 0 d) Types
+    → ((all : PerNs) → all.types ≡ types → result ≡ answer_after q own all (drop 1 segments))
+    → result ≡ answer_from q own (is_fitting q.kind_of (if is_alone names then asked else None)) (by_sources (relative_sources q own place (is_alone names))) names
+plain-longer q own place asked [] names d types result same more first after = let none : ⊥ = omega arith in absurd none
+plain-longer q own place asked (name ∷ []) names d types result same more first after = let none : ⊥ = omega arith in absurd none
+plain-longer q own place asked (name ∷ other ∷ rest) names d types result same more first after =
+    rw (← same) (after (found_in (is_fitting q.kind_of None) (relative_sources q own place false) name) (sym first))
 
 abbrev pub answer_with : PerNs → Option ℕ → ReachedFixedPoint → PrefixInfo → ResolvePathResult
 answer_with found index fixed info = record { resolved_def = found; segment_index = index; reached_fixedpoint = fixed; prefix_info = info }

@@ -1,5 +1,5 @@
 -- What a path answers: a walk from its beginning, one step for each later segment; and several answers as one.
-use Rattle.std.specs.Prelude.{ℕ, suc, Bool, true, false, not, ◌==◌, ◌||◌, List, [], ◌∷◌, find, Option, Some, None, unwrap_or, if◌then◌else◌}
+use Rattle.std.specs.Prelude.{◌≡◌, ℕ, suc, Bool, true, false, not, ◌==◌, ◌||◌, List, [], ◌∷◌, find, Option, Some, None, unwrap_or, if◌then◌else◌}
 use Rattle.std.specs.List.{list_any}
 use Rattle.std.specs.Option.{option_map, option_map_or, option_or, option_and_then}
 use Rattle.item_tree.specs.declared.name.Name.{Name}
@@ -42,6 +42,10 @@ abbrev pub step : Question → MapView → Def → Name → Option PerNs
 step q own (Module m) name = Some (per_namespace (scope_source q own m name))
 step q own (Enum e) name = option_map variant_found (variant_named (variants_of q e.0) name)
 step q own _ name = None
+
+-- two steps that lead equally far: both to the same in types, or both nowhere
+abbrev pub HasSameTypes : Option PerNs → Option PerNs → Type 0
+HasSameTypes a b = option_map (λ found. found.types) a ≡ option_map (λ found. found.types) b
 
 -- a look-up in a module of another crate
 abbrev pub is_elsewhere : MapView → Def → Bool

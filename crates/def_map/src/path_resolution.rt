@@ -12,6 +12,7 @@ ghost use Rattle.def_map.specs.Sources.{world_of};
 
 mod answers;
 mod asked;
+mod prefixes;
 mod sources;
 
 use crate::def_map::DefMap;

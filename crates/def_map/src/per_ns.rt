@@ -68,8 +68,15 @@ impl PerNs {
     pub fn of_type(item: Item) -> PerNs
         ensures { result ≡ in_types item }
     {
+        PerNs::in_types(Some(item))
+    }
+
+    /// An item in types, if there is one.
+    pub(crate) fn in_types(types: Option<Item>) -> PerNs
+        ensures { result ≡ record nothing { types = types } }
+    {
         PerNs {
-            types: Some(item),
+            types,
             values: None,
             macros: None,
         }

@@ -1,12 +1,13 @@
 //! What paths answer: a step for each segment after the first, and the answers of several maps as
 //! one.
-ghost use Rattle.std.specs.Prelude.{◌≡◌, ◌≤◌, ◌||◌, ◌∷◌, ◌++◌, [], None, false, length, drop, if◌then◌else◌};
+ghost use Rattle.std.specs.Prelude.{◌≡◌, ◌≤◌, ◌<◌, ◌||◌, ◌∷◌, ◌++◌, [], None, true, false, length, drop, if◌then◌else◌};
 ghost use Rattle.std.specs.List.{list_any};
 ghost use Rattle.def_ids.specs.Ids.{is_same_map};
 ghost use Rattle.def_map.specs.Answers.{missing as missing_after, reached as reached_with};
 ghost use Rattle.def_map.specs.Answers.{variants_of, variant_named as first_named, variant_found as found_of};
 ghost use Rattle.def_map.specs.Answers.{step as step_of, is_elsewhere as elsewhere, walk as walk_of};
-ghost use Rattle.def_map.specs.Answers.{answer_after, answer_from, joined};
+ghost use Rattle.def_map.specs.Answers.{HasSameTypes, answer_after, answer_from, joined};
+ghost use Rattle.def_map.specs.declared.per_ns.PerNs.{PerNs};
 ghost use Rattle.def_map.specs.Asking.{question_in, map_in};
 ghost use Rattle.def_map.specs.Items.{is_fitting};
 ghost use Rattle.def_map.specs.OuterMaps.{is_alone as stands_alone, is_plain as has_no_word};
@@ -16,7 +17,7 @@ ghost use Rattle.def_map.specs.Sources.{at_module, by_sources, absolute_sources,
 
 use crate::path_resolution::asked::{PrefixInfo, ReachedFixedPoint, ResolvePathResult};
 use crate::path_resolution::sources::{Asking, Segment, finished_map};
-use crate::per_ns::{PerNs, public_item};
+use crate::per_ns::{Item, PerNs, public_item};
 use crate::source_database::{EnumVariant, SourceDatabase};
 use def_bindings::{BindingTable, Visibility};
 use def_ids::{Def, EnumId, LocationId, ModuleId};
@@ -71,16 +72,6 @@ fn variant_found(variant: EnumVariant) -> PerNs
         types: Some(item),
         values: if variant.value_ctor { Some(item) } else { None },
         macros: None,
-    }
-}
-
-/// Whether a path has one segment.
-fn is_alone(segments: &[Name]) -> bool
-    ensures { result ≡ stands_alone segments.now }
-{
-    match segments {
-        [_] => true,
-        _ => false,
     }
 }
 
@@ -163,14 +154,19 @@ impl<'a, D: SourceDatabase, T: BindingTable<Vis = Visibility>> Asking<'a, D, T> 
         }
     }
 
-    /// What a definition has of the next segment, where it can have names.
-    fn step(&self, def: Def, name: Name) -> Option<PerNs>
-        ensures { let q = question_in (D.oracle self.now.db.now) self.now in
+    /// What a definition has of the next segment, where it can have names: in all namespaces where
+    /// that is the last, and else in types at least.
+    fn step(&self, def: Def, name: Name, is_last: bool) -> Option<PerNs>
+        ensures types { let q = question_in (D.oracle self.now.db.now) self.now in
             let own = map_in (T.content self.now.table.now) self.now in
-            result ≡ step_of q own def name }
+            HasSameTypes result (step_of q own def name) }
+        ensures last { let q = question_in (D.oracle self.now.db.now) self.now in
+            let own = map_in (T.content self.now.table.now) self.now in
+            is_last ≡ true → result ≡ step_of q own def name }
     {
         match def {
-            Def::Module(place) => Some(self.scope(place, name)),
+            Def::Module(place) if is_last => Some(self.scope(place, name)),
+            Def::Module(place) => Some(PerNs::in_types(self.scope_type(place, name))),
             Def::Enum(id) => match self.variant(id, name) {
                 Some(variant) => Some(variant_found(variant)),
                 None => None,
@@ -205,7 +201,8 @@ impl<'a, D: SourceDatabase, T: BindingTable<Vis = Visibility>> Asking<'a, D, T> 
                 Some(item) => item,
                 None => return missing(crossed),
             };
-            let Some(next) = self.step(item.def, name) else {
+            let is_last = i + 1 == segments.len();
+            let Some(next) = self.step(item.def, name, is_last) else {
                 return reached(PerNs::of_type(item), Some(i), crossed);
             };
             crossed = crossed || self.is_elsewhere(item.def);
@@ -229,17 +226,29 @@ impl<'a, D: SourceDatabase, T: BindingTable<Vis = Visibility>> Asking<'a, D, T> 
         }
     }
 
-    /// A path whose first segment was looked up.
-    fn from_name(&self, found: PerNs, segments: &[Name]) -> ResolvePathResult
-        requires { 1 ≤ length segments.now }
+    /// A path of one segment, after what it means.
+    fn from_name(&self, found: PerNs) -> ResolvePathResult
         ensures { let q = question_in (D.oracle self.now.db.now) self.now in
             let own = map_in (T.content self.now.table.now) self.now in
-            result ≡ answer_after q own found (drop 1 segments.now) }
+            result ≡ answer_after q own found [] }
     {
         if found.is_none() {
             missing(false)
         } else {
-            self.walk(found, 1, segments)
+            reached(found, None, false)
+        }
+    }
+
+    /// A path of more segments, after what the first means in types.
+    fn from_prefix(&self, found: Option<Item>, segments: &[Name]) -> ResolvePathResult
+        requires { 1 < length segments.now }
+        ensures { let q = question_in (D.oracle self.now.db.now) self.now in
+            let own = map_in (T.content self.now.table.now) self.now in
+            (all : PerNs) → all.types ≡ found → result ≡ answer_after q own all (drop 1 segments.now) }
+    {
+        match found {
+            Some(item) => self.walk(PerNs::of_type(item), 1, segments),
+            None => missing(false),
         }
     }
 
@@ -251,15 +260,18 @@ impl<'a, D: SourceDatabase, T: BindingTable<Vis = Visibility>> Asking<'a, D, T> 
             result ≡ answer_from q own keep (by_sources (absolute_sources q own)) path.now.segments }
     {
         let segments = path.segments.as_slice();
-        if segments.is_empty() {
-            return missing(false);
+        match segments {
+            [] => missing(false),
+            [name] => {
+                let found = self.absolute(Segment {
+                    place,
+                    name: *name,
+                    sub: None,
+                });
+                self.from_name(found)
+            }
+            [name, ..] => self.from_prefix(self.absolute_type(*name), segments),
         }
-        let found = self.absolute(Segment {
-            place,
-            name: segments[0],
-            sub: None,
-        });
-        self.from_name(found, segments)
     }
 
     /// A plain path.
@@ -271,17 +283,18 @@ impl<'a, D: SourceDatabase, T: BindingTable<Vis = Visibility>> Asking<'a, D, T> 
             result ≡ answer_from q own keep (by_sources (relative_sources q own place alone)) path.now.segments }
     {
         let segments = path.segments.as_slice();
-        if segments.is_empty() {
-            return missing(false);
+        match segments {
+            [] => missing(false),
+            [name] => {
+                let found = self.relative(Segment {
+                    place,
+                    name: *name,
+                    sub: self.asked.sub,
+                });
+                self.from_name(found)
+            }
+            [name, ..] => self.from_prefix(self.relative_type(place, *name), segments),
         }
-        let alone = is_alone(segments);
-        let segment = Segment {
-            place,
-            name: segments[0],
-            sub: self.asked.sub_for(alone),
-        };
-        let found = self.relative(segment, alone);
-        self.from_name(found, segments)
     }
 
     /// What a path means in the map that is asked.

@@ -1,5 +1,5 @@
 //! How a path is asked, and what it means.
-ghost use Rattle.std.specs.Prelude.{◌≡◌, ◌&&◌, if◌then◌else◌};
+ghost use Rattle.std.specs.Prelude.{◌≡◌};
 
 use crate::per_ns::{MacroSubNs, PerNs};
 
@@ -55,18 +55,11 @@ pub struct ResolvePathResult {
 impl Asked {
     ghost use Rattle.def_map.specs.Items.{is_builtin_first};
 
-    /// Whether a builtin type goes before a module, for a name that stands alone or not.
-    pub(crate) fn is_builtin_first(self, alone: bool) -> bool
-        ensures { result ≡ (alone && is_builtin_first self.shadow) }
+    /// Whether a builtin type goes before a module, for a name that stands alone.
+    pub(crate) fn is_builtin_first(self) -> bool
+        ensures { result ≡ is_builtin_first self.shadow }
     {
-        alone && self.shadow == BuiltinShadowMode::Other
-    }
-
-    /// The macros that are asked for, for a name that stands alone or not.
-    pub(crate) fn sub_for(self, alone: bool) -> Option<MacroSubNs>
-        ensures { result ≡ (if alone then self.sub else None) }
-    {
-        if alone { self.sub } else { None }
+        self.shadow == BuiltinShadowMode::Other
     }
 }
 

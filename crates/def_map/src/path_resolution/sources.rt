@@ -1,6 +1,6 @@
-//! Where the first segment of a path is looked up. A source is asked only for what those before it
-//! have not.
-ghost use Rattle.std.specs.Prelude.{◌≡◌, ◌++◌, option_map};
+//! Where a path of one segment is looked up. A source is asked only for what those before it have
+//! not.
+ghost use Rattle.std.specs.Prelude.{◌≡◌, ◌++◌, option_map, true};
 ghost use Rattle.def_map.specs.Items.{is_fitting, is_2015 as is_edition_2015};
 ghost use Rattle.def_map.specs.Asking.{question_in, map_in};
 ghost use Rattle.def_map.specs.DefMaps.{view_of};
@@ -14,7 +14,7 @@ use crate::def_map::DefMap;
 use crate::path_resolution::asked::Asked;
 use crate::per_ns::{MacroSubNs, PerNs, public_item};
 use crate::source_database::SourceDatabase;
-use def_bindings::{Binding, BindingTable, ImportOrExternCrate, Namespace, Visibility};
+use def_bindings::{BindingTable, Namespace, Visibility};
 use def_ids::{Def, Edition, Interner, MapId, ModuleId};
 use def_modules::{LocalDefMap, MapData};
 use item_tree::Name;
@@ -72,7 +72,7 @@ fn bound<T: BindingTable<Vis = Visibility>>(table: &T, place: ModuleId, name: Na
 }
 
 /// Whether an edition is that of 2015.
-fn is_2015(edition: Edition) -> bool
+pub(crate) fn is_2015(edition: Edition) -> bool
     ensures { result ≡ is_edition_2015 edition }
 {
     match edition {
@@ -121,11 +121,11 @@ impl<'a, D: SourceDatabase, T: BindingTable<Vis = Visibility>> Asking<'a, D, T> 
             let keep = is_fitting q.kind_of segment.sub in
             result ≡ with_source keep found (builtin_source q own) segment.name }
     {
-        if found.types.is_some() || self.own.tree.map.block.is_some() {
+        if found.types.is_some() {
             return found;
         }
-        match self.db.builtin_type(segment.name) {
-            Some(number) => found.or(PerNs::of_type(public_item(Def::Builtin(number)))),
+        match self.builtin_type(segment.name) {
+            Some(item) => found.or(PerNs::of_type(item).fitting(self.session, segment.sub)),
             None => found,
         }
     }
@@ -139,12 +139,8 @@ impl<'a, D: SourceDatabase, T: BindingTable<Vis = Visibility>> Asking<'a, D, T> 
         if found.types.is_some() {
             return found;
         }
-        match self.local.extern_entry(segment.name) {
-            Some(entry) => found.or(PerNs::of_type(Binding {
-                def: Def::Module(entry.root),
-                vis: Visibility::Public,
-                import: entry.by.map(ImportOrExternCrate::ExternCrate),
-            })),
+        match self.extern_type(segment.name) {
+            Some(item) => found.or(PerNs::of_type(item).fitting(self.session, segment.sub)),
             None => found,
         }
     }
@@ -220,20 +216,20 @@ impl<'a, D: SourceDatabase, T: BindingTable<Vis = Visibility>> Asking<'a, D, T> 
         self.or_prelude(found, segment)
     }
 
-    /// The first segment of a plain path.
-    fn plain(&self, segment: Segment, alone: bool) -> PerNs
+    /// A plain path of one segment.
+    fn plain(&self, segment: Segment) -> PerNs
         ensures { let q = question_in (D.oracle self.now.db.now) self.now in
             let own = map_in (T.content self.now.table.now) self.now in
             let keep = is_fitting q.kind_of segment.sub in
-            result ≡ found_in keep (plain_sources q own segment.place alone) segment.name }
+            result ≡ found_in keep (plain_sources q own segment.place true) segment.name }
     {
-        let is_builtin_first = self.asked.is_builtin_first(alone);
+        let is_builtin_first = self.asked.is_builtin_first();
         let textual = self.textual(segment);
         let inside = self.or_inside(textual, segment, is_builtin_first);
         self.or_outside(inside, segment)
     }
 
-    /// The first segment of a path that begins at the crate's root.
+    /// A path of one segment that begins at the crate's root.
     fn from_root(&self, segment: Segment) -> PerNs
         ensures { let q = question_in (D.oracle self.now.db.now) self.now in
             let own = map_in (T.content self.now.table.now) self.now in
@@ -245,7 +241,7 @@ impl<'a, D: SourceDatabase, T: BindingTable<Vis = Visibility>> Asking<'a, D, T> 
         self.or_extern(bound.fitting(self.session, segment.sub), segment)
     }
 
-    /// The first segment of an absolute path.
+    /// An absolute path of one segment.
     pub fn absolute(&self, segment: Segment) -> PerNs
         ensures { let q = question_in (D.oracle self.now.db.now) self.now in
             let own = map_in (T.content self.now.table.now) self.now in
@@ -259,17 +255,17 @@ impl<'a, D: SourceDatabase, T: BindingTable<Vis = Visibility>> Asking<'a, D, T> 
         }
     }
 
-    /// The first segment of a plain path, which an import of edition 2015 looks up from the root.
-    pub fn relative(&self, segment: Segment, alone: bool) -> PerNs
+    /// A plain path of one segment, which an import of edition 2015 looks up from the root.
+    pub fn relative(&self, segment: Segment) -> PerNs
         ensures { let q = question_in (D.oracle self.now.db.now) self.now in
             let own = map_in (T.content self.now.table.now) self.now in
             let keep = is_fitting q.kind_of segment.sub in
-            result ≡ found_in keep (relative_sources q own segment.place alone) segment.name }
+            result ≡ found_in keep (relative_sources q own segment.place true) segment.name }
     {
         if is_2015(self.own.edition) && self.asked.mode.is_for_import() {
             self.from_root(segment)
         } else {
-            self.plain(segment, alone)
+            self.plain(segment)
         }
     }
 }
