@@ -2,3 +2,4 @@ pub mod ScopesLemmas
 pub mod MapsLemmas
 pub mod CrateLemmas
 pub mod LegacyLemmas
+mod WritesFacts
