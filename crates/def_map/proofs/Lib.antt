@@ -5,4 +5,5 @@ pub mod SourcesLemmas
 pub mod AnswersLemmas
 pub mod PathsFacts
 pub mod IterLemmas
+mod OuterPathsFacts
 mod MapsFacts

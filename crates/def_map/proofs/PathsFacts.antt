@@ -24,7 +24,7 @@ use Rattle.def_map.specs.Paths.{World, asked_by, for_import, for_module, resolve
 use Rattle.def_map.specs.PerNs.{Item, in_types, nothing}
 
 -- an oracle that knows the builtin type 9, number 5, a finished map of each crate, and nothing else
-abbrev oracle_with : MapView → Oracle
+abbrev pub oracle_with : MapView → Oracle
 oracle_with other = record {
   item_tree = λ _. None;
   crate_data = λ _. None;
@@ -56,16 +56,16 @@ oracle_with other = record {
 }
 
 -- modules of crate 0, of its block 0, and of crate 1
-abbrev in_crate : ℕ → ModuleId
+abbrev pub in_crate : ℕ → ModuleId
 in_crate i = record { map = record { krate = record { 0 = 0 }; block = None }; index = i }
 
-abbrev in_block : ℕ → ModuleId
+abbrev pub in_block : ℕ → ModuleId
 in_block i = record { map = record { krate = record { 0 = 0 }; block = Some (record { 0 = 0 }) }; index = i }
 
-abbrev elsewhere : ModuleId
+abbrev pub elsewhere : ModuleId
 elsewhere = record { map = record { krate = record { 0 = 1 }; block = None }; index = 0 }
 
-abbrev a_struct : ℕ → Item
+abbrev pub a_struct : ℕ → Item
 a_struct i = public_item (def.Struct (record { 0 = i }))
 
 -- the items of names in types
@@ -108,10 +108,10 @@ abbrev crate_world : Edition → World
 crate_world edition = world_by (map_by (in_crate 0).map edition
     ((in_crate 0, 0, a_struct 0) ∷ (in_crate 1, 0, a_struct 1) ∷ (in_crate 1, 1, a_struct 2) ∷ (in_crate 1, 9, module_item (in_crate 2)) ∷ (in_crate 0, 3, module_item (in_crate 1)) ∷ []))
 
-abbrev path : PathKind → List Name → ModPath
+abbrev pub path : PathKind → List Name → ModPath
 path kind names = record { kind = kind; segments = names }
 
-abbrev name : ℕ → Name
+abbrev pub name : ℕ → Name
 name i = record { 0 = i }
 
 -- an import of edition 2015 begins at the crate's root, a later one at its module
