@@ -7,3 +7,4 @@ pub mod PathsFacts
 pub mod IterLemmas
 mod OuterPathsFacts
 mod MapsFacts
+mod DefMapsFacts

@@ -64,6 +64,17 @@ not_shadowed = refl
 taken_over : last_macros ((name 40, rules 1 ∷ rules 2 ∷ []) ∷ (name 41, []) ∷ (name 42, rules 3 ∷ []) ∷ []) ≡ (name 40, rules 2) ∷ (name 42, rules 3) ∷ []
 taken_over = refl
 
+-- defined in turn, the last macro of a name stands first; one that is brought stands before all of its own
+defined_in_turn : defined_all (λ n. []) ((name 40, rules 1) ∷ (name 41, rules 3) ∷ (name 40, rules 2) ∷ []) (name 40) ≡ rules 2 ∷ rules 1 ∷ []
+unfolding name
+defined_in_turn = refl
+
+last_of_others : with_last (rules 3 ∷ rules 2 ∷ []) (rules 1 ∷ []) ≡ rules 3 ∷ rules 1 ∷ []
+last_of_others = refl
+
+none_of_others : with_last [] (rules 1 ∷ []) ≡ rules 1 ∷ []
+none_of_others = refl
+
 root : ModuleState
 root = empty_module None CrateRoot Public
 

@@ -1,0 +1,66 @@
+-- Worked rows of the maps that are seeded and of what a module's scope lists.
+use Rattle.std.proofs.Common.{◌≡◌, ℕ, [], ◌∷◌, Some, None, refl}
+use Rattle.item_tree.specs.declared.name.Name.{Name}
+use Rattle.def_ids.specs.declared.ids.Def.TheVariants.{Builtin}
+use Rattle.def_ids.specs.declared.ids.ModuleId.{ModuleId}
+use Rattle.def_ids.specs.declared.macro_def.Edition.TheVariants.{Edition2015, Edition2021}
+use Rattle.def_bindings.specs.Content.{Content, empty, with_binding, with_unnamed}
+use Rattle.def_bindings.specs.declared.bindings.Namespace.TheVariants.{Types, Values}
+use Rattle.def_bindings.specs.declared.visibility.Visibility.{Visibility}
+use Rattle.def_bindings.specs.declared.visibility.Visibility.TheVariants.{Public, PubCrate}
+use Rattle.def_modules.specs.declared.module_data.ModuleOrigin.TheVariants.{Block}
+use Rattle.def_modules.specs.Scopes.{empty_module}
+use Rattle.def_map.specs.declared.block.BlockInfo.{BlockInfo}
+use Rattle.def_map.specs.DefMaps.{info_state, seeded}
+use Rattle.def_map.specs.Fresh.{known_tools}
+use Rattle.def_map.specs.Items.{public_item}
+use Rattle.def_map.specs.ItemScopes.{resolutions_from, unnamed_from}
+use Rattle.def_map.specs.PerNs.{Item, in_types}
+
+-- a crate's map stands in no module, and knows the tools that need no declaration
+seeded_crate : ((seeded (record { 0 = 1 }) Edition2015 None).id ≡ record { krate = record { 0 = 1 }; block = None }) × ((seeded (record { 0 = 1 }) Edition2015 None).containing ≡ [])
+    × ((seeded (record { 0 = 1 }) Edition2015 None).krate.tools ≡ known_tools)
+seeded_crate = (refl, refl, refl)
+
+-- a block's map is of the block's crate, whichever crate is named, and stands in the block's modules
+seeded_block : (b : BlockInfo) → ((seeded (record { 0 = 1 }) Edition2015 (Some b)).id ≡ record { krate = b.krate; block = Some b.block }) × ((seeded (record { 0 = 1 }) Edition2015 (Some b)).containing ≡ b.containing)
+seeded_block b = (refl, refl)
+
+-- it has one root, made by the block, and the edition that is asked for
+root_of_info : (b : BlockInfo) → ((info_state Edition2021 b).modules ≡ empty_module None Block Public ∷ []) × ((info_state Edition2021 b).edition ≡ Edition2021)
+root_of_info b = (refl, refl)
+
+-- it keeps the crate's limit and tools, and neither its prelude nor a macro that an extern crate brought
+crate_of_info : (b : BlockInfo) (name : Name)
+    → ((info_state Edition2021 b).krate.recursion_limit ≡ b.recursion_limit) × ((info_state Edition2021 b).krate.tools ≡ b.registered_tools)
+    × ((info_state Edition2021 b).krate.prelude ≡ None) × ((info_state Edition2021 b).krate.macro_use name ≡ None)
+crate_of_info b name = (refl, refl, refl, refl)
+
+abbrev root : ModuleId
+root = record { map = record { krate = record { 0 = 0 }; block = None }; index = 0 }
+
+abbrev a_type : ℕ → Item
+a_type n = public_item (Builtin n)
+
+-- name 5 in types, name 6 in types and values, and the traits 1 and 2 without names
+abbrev listed : Content Visibility
+listed =
+    let named = with_binding (with_binding (with_binding empty root (record { 0 = 5 }) Types (a_type 1)) root (record { 0 = 6 }) Types (a_type 2)) root (record { 0 = 6 }) Values (a_type 3) in
+    with_unnamed (with_unnamed named root (record { 0 = 1 }) Public) root (record { 0 = 2 }) PubCrate
+
+-- names stand in first-bound order, each once with all that it means
+all_names : resolutions_from 0 listed root ≡ (record { 0 = 5 }, in_types (a_type 1)) ∷ (record { 0 = 6 }, record { types = Some (a_type 2); values = Some (a_type 3); macros = None }) ∷ []
+all_names = refl
+
+later_names : resolutions_from 1 listed root ≡ (record { 0 = 6 }, record { types = Some (a_type 2); values = Some (a_type 3); macros = None }) ∷ []
+later_names = refl
+
+no_more_names : resolutions_from 2 listed root ≡ []
+no_more_names = refl
+
+-- unnamed traits stand in order, each with its visibility
+later_traits : unnamed_from 1 listed root ≡ (record { 0 = 2 }, PubCrate) ∷ []
+later_traits = refl
+
+no_more_traits : unnamed_from 2 listed root ≡ []
+no_more_traits = refl
