@@ -3,7 +3,7 @@
 
 use def_bindings::{Binding, ImportOrExternCrate, Visibility};
 use def_collector::{Collected, collect_defs};
-use def_ids::{Def, Edition, ImportId, MapId, ModuleId, StructId, UseId};
+use def_ids::{Def, Edition, GlobId, ImportId, MapId, ModuleId, StructId, UseId};
 use def_map::{BlockInfo, DefMap, PerNs};
 use def_workspace::{
     CrateText, CtorText, ImportText, ItemText, Line, PathText, Vector, VisText, Workspace, tree_of,
@@ -40,6 +40,22 @@ static BLOCK: [Line; 1] = [Line {
             },
             kind: ImportKind::Plain,
             alias: Some("T"),
+        }],
+    },
+}];
+
+/// use crate::*;
+static GLOB_BLOCK: [Line; 1] = [Line {
+    depth: 0,
+    item: ItemText::Use {
+        vis: VisText::PubSelf,
+        imports: &[ImportText {
+            path: PathText {
+                kind: PathKind::Crate,
+                segments: &[],
+            },
+            kind: ImportKind::Glob,
+            alias: None,
         }],
     },
 }];
@@ -113,9 +129,13 @@ fn collect(workspace: &mut Workspace, info: BlockInfo) -> Result<Collected, Allo
     collect_defs(alloc, db, &mut workspace.session, seeded, TREE, Some(local))
 }
 
-/// What T means in the root of the block.
-fn meaning(workspace: &mut Workspace, info: BlockInfo) -> Result<Option<PerNs>, AllocError> {
-    let name = workspace.session.intern_name("T")?;
+/// What a name means in the root of the block.
+fn meaning(
+    workspace: &mut Workspace,
+    info: BlockInfo,
+    name: &str,
+) -> Result<Option<PerNs>, AllocError> {
+    let name = workspace.session.intern_name(name)?;
     let collected = collect(workspace, info)?;
     match collected.def_map.scope(0) {
         Some(scope) => Ok(Some(scope.get(name))),
@@ -123,13 +143,15 @@ fn meaning(workspace: &mut Workspace, info: BlockInfo) -> Result<Option<PerNs>, 
     }
 }
 
-/// What T means in the root of a block that stands in these modules. None where they are unfit.
+/// What a name means in the root of a block that stands in these modules. None where they are
+/// unfit.
 fn meaning_within(
     workspace: &mut Workspace,
     containing: Vec<ModuleId>,
+    name: &str,
 ) -> Result<Option<PerNs>, AllocError> {
     match block_in(workspace, containing)? {
-        Some(info) => meaning(workspace, info),
+        Some(info) => meaning(workspace, info, name),
         None => Ok(None),
     }
 }
@@ -140,8 +162,8 @@ fn meanings(workspace: &mut Workspace) -> Result<(Option<PerNs>, Option<PerNs>),
     let alloc = workspace.alloc;
     let root = ModuleId::crate_root(Crate(0));
     prepare(workspace, BLOCK.as_slice())?;
-    let once = meaning_within(workspace, vec![in alloc; root]?)?;
-    let twice = meaning_within(workspace, vec![in alloc; root, root]?)?;
+    let once = meaning_within(workspace, vec![in alloc; root]?, "T")?;
+    let twice = meaning_within(workspace, vec![in alloc; root, root]?, "T")?;
     Ok((once, twice))
 }
 
@@ -167,6 +189,31 @@ fn a_block_sees_the_module_that_it_stands_in(rt: HostRuntime) -> Result<(), Fail
     assert!(rt; found.values == binding);
     assert!(rt; found.macros.is_none());
     assert!(rt; twice.is_none());
+    Ok(())
+}
+
+/// What S means in a block that takes all names of its crate's root.
+fn meaning_by_glob(workspace: &mut Workspace) -> Result<Option<PerNs>, AllocError> {
+    prepare(workspace, GLOB_BLOCK.as_slice())?;
+    let containing = vec![in workspace.alloc; ModuleId::crate_root(Crate(0))]?;
+    meaning_within(workspace, containing, "S")
+}
+
+#[test]
+fn a_block_may_take_all_names_of_a_module_around_it(rt: HostRuntime) -> Result<(), Fail> {
+    let binding = Some(Binding {
+        def: Def::Struct(StructId(0)),
+        vis: Visibility::Module(BLOCK_ROOT),
+        import: Some(ImportOrExternCrate::Glob(GlobId {
+            use_id: UseId(0),
+            idx: 0,
+        })),
+    });
+    let mut workspace = Workspace::new(rt.alloc(), &CRATE)?;
+    let found = meaning_by_glob(&mut workspace)?.ok_or("no root")?;
+    assert!(rt; found.types == binding);
+    assert!(rt; found.values == binding);
+    assert!(rt; found.macros.is_none());
     Ok(())
 }
 

@@ -1,10 +1,10 @@
 //! Paths over scripted crates.
 #![tactic(auto)]
 
+use crate::tests::kinds::shows;
 use def_ids::Edition;
 use def_workspace::{
     BuiltinText, CrateText, CtorText, Fault, ImportText, ItemText, Line, PathText, Vector, VisText,
-    show,
 };
 use item_tree::{ImportKind, PathKind};
 use std::alloc::Global;
@@ -113,63 +113,61 @@ static BUILTIN_TYPES: [BuiltinText; 2] = [
     },
 ];
 
-/// The lines of a scripted crate.
-fn lines_of(
+const OLD_LINES: &str = "module 0 - crate
+module 1 0 a
+module 2 0 b
+binding 0 a types mod:1 in:0 decl
+binding 0 b types mod:2 in:0 decl
+binding 1 X types struct:0 in:1 import:0.0
+binding 1 X values struct:0 in:1 import:0.0
+binding 2 X types struct:0 pub decl
+binding 2 X values struct:0 pub decl
+";
+
+const NEW_LINES: &str = "module 0 - crate
+module 1 0 a
+module 2 0 b
+binding 0 a types mod:1 in:0 decl
+binding 0 b types mod:2 in:0 decl
+binding 2 X types struct:0 pub decl
+binding 2 X values struct:0 pub decl
+diag unresolved-import 1 0:1 0
+left import 1 b::X
+";
+
+const TYPES_LINES: &str = "module 0 - crate
+module 1 0 u8
+binding 0 m types mod:1 in:0 import:0.0
+binding 0 n types builtin:1 in:0 import:1.0
+binding 0 u8 types mod:1 in:0 decl
+";
+
+/// Whether a scripted crate of some edition has these lines.
+fn shows_in(
     alloc: Global,
     files: &'static [&'static [Line]],
     crates: &'static [CrateText],
-    builtin_types: &'static [BuiltinText],
-) -> Result<Vec<u8>, Fault> {
-    let mut lines = Vec::new(alloc);
+    text: &str,
+) -> Result<bool, Fault> {
     let vector = Vector {
         name: "a test's",
         files,
         crates,
-        builtin_types,
+        builtin_types: &BUILTIN_TYPES,
         enums: &[],
     };
-    show(alloc, &vector, &mut lines)?;
-    Ok(lines)
-}
-
-/// Whether this is one of the lines.
-fn has(lines: &[u8], line: &str) -> bool {
-    lines
-        .split(|byte| *byte == b'\n')
-        .any(|l| l == line.as_bytes())
+    shows(alloc, &vector, text)
 }
 
 #[test]
 fn an_edition_says_where_an_import_begins(rt: HostRuntime) -> Result<(), Fault> {
-    let old = lines_of(rt.alloc(), &TWO_MODULES, &IN_2015, &[])?;
-    assert!(rt; has(old.as_slice(), "binding 1 X types struct:0 in:1 import:0.0"));
-    assert!(rt;
-        has(
-            old.as_slice(),
-            "binding 1 X values struct:0 in:1 import:0.0"
-        )
-    );
-    let new = lines_of(rt.alloc(), &TWO_MODULES, &IN_2021, &[])?;
-    assert!(rt; has(new.as_slice(), "diag unresolved-import 1 0:1 0"));
-    assert!(rt; !has(new.as_slice(), "binding 1 X types struct:0 in:1 import:0.0"));
-    assert!(rt;
-        !has(
-            new.as_slice(),
-            "binding 1 X values struct:0 in:1 import:0.0"
-        )
-    );
+    assert!(rt; shows_in(rt.alloc(), &TWO_MODULES, &IN_2015, OLD_LINES)?);
+    assert!(rt; shows_in(rt.alloc(), &TWO_MODULES, &IN_2021, NEW_LINES)?);
     Ok(())
 }
 
 #[test]
 fn a_module_goes_before_a_builtin_type_in_an_import(rt: HostRuntime) -> Result<(), Fault> {
-    let lines = lines_of(rt.alloc(), &USES_OF_TYPES, &IN_2021, &BUILTIN_TYPES)?;
-    assert!(rt; has(lines.as_slice(), "binding 0 m types mod:1 in:0 import:0.0"));
-    assert!(rt;
-        has(
-            lines.as_slice(),
-            "binding 0 n types builtin:1 in:0 import:1.0"
-        )
-    );
+    assert!(rt; shows_in(rt.alloc(), &USES_OF_TYPES, &IN_2021, TYPES_LINES)?);
     Ok(())
 }

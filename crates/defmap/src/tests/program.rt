@@ -1,6 +1,7 @@
 //! The program's runs.
 #![tactic(auto)]
 
+use crate::run_args;
 use def_workspace::run;
 use std::alloc::Global;
 use std::io;
@@ -107,4 +108,15 @@ fn a_refused_write_ends_a_run(rt: HostRuntime) {
     assert_eq!(rt; narrow_status(alloc, &["list"], 62, 0), 1);
     assert_eq!(rt; narrow_status(alloc, &["show", "nothing"], 0, 0), 2);
     assert_eq!(rt; narrow_status(alloc, &[], 0, 0), 2);
+}
+
+#[test]
+fn words_that_are_no_text_ask_for_nothing(rt: HostRuntime) {
+    let alloc = rt.alloc();
+    let mut written: Vec<u8> = Vec::new(alloc);
+    let mut said: Vec<u8> = Vec::new(alloc);
+    let args = Err(io::Error::from(io::ErrorKind::InvalidData));
+    assert_eq!(rt; run_args(alloc, args, &mut written, &mut said), 2);
+    assert_eq!(rt; written.len(), 0);
+    assert_eq!(rt; said.as_slice(), USAGE.as_bytes());
 }
