@@ -6,12 +6,14 @@ use Rattle.item_tree.specs.declared.attrs.AttrInput.{AttrInput}
 use Rattle.item_tree.specs.declared.attrs.AttrsOrCfg.TheVariants.{Enabled, CfgDisabled}
 use Rattle.item_tree.specs.declared.mod_path.PathKind.TheVariants.{Plain, Super}
 use Rattle.item_tree.specs.declared.name.Name.{Name}
-use Rattle.item_tree.specs.declared.tt.TtElement.{TtElement, Leaf as Token}
+use Rattle.item_tree.specs.declared.tt.TtElement.{TtElement, Leaf as Token, Subtree, out-TtElement}
+use Rattle.item_tree.specs.declared.tt.TtElement.TheBlock.{shown-the_row-TtElement-0}
+use denote.Hole.Carrier.{out, shown, hidden}
 use Rattle.item_tree.specs.declared.tt.Leaf.TheVariants.{Ident, Punct}
 use Rattle.item_tree.specs.KnownNames.{path_name, test_name, macro_use_name, feature_name, self_name}
-use Rattle.item_tree.specs.Attrs.{by_key, has_attr, string_value, tt_values, iter_after, attrs_of, disabled_by}
+use Rattle.item_tree.specs.Attrs.{by_key, has_attr, string_value, tt_values, iter_after, attrs_of, disabled_by, path_attr}
 use Rattle.item_tree.specs.Paths.{as_ident}
-use Rattle.item_tree.specs.TokenTrees.{idents}
+use Rattle.item_tree.specs.TokenTrees.{idents, element_ident, subtree_idents}
 
 -- an attribute of one segment
 abbrev attr : Name → Option AttrInput → Attr
@@ -61,6 +63,18 @@ trees_of_the_name = refl
 identifiers : idents (tokens self_name test_name) ≡ self_name ∷ test_name ∷ []
 identifiers = refl
 
+-- the identifiers of `(self, test)` are those between its parentheses, and it is none itself
+identifiers_of_a_group : subtree_idents (Subtree (tokens self_name test_name)) ≡ Some (self_name ∷ test_name ∷ [])
+unfolding out-TtElement out shown-the_row-TtElement-0 shown hidden
+identifiers_of_a_group = refl
+
+no_group : subtree_idents (Token (Ident test_name)) ≡ None
+unfolding out-TtElement out
+no_group = refl
+
+group_is_no_identifier : element_ident (Subtree (tokens self_name test_name)) ≡ None
+group_is_no_identifier = refl
+
 all_of_them : iter_after None (test_attr ∷ path_a ∷ []) ≡ (record { 0 = 0 }, test_attr) ∷ (record { 0 = 1 }, path_a) ∷ []
 all_of_them = refl
 
@@ -81,6 +95,16 @@ attributes_of_a_disabled_item = refl
 
 attributes_of_none : attrs_of None ≡ []
 attributes_of_none = refl
+
+-- the first `#[path]` with a text counts, also of an item that is not compiled
+path_of_an_item : path_attr (Some (Enabled (record { list = attrs }))) ≡ Some (codes "a.rs")
+path_of_an_item = refl
+
+path_of_a_disabled_item : path_attr (Some (CfgDisabled (record { 0 = 7 }) (record { list = path_b ∷ path_a ∷ [] }))) ≡ Some (codes "b.rs")
+path_of_a_disabled_item = refl
+
+path_without_text : path_attr (Some (Enabled (record { list = path_list ∷ test_attr ∷ [] }))) ≡ None
+path_without_text = refl
 
 plain_name : as_ident (record { kind = Plain; segments = feature_name ∷ [] }) ≡ Some feature_name
 plain_name = refl

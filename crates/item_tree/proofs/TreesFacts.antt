@@ -1,15 +1,17 @@
 -- Trees and faults, at worked rows.
 use Rattle.std.proofs.Common.{◌≡◌, ℕ, ◌<◌, ◌≤◌, ◌⊎◌, List, [], ◌∷◌, refl, arith, lit<, lit≤}
-use Rattle.std.specs.Prelude.{true, false, None}
+use Rattle.std.specs.Prelude.{true, false, None, Some}
+use Rattle.item_tree.specs.declared.attrs.AttrsOrCfg.{AttrsOrCfg}
+use Rattle.item_tree.specs.declared.attrs.AttrsOrCfg.TheVariants.{CfgDisabled}
 use Rattle.item_tree.specs.declared.ids.ModItemId.{ModItemId}
 use Rattle.item_tree.specs.declared.items.ItemNode.{ItemNode}
 use Rattle.item_tree.specs.declared.items.ModContents.TheVariants.{Inline, Outline}
-use Rattle.item_tree.specs.declared.items.ModItemKind.TheVariants.{Mod, Struct}
+use Rattle.item_tree.specs.declared.items.ModItemKind.TheVariants.{Mod, ExternBlock, Struct}
 use Rattle.item_tree.specs.declared.items.RawVisibility.TheVariants.{PubSelf}
 use Rattle.item_tree.specs.declared.items.CtorVisibility.TheVariants.{NoValueNsCtor}
 use Rattle.item_tree.specs.declared.tree.TreeFault.TheVariants.{ChildOutOfRange, ChildNotAfterParent, TwoParents}
 use Rattle.item_tree.specs.KnownNames.{self_name}
-use Rattle.item_tree.specs.Trees.{children_of, occurrences, list_at, IsFault, IsFirstFault, item_of, rank_of}
+use Rattle.item_tree.specs.Trees.{children_of, attrs_at, occurrences, list_at, IsFault, IsFirstFault, item_of, rank_of}
 use Rattle.item_tree.specs.TreesLaws.{is_tree}
 use Rattle.item_tree.specs.TextOrder.{IsRising}
 
@@ -33,6 +35,26 @@ items_of_another_file = refl
 
 items_of_a_struct : children_of leaf ≡ []
 items_of_a_struct = refl
+
+items_of_an_extern_block : children_of (record leaf { kind = ExternBlock (id 3 ∷ id 4 ∷ []) }) ≡ id 3 ∷ id 4 ∷ []
+items_of_an_extern_block = refl
+
+-- the attributes of an item that is not compiled
+abbrev marks : AttrsOrCfg
+marks = CfgDisabled (record { 0 = 7 }) (record { list = [] })
+
+abbrev second_marked : List ItemNode
+second_marked = leaf ∷ record leaf { attrs = Some marks } ∷ []
+
+-- a number has the attributes of its own item: there may be none, and no item
+attributes_by_number : attrs_at second_marked (id 1) ≡ Some marks
+attributes_by_number = refl
+
+no_attributes : attrs_at second_marked (id 0) ≡ None
+no_attributes = refl
+
+no_item : attrs_at second_marked (id 2) ≡ None
+no_item = refl
 
 -- modules 0 and 1 both hold item 2
 abbrev shared : List ItemNode
