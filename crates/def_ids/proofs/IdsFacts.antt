@@ -3,7 +3,7 @@ use Rattle.std.specs.Prelude.{◌≡◌, ℕ, true, false, refl, Some, None}
 use Rattle.def_ids.specs.Equality.{def_eq, glob_eq, macro_eq}
 use Rattle.def_ids.specs.Ids.{crate_root, is_block_root, is_same_module}
 use Rattle.def_ids.specs.declared.ids.Def.TheVariants as def
-use Rattle.def_ids.specs.declared.ids.MacroId.TheVariants.{MacroRules, Macro2}
+use Rattle.def_ids.specs.declared.ids.MacroId.TheVariants.{MacroRules, Macro2, ProcMacro}
 use Rattle.def_ids.specs.declared.ids.ModuleId.{ModuleId}
 
 -- a module of a block of crate 0
@@ -43,6 +43,13 @@ kinds_differ = (refl, refl)
 pub numbers_agree : (def_eq (def.Struct (record { 0 = 4 })) (def.Struct (record { 0 = 4 })) ≡ true) × (def_eq (def.Struct (record { 0 = 4 })) (def.Struct (record { 0 = 5 })) ≡ false)
 numbers_agree = (refl, refl)
 
+-- modules and macros are compared by their own tests, and builtin types by number
+pub parts_compared : (def_eq (def.Module (in_block 7 1)) (def.Module (in_block 8 1)) ≡ false) × (def_eq (def.Macro (ProcMacro (record { 0 = 4 }))) (def.Macro (ProcMacro (record { 0 = 4 }))) ≡ true) × (def_eq (def.Macro (ProcMacro (record { 0 = 4 }))) (def.Macro (Macro2 (record { 0 = 4 }))) ≡ false) × (def_eq (def.Builtin 4) (def.Builtin 5) ≡ false)
+parts_compared = (refl, refl, refl, refl)
+
 -- two globs of one `use` item
 pub other_glob : glob_eq (record { use_id = record { 0 = 1 }; idx = 0 }) (record { use_id = record { 0 = 1 }; idx = 1 }) ≡ false
 other_glob = refl
+
+pub same_glob : glob_eq (record { use_id = record { 0 = 1 }; idx = 2 }) (record { use_id = record { 0 = 1 }; idx = 2 }) ≡ true
+same_glob = refl

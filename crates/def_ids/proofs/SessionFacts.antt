@@ -1,16 +1,19 @@
 -- Worked rows of what a session shows.
 use Rattle.std.specs.Prelude.{◌≡◌, [], ◌∷◌, Some, None, true, false, codes, refl}
 use Rattle.item_tree.specs.declared.ids.HirFileId.TheVariants.{File}
+use Rattle.item_tree.specs.declared.macro_flags.TheConstants.MacroRulesLocFlags.{LOCAL_INNER, ALLOW_INTERNAL_UNSAFE}
 use Rattle.def_ids.specs.Interner.{first_tables}
 use Rattle.def_ids.specs.Ids.{crate_root}
-use Rattle.def_ids.specs.Session.{session_of, shown_item, shown_macro, macro_def, StructItem, UnionItem}
-use Rattle.def_ids.specs.declared.ids.ItemContainerId.TheVariants.{Module}
-use Rattle.def_ids.specs.declared.ids.MacroId.TheVariants.{MacroRules, Macro2}
+use Rattle.def_ids.specs.Session.{session_of, shown_item, shown_macro, macro_def, macro_kind, has_flag, FunctionItem, StructItem, UnionItem}
+use Rattle.def_ids.specs.declared.ids.ItemContainerId.TheVariants.{Module, ExternBlock}
+use Rattle.def_ids.specs.declared.ids.MacroId.TheVariants.{MacroRules, Macro2, ProcMacro}
 use Rattle.def_ids.specs.declared.interner.Interner.{Interner}
 use Rattle.def_ids.specs.declared.locs.MacroRulesLoc.{MacroRulesLoc}
-use Rattle.def_ids.specs.declared.macro_def.Edition.TheVariants.{Edition2021}
+use Rattle.def_ids.specs.declared.macro_def.CustomProcMacroExpander.TheVariants.{Id}
+use Rattle.def_ids.specs.declared.macro_def.Edition.TheVariants.{Edition2021, Edition2024}
 use Rattle.def_ids.specs.declared.macro_def.MacroDefKind.TheVariants as kind
 use Rattle.def_ids.specs.declared.macro_def.MacroExpander.TheVariants as expander
+use Rattle.def_ids.specs.declared.macro_def.ProcMacroUse.TheVariants.{Attr}
 use Rattle.item_tree.specs.declared.ids.FileAstId.{FileAstId}
 use Rattle.item_tree.specs.declared.ids.InFile.{InFile}
 
@@ -36,6 +39,15 @@ pub struct_shown : ((session_of one_struct).item StructItem 0 ≡ Some (record {
 unfolding shown_item
 struct_shown = (refl, refl, refl)
 
+-- a session with one function, in extern block 4
+abbrev one_function : Interner
+one_function = record first_tables { functions = record { container = ExternBlock (record { 0 = 4 }); position = position } ∷ [] }
+
+-- a function is shown in what it stands in, which need not be a module
+pub function_shown : ((session_of one_function).item FunctionItem 0 ≡ Some (record { container = ExternBlock (record { 0 = 4 }); position = position })) × ((session_of one_function).item StructItem 0 ≡ None)
+unfolding shown_item
+function_shown = (refl, refl)
+
 -- a local `macro_rules` macro of crate 3 that allows unsafe code, and may be called as `m!(..)`
 abbrev rules : MacroRulesLoc
 rules =
@@ -55,6 +67,10 @@ pub flags_shown : (session_of one_macro).macro_at (MacroRules (record { 0 = 0 })
 unfolding shown_macro
 flags_shown = refl
 
+-- the bits by which flags are shown are those of the flags
+pub flag_bits : (has_flag LOCAL_INNER 1 ≡ true) × (has_flag LOCAL_INNER 2 ≡ false) × (has_flag ALLOW_INTERNAL_UNSAFE 1 ≡ false) × (has_flag ALLOW_INTERNAL_UNSAFE 2 ≡ true)
+flag_bits = (refl, refl, refl, refl)
+
 -- its crate is its module's
 pub macro_shown : macro_def (session_of one_macro) (MacroRules (record { 0 = 0 })) ≡ Some (record { krate = record { 0 = 3 }; id = MacroRules (record { 0 = 0 }); kind = kind.Declarative (record { 0 = 1 }) })
 unfolding shown_macro
@@ -64,3 +80,26 @@ macro_shown = refl
 pub other_kind : macro_def (session_of one_macro) (Macro2 (record { 0 = 0 })) ≡ None
 unfolding shown_macro
 other_kind = refl
+
+-- a `macro` item that is a builtin, and a procedural attribute macro, both of crate 3
+abbrev two_macros : Interner
+two_macros =
+    record first_tables {
+      macro2s = record { container = crate_root (record { 0 = 3 }); position = position; expander = expander.BuiltInEager 6; flags = record { 0 = 1 }; edition = Edition2024 } ∷ [];
+      proc_macros = record { container = crate_root (record { 0 = 3 }); position = position; expander = Id 8; kind = Attr; edition = Edition2021 } ∷ [];
+    }
+
+-- a `macro` item has the kind of its expander, its own flags and its edition
+pub macro_item_shown : (session_of two_macros).macro_at (Macro2 (record { 0 = 0 })) ≡ Some (record { container = crate_root (record { 0 = 3 }); position = position; kind = kind.BuiltInEager 6; local_inner = true; allow_internal_unsafe = false; edition = Edition2024 })
+unfolding shown_macro
+macro_item_shown = refl
+
+-- a procedural macro has no flags, and is of the kind that it was declared with
+pub procedural_shown : (session_of two_macros).macro_at (ProcMacro (record { 0 = 0 })) ≡ Some (record { container = crate_root (record { 0 = 3 }); position = position; kind = kind.ProcMacro (Id 8) Attr; local_inner = false; allow_internal_unsafe = false; edition = Edition2021 })
+unfolding shown_macro
+procedural_shown = refl
+
+-- each kind of macro has numbers of its own
+pub kinds_by_number : (macro_kind (session_of two_macros) (Macro2 (record { 0 = 0 })) ≡ Some (kind.BuiltInEager 6)) × (macro_kind (session_of two_macros) (MacroRules (record { 0 = 0 })) ≡ None)
+unfolding shown_macro
+kinds_by_number = (refl, refl)
