@@ -1,12 +1,12 @@
 -- Names and edges, after one is added or taken out.
-use Rattle.std.proofs.Common.{◌≡◌, ℕ, None, [], ◌∷◌, refl}
+use Rattle.std.proofs.Common.{◌≡◌, ℕ, Some, None, [], ◌∷◌, refl}
 use Rattle.item_tree.specs.declared.name.Name.{Name}
 use Rattle.def_ids.specs.declared.ids.ModuleId.{ModuleId}
 use Rattle.def_ids.specs.declared.ids.Def.TheVariants.{Struct}
 use Rattle.def_bindings.specs.declared.bindings.Namespace.TheVariants.{Types, Values}
 use Rattle.def_bindings.specs.declared.bindings.Binding.{Binding}
 use Rattle.def_bindings.specs.declared.bindings.EdgeTo.{EdgeTo}
-use Rattle.def_bindings.specs.Content.{Content, empty, with_name, without_name, with_binding, without_binding, replaced}
+use Rattle.def_bindings.specs.Content.{Content, empty, with_name, without_name, with_binding, without_binding, with_unnamed, with_edge, vis_of, replaced}
 
 abbrev name : ℕ → Name
 name n = record { 0 = n }
@@ -57,3 +57,26 @@ edge_added = refl
 
 edge_replaced : replaced (edge 1 5 ∷ edge 2 5 ∷ []) (edge 1 6) ≡ edge 1 6 ∷ edge 2 5 ∷ []
 edge_replaced = refl
+
+-- an edge is recorded in its source alone, and the edge of an importer that has one takes its place there
+abbrev two_edges : Content ℕ
+two_edges = with_edge (with_edge both_namespaces root (edge 1 5)) root (edge 2 5)
+
+edges_recorded : (two_edges.edges root ≡ edge 1 5 ∷ edge 2 5 ∷ []) × (two_edges.edges (record { map = root.map; index = 1 }) ≡ [])
+edges_recorded = (refl, refl)
+
+edge_recorded_again : (with_edge two_edges root (edge 1 6)).edges root ≡ edge 1 6 ∷ edge 2 5 ∷ []
+edge_recorded_again = refl
+
+names_beside_edges : (two_edges.names root ≡ both_namespaces.names root) × (two_edges.binding root (name 1) Values ≡ Some (bind 3))
+names_beside_edges = (refl, refl)
+
+-- an unnamed trait goes last, and one that is there keeps its place with the new visibility
+abbrev two_traits : Content ℕ
+two_traits = with_unnamed (with_unnamed both_namespaces root (record { 0 = 7 }) 5) root (record { 0 = 8 }) 5
+
+trait_again : (with_unnamed two_traits root (record { 0 = 7 }) 6).unnamed root ≡ (record { 0 = 7 }, 6) ∷ (record { 0 = 8 }, 5) ∷ []
+trait_again = refl
+
+vis_of_a_trait : (vis_of (two_traits.unnamed root) (record { 0 = 8 }) ≡ Some 5) × (vis_of (two_traits.unnamed root) (record { 0 = 9 }) ≡ None)
+vis_of_a_trait = (refl, refl)

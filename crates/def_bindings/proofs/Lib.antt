@@ -11,3 +11,5 @@ pub mod PutsFacts
 pub mod VisibilityFacts
 pub mod ContentFacts
 pub mod EmptyLemmas
+pub mod NumbersFacts
+pub mod RowEntriesFacts

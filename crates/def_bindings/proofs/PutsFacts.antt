@@ -5,15 +5,16 @@ use Rattle.def_ids.specs.declared.ids.ModuleId.{ModuleId}
 use Rattle.def_ids.specs.declared.ids.TraitId.{TraitId}
 use Rattle.def_ids.specs.declared.ids.Def.{Def}
 use Rattle.def_ids.specs.declared.ids.Def.TheVariants.{Struct, Trait}
-use Rattle.def_bindings.specs.declared.bindings.Namespace.TheVariants.{Types}
+use Rattle.def_bindings.specs.declared.bindings.Namespace.TheVariants.{Types, Values}
 use Rattle.def_bindings.specs.declared.bindings.ImportOrExternCrate.TheVariants.{Glob, Import}
 use Rattle.def_bindings.specs.declared.bindings.Binding.{Binding}
 use Rattle.def_bindings.specs.declared.bindings.Entry.{Entry}
 use Rattle.def_bindings.specs.declared.bindings.EdgeTo.{EdgeTo}
 use Rattle.def_bindings.specs.declared.bindings.Slot.TheVariants.{Named, Unnamed}
 use Rattle.def_bindings.specs.Order.{Order}
+use Rattle.def_bindings.specs.Slots.{is_same_slot, is_same_place}
 use Rattle.def_bindings.specs.Content.{Content, empty, with_binding}
-use Rattle.def_bindings.specs.Puts.{Origin, settled, put_entry, held, lessened, copied, joined, edge_to, unnamed_binding}
+use Rattle.def_bindings.specs.Puts.{Origin, settled, put_entry, puts, slot_of, is_put, held, lessened, copied, joined, edge_to, unnamed_binding}
 
 -- two levels, the low one below the high one; only the high one is seen
 abbrev levels : Order Bool
@@ -121,6 +122,36 @@ unnamed_not_lowered = refl
 -- an entry without a name that is no trait is ignored
 nameless_ignored : (c : Content Bool) → put_entry levels here (unnamed one high) c ≡ c
 nameless_ignored c = refl
+
+-- an entry of a name
+abbrev named : Def → Bool → Origin → Entry Bool
+named d v from = record { name = Some name; ns = Types; def = d; vis = v; origin = from }
+
+-- the slot of an entry is its name's, or that of the trait without a name
+slots_of_entries : (slot_of (named one low import) ≡ Some (Named name Types)) × (slot_of (unnamed (Trait tr) low) ≡ Some (Unnamed tr)) × (slot_of (unnamed one low) ≡ None)
+slots_of_entries = (refl, refl, refl)
+
+-- entries are put in order: the second raises the first, keeping its glob
+second_raises : held (puts levels here (named one low (glob 1) ∷ named one high (glob 2) ∷ []) empty) here (Named name Types) ≡ Some (bind one high (glob 1))
+second_raises = refl
+
+-- a glob's entry yields to an import, before it or behind it
+second_yields : held (puts levels here (named one low import ∷ named two high (glob 1) ∷ []) empty) here (Named name Types) ≡ Some (bind one low import)
+second_yields = refl
+
+second_replaces : held (puts levels here (named two high (glob 1) ∷ named one low import ∷ []) empty) here (Named name Types) ≡ Some (bind one low import)
+second_replaces = refl
+
+-- whether an offer changes its place
+second_is_put : (is_put levels here (Some (Named name Types)) (bind one high (glob 2)) (put_entry levels here (named one low (glob 1)) empty) ≡ true) × (is_put levels here (Some (Named name Types)) (bind two high (glob 2)) (put_entry levels here (named one low (glob 1)) empty) ≡ false)
+second_is_put = (refl, refl)
+
+-- slots are one by name and namespace, or by trait; places by module too
+same_slots : (is_same_slot (Named name Types) (Named name Types) ≡ true) × (is_same_slot (Unnamed tr) (Unnamed tr) ≡ true) × (is_same_place here (Unnamed tr) here (Unnamed tr) ≡ true)
+same_slots = (refl, refl, refl)
+
+other_slots : (is_same_slot (Named name Types) (Named name Values) ≡ false) × (is_same_slot (Named name Types) (Named (record { 0 = 5 }) Types) ≡ false) × (is_same_slot (Unnamed tr) (Named (record { 0 = 5 }) Types) ≡ false) × (is_same_place here (Unnamed tr) there (Unnamed tr) ≡ false)
+other_slots = (refl, refl, refl, refl)
 
 abbrev edge : Bool → EdgeTo Bool
 edge v = record { importer = there; vis = v; glob = record { use_id = record { 0 = 7 }; idx = 0 } }

@@ -6,9 +6,9 @@ use Rattle.def_ids.specs.declared.ids.MapId.{MapId}
 use Rattle.def_ids.specs.declared.ids.ModuleId.{ModuleId}
 use Rattle.def_ids.specs.Ids.{is_block_root}
 use Rattle.def_bindings.specs.declared.visibility.Visibility.TheVariants.{Module, PubCrate, Public}
-use Rattle.def_bindings.specs.Order.{greater_of, lesser_of}
-use Rattle.def_bindings.specs.Tree.{chain_of, are_apart}
-use Rattle.def_bindings.specs.Visibility.{is_at_most, home_of, is_visible_from}
+use Rattle.def_bindings.specs.Order.{greater_of, lesser_of, rises_to}
+use Rattle.def_bindings.specs.Tree.{chain_of, above_of, after_module, after_index, next_of, are_apart}
+use Rattle.def_bindings.specs.Visibility.{is_at_most, home_of, is_visible_from, order_over}
 
 abbrev own : MapId
 own = record { krate = record { 0 = 0 }; block = None }
@@ -44,6 +44,33 @@ chain_of_containing = refl
 
 chain_of_other : block_chain (at 3) ≡ at 3 ∷ []
 chain_of_other = refl
+
+-- what follows in a chain: the parent, past a block's root the first module that contains the block, and past that the next one
+above_is_the_parent : above_of block (None ∷ Some 0 ∷ []) (at 1 ∷ at 0 ∷ []) (in_block 1) ≡ Some (in_block 0)
+above_is_the_parent = refl
+
+above_leaves_the_block : above_of block (None ∷ Some 0 ∷ []) (at 1 ∷ at 0 ∷ []) (in_block 0) ≡ Some (at 1)
+above_leaves_the_block = refl
+
+above_among_containing : above_of block (None ∷ Some 0 ∷ []) (at 1 ∷ at 0 ∷ []) (at 1) ≡ Some (at 0)
+above_among_containing = refl
+
+none_above_the_root : above_of own (None ∷ Some 0 ∷ []) [] (at 0) ≡ None
+none_above_the_root = refl
+
+-- nothing follows the last module of a list, and none that is not in it
+after_the_first : (after_module (at 1 ∷ at 0 ∷ []) (at 1) ≡ Some (at 0)) × (after_index (at 1 ∷ at 0 ∷ []) (at 1) ≡ 1)
+after_the_first = (refl, refl)
+
+after_the_last : (after_module (at 1 ∷ at 0 ∷ []) (at 0) ≡ None) × (after_index (at 1 ∷ at 0 ∷ []) (at 0) ≡ 2)
+after_the_last = (refl, refl)
+
+after_a_stranger : (after_module (at 1 ∷ at 0 ∷ []) (at 3) ≡ None) × (after_index (at 1 ∷ at 0 ∷ []) (at 3) ≡ 2)
+after_a_stranger = (refl, refl)
+
+-- above the map's own modules all those that contain the block are left, and above one of these what follows it
+goes_on_from : (next_of block (None ∷ Some 0 ∷ []) (at 1 ∷ at 0 ∷ []) (in_block 1) ≡ 0) × (next_of block (None ∷ Some 0 ∷ []) (at 1 ∷ at 0 ∷ []) (at 1) ≡ 1)
+goes_on_from = (refl, refl)
 
 -- a block's root is at home in the module that contains the block, and alone in itself
 home_of_block : home_of block_chain (in_block 0) ≡ at 1
@@ -87,6 +114,13 @@ lesser_below = refl
 
 neighbours_unrelated : greater_of (is_at_most crate_chain) (Module (at 2)) (Module (at 3)) ≡ None
 neighbours_unrelated = refl
+
+-- what is greater is a rise, and what is equal is none
+rises_to_the_module_above : rises_to (order_over crate_chain) (Module (at 2)) (Module (at 1)) ≡ true
+rises_to_the_module_above = refl
+
+no_rise_to_itself : rises_to (order_over crate_chain) PubCrate PubCrate ≡ false
+no_rise_to_itself = refl
 
 -- entries of a path's supers skip the roots of blocks
 second_ancestor : slice_get (filter (λ m. not (is_block_root m)) (block_chain (in_block 1))) 1 ≡ Some (at 1)
