@@ -1,5 +1,6 @@
 -- What a pass over a list of imports keeps.
-use Rattle.std.proofs.Common.{◌≡◌, ◌<◌, ◌+◌, ℕ, Bool, false, true, [], arith, refl, sym, subst, below_more}
+use Rattle.std.proofs.Common.{◌≡◌, ◌<◌, ◌≤◌, ◌+◌, ℕ, Bool, false, true, [], arith, refl, sym, subst, below_more, inl, inr}
+use Rattle.std.proofs.lemmas.Bool.{cases_lt}
 use Rattle.def_map.specs.Oracle.{Oracle}
 use Rattle.def_ids.specs.declared.interner.Interner.{Interner}
 use Rattle.def_walk.specs.declared.collector.DefCollector.{DefCollector}
@@ -22,6 +23,19 @@ module _ (oracle : Oracle) (session : Interner) (Stays : DefCollector → ℕ �
     unready = λ _ index h. absurd (omega arith);
     same = λ _. refl;
     fewer = λ h. absurd cc;
+  }
+
+  -- places were passed over, whose imports are not ready
+  pub tried_passed : (old now : DefCollector) (moved : Bool) (count next : ℕ) → TriedSoFar oracle session Stays old now moved count
+      → ((index : ℕ) → count ≤ index → index < next → Stays now index) → TriedSoFar oracle session Stays old now moved next
+  tried_passed old now moved count next tried passed = record {
+    leads = tried.leads;
+    unready = λ h index before. elim (cases_lt index count) [
+      | inl earlier ↦ tried.unready h index earlier
+      | inr later ↦ subst (λ c. Stays c index) (tried.same h) (passed index later before)
+    ];
+    same = tried.same;
+    fewer = tried.fewer;
   }
 
   fewer_than_before : (old now next : DefCollector) (moved : Bool) (count : ℕ) → TriedSoFar oracle session Stays old now moved count

@@ -3,7 +3,7 @@ use Rattle.std.proofs.Common.{◌≡◌, ◌<◌, ◌+◌, ◌*◌, length, sum_
 use Rattle.std.proofs.lemmas.List.{map-append}
 use Rattle.std.proofs.lemmas.List.Elements.{All-contains, All-map}
 use Rattle.std.proofs.lemmas.List.Sorted.{IsPermutation-middle}
-use Rattle.std.proofs.lemmas.Option.{slice_get_read}
+use Rattle.std.proofs.lemmas.Option.{none-some, same_Some, slice_get_read}
 use Rattle.std.specs.declared.alloc.Global.{Global}
 use Rattle.def_ids.specs.declared.interner.Interner.{Interner}
 use Rattle.def_map.specs.declared.path_resolution.asked.ResolvePathResult.{ResolvePathResult}
@@ -42,6 +42,19 @@ module _ (oracle : Oracle) (s : State) where
       let same : d ≡ d' = cc in
       subst (λ x. is_ready_again (ns_set x.recorded) (answer_now oracle s (pending_of x.directive)) ≡ false) same
       (ap (is_ready_again (ns_set d.recorded)) (sym gives) ∙ sym asks ∙ was)
+
+-- no import is at a place that one has left
+none_left : {A : Type 0} (entries shown : List (Option A)) (index : ℕ) (x : A) → shown ≡ entries → slice_get shown index ≡ Some None → slice_get entries index ≡ Some (Some x) → ⊥
+none_left entries shown index x same left here = none-some x (same_Some None (Some x) (sym left ∙ ap (λ l. slice_get l index) same ∙ here))
+
+module _ (oracle : Oracle) (s : State) where
+  -- at a place that an import has left none is ready
+  pub unready_left : (entries shown : List (Option ImportDirective)) (index : ℕ) → shown ≡ entries → slice_get shown index ≡ Some None → IsUnready oracle s entries index
+  unready_left entries shown index same left d here = absurd (none_left entries shown index d same left here)
+
+  -- nor is one ready again
+  pub unready_again_left : (entries shown : List (Option PartialDirective)) (index : ℕ) → shown ≡ entries → slice_get shown index ≡ Some None → IsUnreadyAgain oracle s entries index
+  unready_again_left entries shown index same left d here = absurd (none_left entries shown index d same left here)
 
 -- a partial import that stays is shown in its place, and one that left is not
 replaced_partial : (xs : List (Option PartialDirective)) (i : ℕ) (d : PartialDirective) (w : Around xs i d) (recorded : Option NamespaceSet)

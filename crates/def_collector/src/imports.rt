@@ -1,5 +1,5 @@
 //! Imports: each pass records those that are ready.
-ghost use Rattle.std.specs.Prelude.{◌≡◌, ◌<◌, ◌++◌, [], ℕ, true, false, map, option_map, vec_len, slice_get, IfOk, OnOk, Some};
+ghost use Rattle.std.specs.Prelude.{◌≡◌, ◌<◌, ◌≤◌, ◌++◌, [], ℕ, true, false, length, map, option_map, unwrap_or, vec_len, slice_get, IfOk, IfSome, OnOk, None, Some};
 ghost use Rattle.item_tree.specs.declared.items.ImportKind.TheVariants.{Plain};
 ghost use Rattle.def_ids.specs.declared.interner.Interner.{Interner};
 ghost use Rattle.def_bindings.specs.ModuleTree.{chain_in};
@@ -66,10 +66,12 @@ fn try_unresolved_imports<'a, D: SourceDatabase>(
     ensures same { IfOk result (λ moved. moved ≡ false → collector.new ≡ collector.old) }
 {
     let mut moved = false;
-    'unresolved: for i in 0..collector.unresolved_imports.len() {
+    let mut from = 0;
+    'unresolved: while let Some(i) = next_tried(collector.unresolved_imports.as_slice(), from) {
         if try_unresolved_import(collector, db, session, i)? {
             moved = true;
         }
+        from = i + 1;
     }
     Ok(moved)
 }
@@ -89,12 +91,35 @@ fn try_indeterminate_imports<'a, D: SourceDatabase>(
     ensures same { IfOk result (λ moved. moved ≡ false → collector.new ≡ collector.old) }
 {
     let mut moved = false;
-    'indeterminate: for i in 0..collector.indeterminate_imports.len() {
+    let mut from = 0;
+    'indeterminate: while let Some(i) = next_tried(
+        collector.indeterminate_imports.as_slice(),
+        from,
+    ) {
         if try_indeterminate_import(collector, db, session, i)? {
             moved = true;
         }
+        from = i + 1;
     }
     Ok(moved)
+}
+
+/// The next place that a pass over a list tries, from a place on. A pass may pass over only places
+/// whose import is not ready; so far it passes over those that an import has left.
+fn next_tried<T>(entries: &[Option<T>], from: usize) -> Option<usize>
+    // What is answered is a place of the list, at the given one or after it.
+    ensures place { IfSome result (λ i. (from ≤ i) × (i < length entries.now)) }
+
+    // No import stands at any place before it, or up to the end of the list where none is answered.
+    ensures passed { (index : ℕ) → from ≤ index → index < unwrap_or result (length entries.now) →
+        slice_get entries.now index ≡ Some None }
+{
+    'entries: for i in from..entries.len() {
+        if entries[i].is_some() {
+            return Some(i);
+        }
+    }
+    None
 }
 
 /// Records a waiting import, if it is ready. Answers whether it was.
