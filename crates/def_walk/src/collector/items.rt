@@ -405,7 +405,8 @@ impl<'a> DefCollector<'a> {
             let effect = struct_effect (state_of self.old session) module_id name def vis ctor_vis in
             Performs oracle effect.tasks effect.state (state_of self.new session)) }
     {
-        self.def_map.declare(module_id.index, def)?;
+        let module = module_id.index;
+        self.def_map.declare(module, def)?;
         let types = declared(name, Namespace::Types, def, vis);
         match ctor_vis {
             Some(ctor_vis) => {
