@@ -110,7 +110,7 @@ fn next_tried<T>(entries: &[Option<T>], from: usize) -> Option<usize>
     // What is answered is a place of the list, at the given one or after it.
     ensures place { IfSome result (λ i. (from ≤ i) × (i < length entries.now)) }
 
-    // No import stands at any place before it, or up to the end of the list where none is answered.
+    // No import stands from the given place up to it, or to the list's end where none is answered.
     ensures passed { (index : ℕ) → from ≤ index → index < unwrap_or result (length entries.now) →
         slice_get entries.now index ≡ Some None }
 {
