@@ -1,4 +1,4 @@
--- Names and edges, after one is added or taken out.
+-- Names, edges and unnamed traits, after one is added or taken out.
 use Rattle.std.proofs.Common.{◌≡◌, ℕ, Some, None, [], ◌∷◌, refl}
 use Rattle.item_tree.specs.declared.name.Name.{Name}
 use Rattle.def_ids.specs.declared.ids.ModuleId.{ModuleId}
@@ -68,6 +68,7 @@ edges_recorded = (refl, refl)
 edge_recorded_again : (with_edge two_edges root (edge 1 6)).edges root ≡ edge 1 6 ∷ edge 2 5 ∷ []
 edge_recorded_again = refl
 
+-- names and bindings stay beside edges
 names_beside_edges : (two_edges.names root ≡ both_namespaces.names root) × (two_edges.binding root (name 1) Values ≡ Some (bind 3))
 names_beside_edges = (refl, refl)
 

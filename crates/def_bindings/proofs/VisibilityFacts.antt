@@ -58,7 +58,7 @@ above_among_containing = refl
 none_above_the_root : above_of own (None ∷ Some 0 ∷ []) [] (at 0) ≡ None
 none_above_the_root = refl
 
--- nothing follows the last module of a list, and none that is not in it
+-- nothing follows the last module of a list, nor one that is not in it
 after_the_first : (after_module (at 1 ∷ at 0 ∷ []) (at 1) ≡ Some (at 0)) × (after_index (at 1 ∷ at 0 ∷ []) (at 1) ≡ 1)
 after_the_first = (refl, refl)
 

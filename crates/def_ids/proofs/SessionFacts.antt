@@ -85,12 +85,12 @@ other_kind = refl
 abbrev two_macros : Interner
 two_macros =
     record first_tables {
-      macro2s = record { container = crate_root (record { 0 = 3 }); position = position; expander = expander.BuiltInEager 6; flags = record { 0 = 1 }; edition = Edition2024 } ∷ [];
+      macro2s = record { container = crate_root (record { 0 = 3 }); position = position; expander = expander.BuiltInEager 6; flags = record { 0 = 2 }; edition = Edition2024 } ∷ [];
       proc_macros = record { container = crate_root (record { 0 = 3 }); position = position; expander = Id 8; kind = Attr; edition = Edition2021 } ∷ [];
     }
 
 -- a `macro` item has the kind of its expander, its own flags and its edition
-pub macro_item_shown : (session_of two_macros).macro_at (Macro2 (record { 0 = 0 })) ≡ Some (record { container = crate_root (record { 0 = 3 }); position = position; kind = kind.BuiltInEager 6; local_inner = true; allow_internal_unsafe = false; edition = Edition2024 })
+pub macro_item_shown : (session_of two_macros).macro_at (Macro2 (record { 0 = 0 })) ≡ Some (record { container = crate_root (record { 0 = 3 }); position = position; kind = kind.BuiltInEager 6; local_inner = false; allow_internal_unsafe = true; edition = Edition2024 })
 unfolding shown_macro
 macro_item_shown = refl
 

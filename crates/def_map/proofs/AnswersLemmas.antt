@@ -1,4 +1,4 @@
--- Answers of paths: what a missing prefix gives, and answers joined one after the other.
+-- Answers of paths: what a prefix gives in types, or where it is missing, and answers joined one after the other.
 use Rattle.std.proofs.Common.{◌≡◌, ◌∙◌, ap, sym, refl, arith, ◌+◌, ◌<◌, ◌≤◌, ℕ, suc, Bool, true, false, not, ◌&&◌, ◌||◌, cond, if◌then◌else◌, List, [], ◌∷◌, ◌++◌, length, take, drop, get_or, drop-cons, add-one, Option, Some, None, is_none}
 use Rattle.std.proofs.lemmas.List.{take_more}
 use Rattle.std.specs.List.{list_any, find, cons_option}
@@ -60,6 +60,7 @@ pub prefix-some : (q : Question) (own : MapView) (all : PerNs) (item : Item) (na
     → 0 < length names → all.types ≡ Some item → walk q own false (in_types item) 1 names ≡ answer_after q own all names
 prefix-some q own all item names l e = walk-types q own false (in_types item) all 1 names l (sym e) ∙ (rw e)
 
+-- and with nothing in types
 pub prefix-none : (q : Question) (own : MapView) (all : PerNs) (names : List Name)
     → 0 < length names → all.types ≡ None → missing false ≡ answer_after q own all names
 prefix-none q own all [] l e = let none : ⊥ = omega arith in absurd none

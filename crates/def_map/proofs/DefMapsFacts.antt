@@ -59,6 +59,9 @@ no_more_names : resolutions_from 2 listed root ≡ []
 no_more_names = refl
 
 -- unnamed traits stand in order, each with its visibility
+all_traits : unnamed_from 0 listed root ≡ (record { 0 = 1 }, Public) ∷ (record { 0 = 2 }, PubCrate) ∷ []
+all_traits = refl
+
 later_traits : unnamed_from 1 listed root ≡ (record { 0 = 2 }, PubCrate) ∷ []
 later_traits = refl
 

@@ -119,6 +119,11 @@ unseen_macro : (facts_in (with_module seed 0 (with_textual (name 40) (rules 1)))
 unfolding seed
 unseen_macro = refl
 
+-- of another map's module it has none, also where one of its own has that index
+macro_of_another_map : (facts_in (with_module seed 0 (with_textual (name 40) (rules 1)))).textual_macro (record { map = record { krate = record { 0 = 1 }; block = Some (record { 0 = 0 }) }; index = 0 }) (name 40) ≡ None
+unfolding seed
+macro_of_another_map = refl
+
 -- the limit is 128 where none is stated
 limit_unstated : limit_of fresh_crate ≡ 128
 limit_unstated = refl

@@ -79,18 +79,24 @@ own_crate = map_within (in_crate 0).map []
     ∷ (in_crate 4, 6, Types, module_item (in_crate 2)) ∷ (in_crate 2, 5, Values, a_function 5) ∷ [])
 
 -- the outer block: names 0 and 6 in module 3, and name 7 in the root
-abbrev outer_block : MapView
-outer_block = map_within (in_outer 0).map (in_crate 4 ∷ [])
+abbrev outer_bindings : MapView
+outer_bindings = map_within (in_outer 0).map (in_crate 4 ∷ [])
     ((in_outer 3, 0, Types, a_struct 0) ∷ (in_outer 3, 6, Types, a_struct 1) ∷ (in_outer 0, 7, Types, a_struct 2) ∷ [])
+
+-- and the textual macro 60 in module 3
+abbrev outer_block : MapView
+outer_block = record outer_bindings {
+  facts = record outer_bindings.facts { textual_macro = λ m name. if is_same_module m (in_outer 3) && (name.0 == 60) then Some (rules 0) else None };
+}
 
 abbrev around : List ModuleId
 around = in_outer 3 ∷ in_outer 0 ∷ in_crate 4 ∷ []
 
--- the block: in module 1 the attribute 40, a macro 41 that nothing is known of, and module 2 as 50, where 40 is the attribute too
+-- the block: in module 1 the attribute 40, a macro 41 that nothing is known of, a value 1, and module 2 as 50, where 40 is the attribute too
 abbrev block_bindings : MapView
 block_bindings = map_within (in_block 0).map around
     ((in_block 1, 40, Macros, a_macro 1) ∷ (in_block 1, 41, Macros, a_macro 5) ∷ (in_block 1, 50, Types, module_item (in_block 2))
-    ∷ (in_block 2, 40, Macros, a_macro 1) ∷ [])
+    ∷ (in_block 2, 40, Macros, a_macro 1) ∷ (in_block 1, 1, Values, a_function 9) ∷ [])
 
 -- with a textual macro 40 in module 1, the macros 1 and 41 of extern crates, and the other crate's root as its prelude
 abbrev block_map : MapView
@@ -117,10 +123,10 @@ variants = record { name = name 31; id = record { 0 = 0 }; value_ctor = true } �
 abbrev a_variant : ℕ → Item
 a_variant i = public_item (def.Variant (record { 0 = i }))
 
--- a macro that is called, an attribute, and no other
 abbrev macro_loc : MacroDefKind → MacroLoc
 macro_loc kind = record { container = in_crate 0; position = position; kind = kind; local_inner = false; allow_internal_unsafe = false; edition = Edition2021 }
 
+-- a macro that is called, an attribute, and no other
 abbrev macro_at : MacroId → Option MacroLoc
 macro_at (MacroRules id) =
     if id.0 == 0 then Some (macro_loc (BuiltIn 0)) else if id.0 == 1 then Some (macro_loc (BuiltInAttr Test)) else None
@@ -165,6 +171,7 @@ first_leads = refl
 pub first_crosses : resolve world for_module (in_block 0) (path Plain (name 1 ∷ name 2 ∷ [])) ≡ reached (in_types (a_struct 7)) None true
 first_crosses = refl
 
+-- and where all are empty, the first does
 pub empty_leads : leading (missing true) (reached nothing None false ∷ []) ≡ missing true
 empty_leads = refl
 
@@ -181,6 +188,10 @@ no_variant = refl
 -- a textual macro goes before the scope, unless an attribute is asked for and it is none
 pub textual_first : resolve world for_module (in_block 1) (path Plain (name 40 ∷ [])) ≡ reached (record nothing { macros = Some (a_macro 0) }) None false
 textual_first = refl
+
+-- of a module of another map it is read there
+pub textual_elsewhere : resolve world for_module (in_outer 3) (path Plain (name 60 ∷ [])) ≡ reached (record nothing { macros = Some (a_macro 0) }) None false
+textual_elsewhere = refl
 
 pub unfit_hides_nothing : resolve world (for_macro shadow.Module Attr) (in_block 1) (path Plain (name 40 ∷ [])) ≡ reached (record nothing { macros = Some (a_macro 1) }) None false
 unfit_hides_nothing = refl
@@ -211,12 +222,16 @@ pub crate_with_origin : resolve world for_module (in_block 1) (path Abs (name 1 
 crate_with_origin = refl
 
 -- the prelude is last: of the name it gives the value alone, behind the other crate and its macro
-pub prelude_last : resolve world for_module (in_block 1) (path Plain (name 1 ∷ [])) ≡ reached (record { types = Some brought_crate; values = Some (a_function 8); macros = Some (a_macro 0) }) None false
+pub prelude_last : resolve world for_module (in_block 2) (path Plain (name 1 ∷ [])) ≡ reached (record { types = Some brought_crate; values = Some (a_function 8); macros = Some (a_macro 0) }) None false
 prelude_last = refl
 
 -- where the extern crate's macro does not fit, the prelude's answers; what is no macro always fits
-pub attribute_of_prelude : resolve world (for_macro shadow.Module Attr) (in_block 1) (path Plain (name 1 ∷ [])) ≡ reached (record { types = Some brought_crate; values = Some (a_function 8); macros = Some (a_macro 1) }) None false
+pub attribute_of_prelude : resolve world (for_macro shadow.Module Attr) (in_block 2) (path Plain (name 1 ∷ [])) ≡ reached (record { types = Some brought_crate; values = Some (a_function 8); macros = Some (a_macro 1) }) None false
 attribute_of_prelude = refl
+
+-- a longer path goes on from what its first segment means in types, whatever the scope binds in values
+pub value_before_prefix : resolve world for_module (in_block 1) (path Plain (name 1 ∷ name 2 ∷ [])) ≡ reached (in_types (a_struct 7)) None true
+value_before_prefix = refl
 
 -- `$crate` is the root of its crate
 pub dollar_crate : resolve world for_module (in_block 1) (path (DollarCrate (record { 0 = 1 })) (name 2 ∷ [])) ≡ reached (in_types (a_struct 7)) None true

@@ -82,11 +82,12 @@ map_of_id oracle own id = if is_same_map id own.facts.id then Some own else fini
 abbrev pub scope_source : Question → MapView → ModuleId → Source
 scope_source q own place name ns = option_and_then (λ there. there.content.binding place name ns) (map_of_id q.oracle own place.map)
 
--- the last textual macro of the name
-abbrev pub textual_source : MapView → ModuleId → Source
-textual_source own place name Types = None
-textual_source own place name Values = None
-textual_source own place name Macros = option_map (λ m. public_item (Macro m)) (own.facts.textual_macro place name)
+-- a module's last textual macro of the name
+abbrev pub textual_source : Question → MapView → ModuleId → Source
+textual_source q own place name Types = None
+textual_source q own place name Values = None
+textual_source q own place name Macros =
+    option_map (λ m. public_item (Macro m)) (option_and_then (λ there. there.facts.textual_macro place name) (map_of_id q.oracle own place.map))
 
 -- the builtin types, which blocks leave to the maps around them
 abbrev pub builtin_source : Question → MapView → Source
@@ -132,7 +133,7 @@ outer_sources q own place =
 -- the sources of a plain path's first segment
 abbrev pub plain_sources : Question → MapView → ModuleId → Bool → List Source
 plain_sources q own place alone =
-    textual_source own place ∷ (scope_and_builtin (alone && is_builtin_first q.asked.shadow) q own place ++ outer_sources q own place)
+    textual_source q own place ∷ (scope_and_builtin (alone && is_builtin_first q.asked.shadow) q own place ++ outer_sources q own place)
 
 -- the sources of a first segment that is looked up from the crate's root
 abbrev pub root_sources : Question → MapView → List Source

@@ -68,11 +68,11 @@ impl PerNs {
     pub fn of_type(item: Item) -> PerNs
         ensures { result ≡ in_types item }
     {
-        PerNs::in_types(Some(item))
+        PerNs::types_alone(Some(item))
     }
 
     /// An item in types, if there is one.
-    pub(crate) fn in_types(types: Option<Item>) -> PerNs
+    pub(crate) fn types_alone(types: Option<Item>) -> PerNs
         ensures { result ≡ record nothing { types = types } }
     {
         PerNs {

@@ -121,7 +121,7 @@ pending call = record { call = record { 0 = call }; calls = None ∷ None ∷ []
 derive : (with_derive (item 4) (record { 0 = 0 }) (pending 9) (with_derive (item 4) (record { 0 = 0 }) (pending 8) root)).derives (item 4) (record { 0 = 0 }) ≡ Some (pending 9)
 derive = refl
 
-derive_of_another_attribute : (with_derive (item 4) (record { 0 = 0 }) (pending 8) root).derives (item 4) (record { 0 = 1 }) ≡ None
+derive_of_another_attribute : (with_derive (item 4) (record { 0 = 0 }) (pending 9) (with_derive (item 4) (record { 0 = 1 }) (pending 8) root)).derives (item 4) (record { 0 = 1 }) ≡ Some (pending 8)
 derive_of_another_attribute = refl
 
 -- a call goes to its place in the list of its derive, and where there is no such derive nothing is put

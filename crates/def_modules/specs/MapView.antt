@@ -18,7 +18,7 @@ pub record MapFacts : Type 0 where
   -- the modules around a block, innermost first
   pub containing : List ModuleId
   pub prelude : Option ModuleId
-  -- the last textual macro of a name
+  -- the last textual macro of a name in a module of this map
   pub textual_macro : ModuleId → Name → Option MacroId
   -- the macros that extern crates brought
   pub macro_use : Name → Option MacroId

@@ -166,7 +166,7 @@ impl<'a, D: SourceDatabase, T: BindingTable<Vis = Visibility>> Asking<'a, D, T> 
     {
         match def {
             Def::Module(place) if is_last => Some(self.scope(place, name)),
-            Def::Module(place) => Some(PerNs::in_types(self.scope_type(place, name))),
+            Def::Module(place) => Some(PerNs::types_alone(self.scope_type(place, name))),
             Def::Enum(id) => match self.variant(id, name) {
                 Some(variant) => Some(variant_found(variant)),
                 None => None,

@@ -1,66 +1,20 @@
-//! Where the first segment of a longer path is looked up. What follows asks for types alone, so each
-//! source is asked for these.
+//! What the first segment of a longer path means. What follows asks for types alone, so each source
+//! is asked for these.
 ghost use Rattle.std.specs.Prelude.{◌≡◌, None, false};
 ghost use Rattle.def_bindings.specs.declared.bindings.Namespace.TheVariants.{Types};
 ghost use Rattle.def_map.specs.Asking.{question_in, map_in};
 ghost use Rattle.def_map.specs.Items.{is_fitting};
-ghost use Rattle.def_map.specs.Sources.{first_found, scope_source, builtin_source, extern_source};
-ghost use Rattle.def_map.specs.Sources.{prelude_source, outer_sources, plain_sources, root_sources};
-ghost use Rattle.def_map.specs.Sources.{absolute_sources, relative_sources};
+ghost use Rattle.def_map.specs.Sources.{first_found, prelude_source, outer_sources, plain_sources};
+ghost use Rattle.def_map.specs.Sources.{root_sources, absolute_sources, relative_sources};
 
-use crate::path_resolution::sources::{Asking, finished_map, is_2015};
-use crate::per_ns::{Item, public_item};
+use crate::path_resolution::sources::{Asking, is_2015};
+use crate::per_ns::Item;
 use crate::source_database::SourceDatabase;
-use def_bindings::{Binding, BindingTable, ImportOrExternCrate, Namespace, Visibility};
-use def_ids::{Def, ModuleId};
+use def_bindings::{BindingTable, Visibility};
+use def_ids::ModuleId;
 use item_tree::Name;
 
 impl<'a, D: SourceDatabase, T: BindingTable<Vis = Visibility>> Asking<'a, D, T> {
-    /// What a module's scope binds in types, also in another map.
-    pub fn scope_type(&self, place: ModuleId, name: Name) -> Option<Item>
-        ensures { let q = question_in (D.oracle self.now.db.now) self.now in
-            let own = map_in (T.content self.now.table.now) self.now in
-            result ≡ scope_source q own place name Types }
-    {
-        if place.map == self.own.tree.map {
-            return self.table.binding(place, name, Namespace::Types);
-        }
-        match finished_map(self.db, place.map) {
-            Some(map) => map.table.binding(place, name, Namespace::Types),
-            None => None,
-        }
-    }
-
-    /// A builtin type. Blocks leave those to the maps around them.
-    pub fn builtin_type(&self, name: Name) -> Option<Item>
-        ensures { let q = question_in (D.oracle self.now.db.now) self.now in
-            let own = map_in (T.content self.now.table.now) self.now in
-            result ≡ builtin_source q own name Types }
-    {
-        if self.own.tree.map.block.is_some() {
-            return None;
-        }
-        match self.db.builtin_type(name) {
-            Some(number) => Some(public_item(Def::Builtin(number))),
-            None => None,
-        }
-    }
-
-    /// The root of another crate.
-    pub fn extern_type(&self, name: Name) -> Option<Item>
-        ensures { let q = question_in (D.oracle self.now.db.now) self.now in
-            result ≡ extern_source q name Types }
-    {
-        match self.local.extern_entry(name) {
-            Some(entry) => Some(Binding {
-                def: Def::Module(entry.root),
-                vis: Visibility::Public,
-                import: entry.by.map(ImportOrExternCrate::ExternCrate),
-            }),
-            None => None,
-        }
-    }
-
     /// What the prelude module binds in types.
     fn prelude_type(&self, name: Name) -> Option<Item>
         ensures { let q = question_in (D.oracle self.now.db.now) self.now in

@@ -1,21 +1,23 @@
-//! Where a path of one segment is looked up. A source is asked only for what those before it have
-//! not.
-ghost use Rattle.std.specs.Prelude.{◌≡◌, ◌++◌, option_map, true};
+//! Where names come from, and what a path of one segment means. A source is asked only for what
+//! those before it have not.
+ghost use Rattle.std.specs.Prelude.{◌≡◌, ◌++◌, option_and_then, option_map, true};
+ghost use Rattle.def_bindings.specs.declared.bindings.Namespace.TheVariants.{Types};
 ghost use Rattle.def_map.specs.Items.{is_fitting, is_2015 as is_edition_2015};
 ghost use Rattle.def_map.specs.Asking.{question_in, map_in};
 ghost use Rattle.def_map.specs.DefMaps.{view_of};
 ghost use Rattle.def_map.specs.PerNs.{per_namespace, kept_in};
-ghost use Rattle.def_map.specs.Sources.{finished_map as finished_map_of, found_in, with_source};
+ghost use Rattle.def_map.specs.Sources.{finished_map as finished_map_of, map_of_id};
+ghost use Rattle.def_map.specs.Sources.{found_in, with_source};
 ghost use Rattle.def_map.specs.Sources.{scope_source, textual_source, builtin_source, extern_source};
 ghost use Rattle.def_map.specs.Sources.{macro_use_source, prelude_source, scope_and_builtin, outer_sources};
 ghost use Rattle.def_map.specs.Sources.{plain_sources, root_sources, absolute_sources, relative_sources};
 
 use crate::def_map::DefMap;
 use crate::path_resolution::asked::Asked;
-use crate::per_ns::{MacroSubNs, PerNs, public_item};
+use crate::per_ns::{Item, MacroSubNs, PerNs, public_item};
 use crate::source_database::SourceDatabase;
-use def_bindings::{BindingTable, Namespace, Visibility};
-use def_ids::{Def, Edition, Interner, MapId, ModuleId};
+use def_bindings::{Binding, BindingTable, ImportOrExternCrate, Namespace, Visibility};
+use def_ids::{Def, Edition, Interner, MacroId, MapId, ModuleId};
 use def_modules::{LocalDefMap, MapData};
 use item_tree::Name;
 
@@ -98,14 +100,75 @@ impl<'a, D: SourceDatabase, T: BindingTable<Vis = Visibility>> Asking<'a, D, T> 
         }
     }
 
-    /// The last textual macro of the name.
+    /// What a module's scope binds in types, also in another map.
+    pub fn scope_type(&self, place: ModuleId, name: Name) -> Option<Item>
+        ensures { let q = question_in (D.oracle self.now.db.now) self.now in
+            let own = map_in (T.content self.now.table.now) self.now in
+            result ≡ scope_source q own place name Types }
+    {
+        if place.map == self.own.tree.map {
+            return self.table.binding(place, name, Namespace::Types);
+        }
+        match finished_map(self.db, place.map) {
+            Some(map) => map.table.binding(place, name, Namespace::Types),
+            None => None,
+        }
+    }
+
+    /// A builtin type. Blocks leave those to the maps around them.
+    pub fn builtin_type(&self, name: Name) -> Option<Item>
+        ensures { let q = question_in (D.oracle self.now.db.now) self.now in
+            let own = map_in (T.content self.now.table.now) self.now in
+            result ≡ builtin_source q own name Types }
+    {
+        if self.own.tree.map.block.is_some() {
+            return None;
+        }
+        match self.db.builtin_type(name) {
+            Some(number) => Some(public_item(Def::Builtin(number))),
+            None => None,
+        }
+    }
+
+    /// The root of another crate.
+    pub fn extern_type(&self, name: Name) -> Option<Item>
+        ensures { let q = question_in (D.oracle self.now.db.now) self.now in
+            result ≡ extern_source q name Types }
+    {
+        match self.local.extern_entry(name) {
+            Some(entry) => Some(Binding {
+                def: Def::Module(entry.root),
+                vis: Visibility::Public,
+                import: entry.by.map(ImportOrExternCrate::ExternCrate),
+            }),
+            None => None,
+        }
+    }
+
+    /// A module's last textual macro of a name, also in another map.
+    fn textual_macro(&self, place: ModuleId, name: Name) -> Option<MacroId>
+        ensures { let q = question_in (D.oracle self.now.db.now) self.now in
+            let own = map_in (T.content self.now.table.now) self.now in
+            result ≡ option_and_then (λ there. there.facts.textual_macro place name)
+            (map_of_id q.oracle own place.map) }
+    {
+        if place.map == self.own.tree.map {
+            return self.own.textual_macro(place, name);
+        }
+        match finished_map(self.db, place.map) {
+            Some(map) => map.data.textual_macro(place, name),
+            None => None,
+        }
+    }
+
+    /// The last textual macro of the name, if it fits.
     fn textual(&self, segment: Segment) -> PerNs
         ensures { let q = question_in (D.oracle self.now.db.now) self.now in
             let own = map_in (T.content self.now.table.now) self.now in
             let keep = is_fitting q.kind_of segment.sub in
-            result ≡ kept_in keep (per_namespace (textual_source own segment.place segment.name)) }
+            result ≡ kept_in keep (per_namespace (textual_source q own segment.place segment.name)) }
     {
-        match self.own.textual_macro(segment.place, segment.name) {
+        match self.textual_macro(segment.place, segment.name) {
             Some(id) => PerNs::of_macro(public_item(Def::Macro(id))).fitting(
                 self.session,
                 segment.sub,
@@ -125,6 +188,7 @@ impl<'a, D: SourceDatabase, T: BindingTable<Vis = Visibility>> Asking<'a, D, T> 
             return found;
         }
         match self.builtin_type(segment.name) {
+            // It is no macro, and fits.
             Some(item) => found.or(PerNs::of_type(item).fitting(self.session, segment.sub)),
             None => found,
         }
@@ -140,6 +204,7 @@ impl<'a, D: SourceDatabase, T: BindingTable<Vis = Visibility>> Asking<'a, D, T> 
             return found;
         }
         match self.extern_type(segment.name) {
+            // It is no macro, and fits.
             Some(item) => found.or(PerNs::of_type(item).fitting(self.session, segment.sub)),
             None => found,
         }

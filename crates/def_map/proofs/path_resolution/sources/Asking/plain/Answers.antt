@@ -11,7 +11,7 @@ returns g c =
     let q = question_in (g.D.SourceDatabase.oracle c.args.self.now.db.now) c.args.self.now in
     let own = map_in (g.T.BindingTable.content c.args.self.now.table.now) c.args.self.now in
     let keep = is_fitting q.kind_of c.args.segment.sub in
-    let textual = textual_source own c.args.segment.place in
+    let textual = textual_source q own c.args.segment.place in
     let first = with_source-last keep [] textual c.args.segment.name nothing c.textual-textual.result c.textual-textual.ensures refl in
     let inside = c.or_inside-inside.ensures (textual ∷ []) first in
     rw (← c.is_builtin_first-is_builtin_first.ensures)
