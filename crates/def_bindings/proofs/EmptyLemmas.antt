@@ -1,22 +1,23 @@
 -- Tables with nothing in them.
 use Rattle.std.proofs.Common.{◌≡◌, true, false, ◌||◌, cond, List, [], ◌∷◌, Some, None, refl, ap, ◌∙◌}
-use Rattle.std.specs.Prelude.{map}
+use Rattle.std.specs.Prelude.{map, option_and_then}
 use Rattle.std.specs.Map.{lookup}
 use Rattle.item_tree.specs.declared.name.Name.{Name}
 use Rattle.def_ids.specs.declared.ids.ModuleId.{ModuleId}
 use Rattle.def_bindings.specs.declared.bindings.Namespace.{Namespace}
 use Rattle.def_bindings.specs.declared.link.Link.{Link}
-use Rattle.def_bindings.specs.declared.place.Place.{Place}
+use Rattle.def_bindings.specs.declared.bound_name.BoundName.{BoundName}
 use Rattle.def_bindings.specs.declared.place.Placed.{Placed}
 use Rattle.def_bindings.specs.declared.numbered_table.NumberedTable.{NumberedTable}
-use Rattle.def_bindings.specs.Content.{empty, is_listed, is_bound}
+use Rattle.def_bindings.specs.Content.{empty, is_name, is_listed, is_bound}
 use Rattle.def_bindings.specs.IdLaws.{module-refl, name-refl, namespace-refl}
 use Rattle.def_bindings.specs.Link.{edge_of}
 use Rattle.def_bindings.specs.Lists.{lists_of}
-use Rattle.def_bindings.specs.Numbers.{own_entries}
+use Rattle.def_bindings.specs.Numbers.{own_entries, is_placed, placed_at}
 use Rattle.def_bindings.specs.NumberedTable.{content_of}
-use Rattle.def_bindings.specs.Places.{is_place, place, bindings_of}
-use Rattle.def_bindings.proofs.NumberedTableLemmas.{place-parts}
+use Rattle.def_bindings.specs.BoundName.{stands_for}
+use Rattle.def_bindings.specs.Places.{bindings_of}
+use Rattle.def_bindings.proofs.BoundNameLemmas.{stands-there}
 
 -- no values of any module, so none at all
 pub no_entries : {K W : Type 0} (es : List (Placed K × W)) → own_entries es ≡ (λ (m : ModuleId). []) → es ≡ []
@@ -29,16 +30,16 @@ no_entries {K} {W} (e ∷ es) h =
 pub no_own_entries : {K W : Type 0} (es : List (Placed K × W)) → es ≡ [] → own_entries es ≡ (λ (m : ModuleId). [])
 no_own_entries es h = rw h refl
 
--- no bindings of any place, so none at all
-pub no_places : {B : Type 0} (es : List (Place × B)) → ((m : ModuleId) (x : Name) (n : Namespace) → lookup (is_place (place m x n)) es ≡ None) → es ≡ []
+-- no bindings of any place, so no names at all
+pub no_places : {V : Type 0} (es : List (Placed Name × BoundName V)) → ((m : ModuleId) (x : Name) (n : Namespace) → option_and_then (λ s. stands_for s n) (lookup (is_placed is_name (placed_at m x)) es) ≡ None) → es ≡ []
 no_places [] h = refl
-no_places {B} (e ∷ es) h =
+no_places {V} (e ∷ es) h =
     let m = e.0.at in
-    let x = e.0.name in
-    let n = e.0.ns in
-    let same : is_place (place m x n) (place m x n) ≡ true = place-parts m x n m x n ∙ rw (module-refl m, name-refl x, namespace-refl n) refl in
-    let there : lookup (is_place (place m x n)) (e ∷ es) ≡ Some e.1 = ap (λ b. cond b (Some e.1) (lookup (is_place (place m x n)) es)) same in
-    cc (h m x n)
+    let x = e.0.key in
+    let same : is_placed is_name (placed_at m x) (placed_at m x) ≡ true = rw (module-refl m, name-refl x) refl in
+    let there : option_and_then (λ s. stands_for s e.1.ns) (lookup (is_placed is_name (placed_at m x)) (e ∷ es)) ≡ Some e.1.binding =
+    ap (λ b. option_and_then (λ s. stands_for s e.1.ns) (cond b (Some e.1) (lookup (is_placed is_name (placed_at m x)) es))) same ∙ stands-there e.1 in
+    cc (h m x e.1.ns)
 
 -- a list without names
 pub no_names : (names : List Name) → ((x : Name) → is_listed names x ≡ false) → names ≡ []
@@ -52,15 +53,15 @@ no_links (e ∷ es) h = cc
 
 module _ {V : Type 0} (t : NumberedTable V) where
   -- a table without content keeps nothing
-  pub empty_parts : content_of t ≡ empty → (t.places.entries ≡ []) × (own_entries t.unnamed.entries.entries ≡ (λ (m : ModuleId). [])) × (own_entries t.edges.entries.entries ≡ (λ (m : ModuleId). []))
+  pub empty_parts : content_of t ≡ empty → (t.bound.entries ≡ []) × (own_entries t.unnamed.entries.entries ≡ (λ (m : ModuleId). [])) × (own_entries t.edges.entries.entries ≡ (λ (m : ModuleId). []))
   empty_parts h = (
-    no_places t.places.entries (λ m x n. λ i. (h i).binding m x n),
+    no_places t.bound.entries (λ m x n. λ i. (h i).binding m x n),
     λ i. (h i).unnamed,
     λ i m. no_links (own_entries t.edges.entries.entries m) (λ j. (h j).edges m) i,
   )
 
   -- a table that keeps nothing has no content
-  pub empty_whole : t.places.entries ≡ [] → own_entries t.unnamed.entries.entries ≡ (λ (m : ModuleId). []) → own_entries t.edges.entries.entries ≡ (λ (m : ModuleId). []) → content_of t ≡ empty
+  pub empty_whole : t.bound.entries ≡ [] → own_entries t.unnamed.entries.entries ≡ (λ (m : ModuleId). []) → own_entries t.edges.entries.entries ≡ (λ (m : ModuleId). []) → content_of t ≡ empty
   empty_whole places unnamed edges = λ i. record {
     binding = bindings i;
     names = λ m. no_names (lists_of t.names m) (λ x. unlisted m x) i;
@@ -68,7 +69,7 @@ module _ {V : Type 0} (t : NumberedTable V) where
     edges = λ m. map edge_of (edges i m);
   }
     where
-      bindings : bindings_of t.places ≡ (λ (m : ModuleId) (x : Name) (n : Namespace). None)
+      bindings : bindings_of t.bound ≡ (λ (m : ModuleId) (x : Name) (n : Namespace). None)
       bindings = rw places refl
 
       unlisted : (m : ModuleId) (x : Name) → is_listed (lists_of t.names m) x ≡ false

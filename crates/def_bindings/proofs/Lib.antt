@@ -1,4 +1,5 @@
 pub mod ContentLemmas
+pub mod BoundNameLemmas
 pub mod ByModuleLemmas
 pub mod ResultLemmas
 pub mod LinkLemmas
@@ -11,5 +12,6 @@ pub mod PutsFacts
 pub mod VisibilityFacts
 pub mod ContentFacts
 pub mod EmptyLemmas
+pub mod BoundNameFacts
 pub mod NumbersFacts
 pub mod RowEntriesFacts

@@ -1,6 +1,8 @@
 -- Places that are equal or apart.
 use Rattle.std.proofs.Common.{◌≡◌, Bool, true, false, not, ◌&&◌, ◌||◌, cond, Option, Some, None, List, [], ◌∷◌, ◌++◌, refl, sym, ap, subst, ◌∙◌, inl, inr}
-use Rattle.std.specs.Prelude.{ℕ, is_some, map, option_map, slice_get}
+use Rattle.std.proofs.Common.{Result, Ok, Err}
+use Rattle.std.specs.declared.alloc.AllocError.{AllocError}
+use Rattle.std.specs.Prelude.{ℕ, OnOk, OnErr, is_some, map, option_map, option_and_then, slice_get}
 use Rattle.std.proofs.lemmas.Option.{slice_get-map}
 use Rattle.def_bindings.specs.declared.place.Placed.{Placed}
 use Rattle.std.specs.Map.{keys_of}
@@ -13,45 +15,114 @@ use Rattle.std.proofs.lemmas.Bool.{cases_Bool}
 use Rattle.def_ids.specs.declared.ids.ModuleId.{ModuleId}
 use Rattle.item_tree.specs.declared.name.Name.{Name}
 use Rattle.def_bindings.specs.declared.bindings.Namespace.{Namespace}
-use Rattle.def_bindings.specs.declared.place.Place.{Place}
+use Rattle.def_bindings.specs.declared.bound_name.BoundName.{BoundName}
 use Rattle.def_bindings.specs.declared.bindings.Binding.{Binding}
 use Rattle.def_bindings.specs.declared.bindings.EdgeTo.{EdgeTo}
 use Rattle.def_ids.specs.declared.ids.TraitId.{TraitId}
 use Rattle.def_bindings.specs.declared.link.Link.{Link}
 use Rattle.def_bindings.specs.declared.bindings.Namespace.TheVariants.{Types, Values, Macros}
 use Rattle.def_ids.specs.Ids.{is_same_module}
-use Rattle.def_bindings.specs.Content.{Content, is_name, is_namespace, bound_as, listed_as, is_bound, is_listed, with_name, without_name, if_listed, AreTied, replaced, empty}
-use Rattle.def_bindings.specs.Places.{is_place, place, bindings_of}
+use Rattle.def_bindings.specs.Content.{Content, is_name, is_namespace, bound_as, listed_as, is_bound, is_listed, with_name, without_name, AreTied, replaced, empty}
+use Rattle.def_bindings.specs.BoundName.{stands_for, with_namespace}
+use Rattle.def_bindings.specs.Numbers.{is_placed, placed_at}
+use Rattle.def_bindings.specs.Places.{name_of, bindings_of}
+use Rattle.def_bindings.proofs.BoundNameLemmas.{stands-there}
 use Rattle.def_bindings.proofs.ByModuleLemmas.{listed_as-same}
 use Rattle.def_bindings.specs.IdLaws.{both, cases_module, cases_name, module-refl, name-refl, name-sym, name-eq, namespace-eq, same_module_equal}
 
-pub place-parts : (m : ModuleId) (x : Name) (n : Namespace) (m' : ModuleId) (x' : Name) (n' : Namespace)
-    → is_place (place m x n) (place m' x' n') ≡ (is_same_module m m' && (is_name x x' && is_namespace n n'))
-place-parts m x Types m' x' Types = refl
-place-parts m x Types m' x' Values = refl
-place-parts m x Types m' x' Macros = refl
-place-parts m x Values m' x' Types = refl
-place-parts m x Values m' x' Values = refl
-place-parts m x Values m' x' Macros = refl
-place-parts m x Macros m' x' Types = refl
-place-parts m x Macros m' x' Values = refl
-place-parts m x Macros m' x' Macros = refl
+-- the names are the old ones but for one
+abbrev pub ChangesName : {B S : Type 0} → HashMap (Placed Name) B S → HashMap (Placed Name) B S → ModuleId → Name → Option B → Type 0
+ChangesName old new m x w = (q : Placed Name) → get (is_placed is_name) new q ≡ cond (is_placed is_name (placed_at m x) q) w (get (is_placed is_name) old q)
 
 -- a map with one place changed
-pub bindings-updated : {B S : Type 0} (old new : HashMap Place B S) (m : ModuleId) (x : Name) (n : Namespace) (w : Option B)
-    → ((q : Place) → get is_place new q ≡ cond (is_place (place m x n) q) w (get is_place old q))
+pub bindings-updated : {V S : Type 0} (old new : HashMap (Placed Name) (BoundName V) S) (m : ModuleId) (x : Name) (n : Namespace) (w : Option (Binding V)) (s : Option (BoundName V))
+    → ChangesName old new m x s
+    → (λ k. option_and_then (λ t. stands_for t k) s) ≡ with_namespace (λ k. bindings_of old m x k) n w
     → bindings_of new ≡ bound_as (bindings_of old) m x n w
-bindings-updated old new m x n w h = λ i m' x' n'. at m' x' n' i
+bindings-updated {V} old new m x n w s h now = λ i m' x' n'. at m' x' n' i
   where
-    at : (m' : ModuleId) (x' : Name) (n' : Namespace) → bindings_of new m' x' n' ≡ bound_as (bindings_of old) m x n w m' x' n'
-    at m' x' n' = h (place m' x' n') ∙ ap (λ b. cond b w (bindings_of old m' x' n')) (place-parts m x n m' x' n')
+    meaning : Option (BoundName V) → Namespace → Option (Binding V)
+    meaning o k = option_and_then (λ t. stands_for t k) o
 
-pub bindings-same : {B S : Type 0} (old new : HashMap Place B S) → new.entries ≡ old.entries → bindings_of new ≡ bindings_of old
+    at : (m' : ModuleId) (x' : Name) (n' : Namespace) → bindings_of new m' x' n' ≡ bound_as (bindings_of old) m x n w m' x' n'
+    at m' x' n' = ap (λ o. meaning o n') (h (placed_at m' x')) ∙ elim (cases_module m m') [
+      | inl e ↦ elim (cases_name x x') [
+        | inl f ↦ rw (e.1, f.1) (ap (λ g. g n') now ∙ ap (λ q. cond (is_namespace n n') w (bindings_of old q x n')) e.0 ∙ ap (λ y. cond (is_namespace n n') w (bindings_of old m' y n')) f.0)
+        | inr f ↦ rw (e.1, f) refl
+      ]
+      | inr e ↦ rw e refl
+    ]
+
+pub bindings-same : {V S : Type 0} (old new : HashMap (Placed Name) (BoundName V) S) → new.entries ≡ old.entries → bindings_of new ≡ bindings_of old
 bindings-same old new e = rw e refl
 
-pub cond-not : {A : Type 0} (b : Bool) (p q : A) → cond (not b) p q ≡ cond b q p
-cond-not true p q = refl
-cond-not false p q = refl
+-- a name that has nothing, written so
+pub bindings-absent : {V S : Type 0} (old : HashMap (Placed Name) (BoundName V) S) (m : ModuleId) (x : Name) (n : Namespace) → name_of old m x ≡ None → bindings_of old ≡ bound_as (bindings_of old) m x n None
+bindings-absent old m x n none = λ i m' x' n'. at m' x' n' i
+  where
+    at : (m' : ModuleId) (x' : Name) (n' : Namespace) → bindings_of old m' x' n' ≡ bound_as (bindings_of old) m x n None m' x' n'
+    at m' x' n' = elim (cases_module m m') [
+      | inl e ↦ elim (cases_name x x') [
+        | inl f ↦ let here : bindings_of old m' x' n' ≡ None = ap (λ q. bindings_of old q x' n') (sym e.0) ∙ ap (λ y. bindings_of old m y n') (sym f.0) ∙ ap (λ o. option_and_then (λ t. stands_for t n') o) none in
+            rw (e.1, f.1) (either (is_namespace n n') (bindings_of old m' x' n') here)
+        | inr f ↦ rw (e.1, f) refl
+      ]
+      | inr e ↦ rw e refl
+    ]
+      where
+        either : {B : Type 0} (b : Bool) (o : Option B) → o ≡ None → o ≡ cond b None o
+        either true o h = h
+        either false o h = refl
+
+module _ {V S : Type 0} (old new : HashMap (Placed Name) (BoundName V) S) (m : ModuleId) (x : Name) (was row : BoundName V) (there : name_of old m x ≡ Some was) (after : ChangesName old new m x (Some row)) where
+  -- a name that stands for something else in one namespace
+  pub bindings-written : (n : Namespace) (w : Option (Binding V)) → stands_for row ≡ with_namespace (stands_for was) n w → bindings_of new ≡ bound_as (bindings_of old) m x n w
+  bindings-written n w now = bindings-updated old new m x n w (Some row) after (now ∙ ap (λ o. with_namespace (λ k. option_and_then (λ t. stands_for t k) o) n w) (sym there))
+
+  -- a name written as it was
+  pub bindings-kept : row ≡ was → bindings_of new ≡ bindings_of old
+  bindings-kept same = λ i m' x' n'. at m' x' n' i
+    where
+      at : (m' : ModuleId) (x' : Name) (n' : Namespace) → bindings_of new m' x' n' ≡ bindings_of old m' x' n'
+      at m' x' n' = ap (λ o. option_and_then (λ t. stands_for t n') o) (after (placed_at m' x')) ∙ elim (cases_module m m') [
+        | inl e ↦ elim (cases_name x x') [
+          | inl f ↦ rw (e.1, f.1) (ap (λ o. option_and_then (λ t. stands_for t n') o) (ap Some same ∙ sym there ∙ ap (λ q. name_of old q x) e.0 ∙ ap (λ y. name_of old m' y) f.0))
+          | inr f ↦ rw (e.1, f) refl
+        ]
+        | inr e ↦ rw e refl
+      ]
+
+  -- a name that went with its last binding
+  pub bindings-gone : (left : HashMap (Placed Name) (BoundName V) S) (n : Namespace) → ChangesName new left m x None → with_namespace (stands_for was) n None ≡ (λ k. None)
+      → bindings_of left ≡ bound_as (bindings_of old) m x n None
+  bindings-gone left n removed none =
+      bindings-updated old left m x n None None (λ q. removed q ∙ ap (λ o. cond (is_placed is_name (placed_at m x) q) None o) (after q) ∙ twice (is_placed is_name (placed_at m x) q) (Some row) (get (is_placed is_name) old q))
+      (sym none ∙ ap (λ o. with_namespace (λ k. option_and_then (λ t. stands_for t k) o) n None) (sym there))
+    where
+      twice : {B : Type 0} (b : Bool) (o r : Option B) → cond b None (cond b o r) ≡ cond b None r
+      twice true o r = refl
+      twice false o r = refl
+
+-- a name that has something is bound, and no other
+pub bound-there : {V S : Type 0} (names : HashMap (Placed Name) (BoundName V) S) (m : ModuleId) (x : Name) (s : BoundName V) → name_of names m x ≡ Some s → is_bound (bindings_of names) m x ≡ true
+bound-there names m x s there = each (λ n. bindings_of names m x n) s.ns (ap is_some (ap (λ o. option_and_then (λ t. stands_for t s.ns) o) there ∙ stands-there s))
+  where
+    each : {B : Type 0} (f : Namespace → Option B) (n : Namespace) → is_some (f n) ≡ true → (is_some (f Types) || (is_some (f Values) || is_some (f Macros))) ≡ true
+    each f Types h = rw h refl
+    each f Values h = rw h (or-true (is_some (f Types)))
+      where
+        or-true : (b : Bool) → (b || true) ≡ true
+        or-true true = refl
+        or-true false = refl
+    each f Macros h = rw h (or-twice (is_some (f Types)) (is_some (f Values)))
+      where
+        or-twice : (a b : Bool) → (a || (b || true)) ≡ true
+        or-twice true b = refl
+        or-twice false true = refl
+        or-twice false false = refl
+
+pub bound-nowhere : {V S : Type 0} (names : HashMap (Placed Name) (BoundName V) S) (m : ModuleId) (x : Name) → name_of names m x ≡ None → is_bound (bindings_of names) m x ≡ false
+bound-nowhere names m x none = rw none refl
 
 listed-push : (ks : List Name) (x y : Name) → is_listed (ks ++ x ∷ []) y ≡ (is_listed ks y || is_name y x)
 listed-push [] x y = or-false (is_name y x)
@@ -134,10 +205,6 @@ with_name-apart ks x y f =
     or-none false = refl
 
 module _ {B : Type 0} (p : ModuleId → Name → Namespace → Option B) (l : ModuleId → List Name) (tied : AreTied p l) (m : ModuleId) (x : Name) (n : Namespace) where
-  -- a name that is bound for the first time goes last
-  pub names-set : if_listed (not (is_bound p m x)) (l m) x ≡ with_name (l m) x
-  names-set = cond-not (is_bound p m x) (l m ++ x ∷ []) (l m) ∙ ap (λ b. cond b (l m) (l m ++ x ∷ [])) (sym (tied m x))
-
   set_here : (b : B) (y : Name) → is_listed (listed_as l m (with_name (l m) x) m) y ≡ is_bound (bound_as p m x n (Some b)) m y
   set_here b y =
       ap (λ c. is_listed (cond c (with_name (l m) x) (l m)) y) (module-refl m) ∙
@@ -183,54 +250,42 @@ pub content-parts : {V : Type 0} (c : Content V) (p p' : ModuleId → Name → N
     → record c { binding = p; names = l } ≡ record c { binding = p'; names = l' }
 content-parts c p p' l l' e f = λ i. record c { binding = e i; names = f i }
 
--- a binding set where there was none, and taken out again
-taken_back : {B : Type 0} (p : ModuleId → Name → Namespace → Option B) (m : ModuleId) (x : Name) (n : Namespace) (b : B) → p m x n ≡ None → bound_as (bound_as p m x n (Some b)) m x n None ≡ p
-taken_back p m x n b none = λ i q y k. at q y k i
-  where
-    at : (q : ModuleId) (y : Name) (k : Namespace) → bound_as (bound_as p m x n (Some b)) m x n None q y k ≡ p q y k
-    at q y k =
-        elim (cases_Bool (is_same_module m q && (is_name x y && is_namespace n k))) [
-          | inl h ↦
-              let parts = both _ _ h in
-              let name = both _ _ parts.1 in
-              rw h (sym none ∙ ap (λ z. p z x n) (same_module_equal m q parts.0) ∙ ap (λ z. p q z n) (name-eq x y name.0) ∙ ap (λ z. p q y z) (namespace-eq n k name.1))
-          | inr h ↦ rw h refl
-        ]
+module _ {B : Type 0} (p p' : ModuleId → Name → Namespace → Option B) (l : ModuleId → List Name) (tied : AreTied p l) (m : ModuleId) (x : Name) (n : Namespace) where
+  -- a name bound for the first time: it goes last, and names and bindings stay tied
+  pub numbered-new : (b : B) (l' : ModuleId → List Name) → p' ≡ bound_as p m x n (Some b) → is_bound p m x ≡ false → l' ≡ listed_as l m (l m ++ x ∷ [])
+      → (l' ≡ listed_as l m (with_name (l m) x)) × AreTied p' l'
+  numbered-new b l' set new listed =
+      let names : l' ≡ listed_as l m (with_name (l m) x) = listed ∙ ap (λ c. listed_as l m (cond c (l m) (l m ++ x ∷ []))) (sym (tied m x ∙ new)) in
+      (names, tied-same _ _ _ _ set names (tied-set p l tied m x n b))
 
-module _ {B S : Type 0} (old set : HashMap Place B S) (l : ModuleId → List Name) (m : ModuleId) (x : Name) (n : Namespace) (b : B) (tied : AreTied (bindings_of old) l)
-    (written : (q : Place) → get is_place set q ≡ cond (is_place (place m x n) q) (Some b) (get is_place old q)) where
-  set_as : bindings_of set ≡ bound_as (bindings_of old) m x n (Some b)
-  set_as = bindings-updated old set m x n (Some b) written
+  -- a name bound once more: it keeps its place
+  pub numbered-known : (b : B) → p' ≡ bound_as p m x n (Some b) → is_bound p m x ≡ true → (l ≡ listed_as l m (with_name (l m) x)) × AreTied p' l
+  numbered-known b set known =
+      let names : l ≡ listed_as l m (with_name (l m) x) = sym (ap (λ c. listed_as l m (cond c (l m) (l m ++ x ∷ []))) (tied m x ∙ known) ∙ listed_as-same l m) in
+      (names, tied-same _ _ _ _ set names (tied-set p l tied m x n b))
 
-  -- a binding set where there was none: what it leaves, and that names and bindings stay tied
-  pub numbered-set : (l' : ModuleId → List Name) → bindings_of old m x n ≡ None
-      → (known : Bool) → known ≡ is_bound (bound_as (bindings_of set) m x n None) m x → l' ≡ listed_as l m (if_listed (not known) (l m) x)
-      → (bindings_of set ≡ bound_as (bindings_of old) m x n (Some b)) × (l' ≡ listed_as l m (with_name (l m) x)) × AreTied (bindings_of set) l'
-  numbered-set l' none known is listed =
-      let before : known ≡ is_bound (bindings_of old) m x = is ∙ ap (λ p. is_bound (bound_as p m x n None) m x) set_as ∙ ap (λ p. is_bound p m x) (taken_back (bindings_of old) m x n b none) in
-      let names : l' ≡ listed_as l m (with_name (l m) x) =
-      listed ∙ ap (λ k. listed_as l m (if_listed (not k) (l m) x)) before ∙ ap (λ ks. listed_as l m ks) (names-set (bindings_of old) l tied m x n) in
-      (set_as, names, tied-same _ _ _ _ set_as names (tied-set (bindings_of old) l tied m x n b))
+  -- a binding taken out: its name loses its place with the last one
+  pub numbered-left : (l' : ModuleId → List Name) (stays : Bool) → p' ≡ bound_as p m x n None → stays ≡ is_bound p' m x → l' ≡ listed_as l m (cond stays (l m) (without_name (l m) x))
+      → (l' ≡ listed_as l m (cond (is_bound (bound_as p m x n None) m x) (l m) (without_name (l m) x))) × AreTied p' l'
+  numbered-left l' stays left is listed =
+      let names = listed ∙ ap (λ c. listed_as l m (cond c (l m) (without_name (l m) x))) (is ∙ ap (λ f. is_bound f m x) left) in
+      (names, tied-same _ _ _ _ left names (tied-remove p l tied m x n))
 
-  -- the same binding taken out again
-  pub numbered-back : (back : HashMap Place B S) → bindings_of old m x n ≡ None
-      → ((q : Place) → get is_place back q ≡ cond (is_place (place m x n) q) None (get is_place set q)) → bindings_of back ≡ bindings_of old
-  numbered-back back none removed =
-      bindings-updated set back m x n None removed ∙ ap (λ p. bound_as p m x n None) set_as ∙ taken_back (bindings_of old) m x n b none
+-- a name that has nothing, bound once
+pub bindings-begun : {V S : Type 0} (old there new : HashMap (Placed Name) (BoundName V) S) (m : ModuleId) (x : Name) (n : Namespace) (b : Binding V) (row : BoundName V) → there.entries ≡ old.entries → name_of old m x ≡ None
+    → ChangesName there new m x (Some row) → stands_for row ≡ with_namespace (λ k. None) n (Some b) → bindings_of new ≡ bound_as (bindings_of old) m x n (Some b)
+bindings-begun old there new m x n b row same none after is =
+    let here : bindings_of there ≡ bindings_of old = bindings-same old there same in
+    bindings-updated there new m x n (Some b) (Some row) after
+    (is ∙ ap (λ o. with_namespace (λ k. option_and_then (λ t. stands_for t k) o) n (Some b)) (sym none) ∙ ap (λ f. with_namespace (f m x) n (Some b)) (sym here))
+    ∙ ap (λ f. bound_as f m x n (Some b)) here
 
--- a binding taken out
-pub numbered-remove : {B S : Type 0} (old new : HashMap Place B S) (l l' : ModuleId → List Name) (m : ModuleId) (x : Name) (n : Namespace)
-    → AreTied (bindings_of old) l
-    → ((q : Place) → get is_place new q ≡ cond (is_place (place m x n) q) None (get is_place old q))
-    → (known : Bool) → known ≡ is_bound (bound_as (bindings_of old) m x n None) m x → l' ≡ listed_as l m (cond known (l m) (without_name (l m) x))
-    → (bindings_of new ≡ bound_as (bindings_of old) m x n None)
-    × (l' ≡ listed_as l m (cond (is_bound (bound_as (bindings_of old) m x n None) m x) (l m) (without_name (l m) x)))
-    × AreTied (bindings_of new) l'
-numbered-remove old new l l' m x n tied written known is listed =
-    let bindings : bindings_of new ≡ bound_as (bindings_of old) m x n None = bindings-updated old new m x n None written in
-    let names : l' ≡ listed_as l m (cond (is_bound (bound_as (bindings_of old) m x n None) m x) (l m) (without_name (l m) x)) =
-    listed ∙ ap (λ k. listed_as l m (cond k (l m) (without_name (l m) x))) is in
-    (bindings, names, tied-same _ _ _ _ bindings names (tied-remove (bindings_of old) l tied m x n))
+-- a name that is bound once more, or as it was where that was refused
+pub tied-written : {V S : Type 0} (old new : HashMap (Placed Name) (BoundName V) S) (l : ModuleId → List Name) (m : ModuleId) (x : Name) (was row : BoundName V) → name_of old m x ≡ Some was → ChangesName old new m x (Some row)
+    → AreTied (bindings_of old) l → (n : Namespace) (b : Binding V) (r : Result Unit AllocError) → OnOk r (stands_for row ≡ with_namespace (stands_for was) n (Some b)) → OnErr r (row ≡ was) → AreTied (bindings_of new) l
+tied-written old new l m x was row there after tied n b (Ok done) set same =
+    (numbered-known (bindings_of old) (bindings_of new) l tied m x n b (bindings-written old new m x was row there after n (Some b) set) (bound-there old m x was there)).1
+tied-written old new l m x was row there after tied n b (Err e) set same = tied-same _ _ l l (bindings-kept old new m x was row there after same) refl tied
 
 -- names that stay are a list written as it was
 pub kept_names : (l : ModuleId → List Name) (m : ModuleId) (ks : List Name) (known : Bool) → known ≡ true → l ≡ listed_as l m (cond known (l m) ks)
@@ -239,34 +294,12 @@ kept_names l m ks known h = sym (listed_as-same l m) ∙ ap (λ b. listed_as l m
 pub left_names : (l l' : ModuleId → List Name) (m : ModuleId) (ks : List Name) (known : Bool) → known ≡ false → l' ≡ listed_as l m ks → l' ≡ listed_as l m (cond known (l m) ks)
 left_names l l' m ks known h e = e ∙ ap (λ b. listed_as l m (cond b (l m) ks)) (sym h)
 
-pub bindings-empty : {B S : Type 0} (new : HashMap Place B S) → new.entries ≡ [] → bindings_of new ≡ (λ m x n. None)
+pub bindings-empty : {V S : Type 0} (new : HashMap (Placed Name) (BoundName V) S) → new.entries ≡ [] → bindings_of new ≡ (λ m x n. None)
 bindings-empty new e = rw e refl
 
 pub content-none : {V : Type 0} (p : ModuleId → Name → Namespace → Option (Binding V)) (l : ModuleId → List Name) (u : ModuleId → List (TraitId × V)) (d : ModuleId → List (ModuleId × Link V))
     → p ≡ (λ m x n. None) → l ≡ (λ m. []) → u ≡ (λ m. []) → d ≡ (λ m. []) → record { binding = p; names = l; unnamed = u; edges = λ m. map edge_of (d m) } ≡ empty
 content-none p l u d e f g h = λ i. record { binding = e i; names = f i; unnamed = g i; edges = λ m. map edge_of (h i m) }
-
--- what is bound in a namespace is bound
-bound_there : {B : Type 0} (p : ModuleId → Name → Namespace → Option B) (m : ModuleId) (x : Name) (n : Namespace) → is_some (p m x n) ≡ true → is_bound p m x ≡ true
-bound_there p m x Types h = rw h refl
-bound_there p m x Values h = rw h (or-self (is_some (p m x Types)) true refl)
-bound_there p m x Macros h = rw h (or-self (is_some (p m x Types)) _ (or-self (is_some (p m x Values)) true refl))
-
--- a name that is bound keeps its place
-names-kept : {B : Type 0} (p : ModuleId → Name → Namespace → Option B) (l : ModuleId → List Name) → AreTied p l → (m : ModuleId) (x : Name) (n : Namespace) → is_some (p m x n) ≡ true
-    → listed_as l m (with_name (l m) x) ≡ l
-names-kept p l tied m x n there =
-    ap (λ b. listed_as l m (cond b (l m) (l m ++ x ∷ []))) (tied m x ∙ bound_there p m x n there) ∙ listed_as-same l m
-
--- a binding replaced: what it leaves, and that names and bindings stay tied
-pub numbered-reset : {B S : Type 0} (old new : HashMap Place B S) (l : ModuleId → List Name) (m : ModuleId) (x : Name) (n : Namespace) (b : B)
-    → AreTied (bindings_of old) l → is_some (bindings_of old m x n) ≡ true
-    → ((q : Place) → get is_place new q ≡ cond (is_place (place m x n) q) (Some b) (get is_place old q))
-    → (bindings_of new ≡ bound_as (bindings_of old) m x n (Some b)) × (l ≡ listed_as l m (with_name (l m) x)) × AreTied (bindings_of new) l
-numbered-reset old new l m x n b tied there written =
-    let bindings = bindings-updated old new m x n (Some b) written in
-    let names = sym (names-kept (bindings_of old) l tied m x n there) in
-    (bindings, names, tied-same (bound_as (bindings_of old) m x n (Some b)) (bindings_of new) (listed_as l m (with_name (l m) x)) l bindings names (tied-set (bindings_of old) l tied m x n b))
 
 -- edges by source, after one is set
 pub edges-set : {V : Type 0} (old new : ModuleId → List (ModuleId × Link V)) (m : ModuleId) (e : EdgeTo V) → IsDistinct is_same_module (keys_of (old m))

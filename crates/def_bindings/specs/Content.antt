@@ -120,7 +120,3 @@ AreTied binding names = (m : ModuleId) (x : Name) → is_listed (names m) x ≡ 
 -- what rows list, where a module without a row has nothing
 abbrev pub lists_by : {R A : Type 0} → (ModuleId → Option R) → (R → List A) → ModuleId → List A
 lists_by rows list m = option_map_or list (rows m) []
-
--- a list with one element more, or as it is
-abbrev pub if_listed : {A : Type 0} → Bool → List A → A → List A
-if_listed new xs x = cond new (xs ++ x ∷ []) xs

@@ -1,5 +1,7 @@
 pub mod Content
 pub mod Order
+pub mod Bindings
+pub mod BoundName
 pub mod Chains
 pub mod Tree
 pub mod IdLaws

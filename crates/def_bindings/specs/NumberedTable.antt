@@ -11,7 +11,7 @@ use Rattle.def_bindings.specs.Places.{bindings_of}
 
 abbrev pub content_of : {V : Type 0} → NumberedTable V → Content V
 content_of t = record {
-  binding = bindings_of t.places;
+  binding = bindings_of t.bound;
   names = lists_of t.names;
   unnamed = own_entries t.unnamed.entries.entries;
   edges = λ m. map edge_of (own_entries t.edges.entries.entries m);

@@ -1,19 +1,20 @@
 -- Bindings by place.
-use Rattle.std.specs.Prelude.{Bool, Option}
+use Rattle.std.specs.Prelude.{Bool, Option, option_and_then}
 use Rattle.indexmap.specs.IndexMap.{IndexMap, get}
 use Rattle.item_tree.specs.declared.name.Name.{Name}
 use Rattle.def_ids.specs.declared.ids.ModuleId.{ModuleId}
 use Rattle.def_bindings.specs.declared.bindings.Namespace.{Namespace}
-use Rattle.def_bindings.specs.declared.place.Place.{Place}
-use Rattle.def_bindings.specs.contracts.place.PlacePartialEq.TheImpl.{ghosts}
+use Rattle.def_bindings.specs.declared.bindings.Binding.{Binding}
+use Rattle.def_bindings.specs.declared.bound_name.BoundName.{BoundName}
+use Rattle.def_bindings.specs.declared.place.Placed.{Placed}
+use Rattle.def_bindings.specs.Content.{is_name}
+use Rattle.def_bindings.specs.BoundName.{stands_for}
+use Rattle.def_bindings.specs.Numbers.{is_placed, placed_at}
 
--- the comparison of places that the map uses
-abbrev pub is_place : Place → Place → Bool
-is_place a b = ghosts.eq a b
-
-abbrev pub place : ModuleId → Name → Namespace → Place
-place m x n = record { at = m; name = x; ns = n }
+-- what a name of a module stands for, where it has something
+abbrev pub name_of : {B S : Type 0} → IndexMap (Placed Name) B S → ModuleId → Name → Option B
+name_of names m x = get (is_placed is_name) names (placed_at m x)
 
 -- what a map has at each place
-abbrev pub bindings_of : {B S : Type 0} → IndexMap Place B S → ModuleId → Name → Namespace → Option B
-bindings_of places m x n = get is_place places (place m x n)
+abbrev pub bindings_of : {V S : Type 0} → IndexMap (Placed Name) (BoundName V) S → ModuleId → Name → Namespace → Option (Binding V)
+bindings_of names m x n = option_and_then (λ s. stands_for s n) (name_of names m x)

@@ -1,10 +1,11 @@
 //! Tables of bindings.
 ghost use Rattle.std.specs.Prelude.{◌≡◌, ◌<◌, ◌^◌, List, length, slice_get, OnOk, OnErr};
 ghost use Rattle.def_ids.specs.declared.ids.ModuleId.{ModuleId};
+ghost use Rattle.def_bindings.specs.Bindings.{shown};
 ghost use Rattle.def_bindings.specs.Content.{Content, with_binding, without_binding, with_unnamed, with_edge, vis_of, AreSources, AreTied};
 ghost use Rattle.def_bindings.specs.Puts.{edge_to};
 
-use crate::bindings::{Binding, EdgeTo, Namespace};
+use crate::bindings::{Binding, Bindings, EdgeTo, Namespace};
 use def_ids::{ModuleId, TraitId};
 use item_tree::Name;
 use std::alloc::AllocError;
@@ -20,6 +21,10 @@ pub trait BindingTable {
 
     fn binding(&self, module: ModuleId, name: Name, ns: Namespace) -> Option<Binding<Self::Vis>>
         ensures { result ≡ (content self.now).binding «module» name ns };
+
+    /// What a name stands for in each namespace, found by one look-up.
+    fn bindings(&self, module: ModuleId, name: Name) -> Bindings<'_, Self::Vis>
+        ensures { shown result ≡ (content self.now).binding «module» name };
 
     /// The name at this place of a module's names, in first-bound order.
     fn name_at(&self, module: ModuleId, index: usize) -> Option<Name>

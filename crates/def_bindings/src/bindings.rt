@@ -1,4 +1,6 @@
 //! What modules bind.
+ghost use Rattle.std.specs.Prelude.{◌≡◌, None};
+ghost use Rattle.def_bindings.specs.Bindings.{shown};
 
 use def_ids::{Def, ExternCrateId, GlobId, ImportId, ModuleId, TraitId};
 use item_tree::Name;
@@ -26,6 +28,27 @@ pub struct Binding<V> {
     pub def: Def,
     pub vis: V,
     pub import: Option<ImportOrExternCrate>,
+}
+
+/// What a name stands for in each namespace, where a table keeps it.
+#[derive(Clone, Copy)]
+pub struct Bindings<'a, V> {
+    pub types: Option<&'a Binding<V>>,
+    pub values: Option<&'a Binding<V>>,
+    pub macros: Option<&'a Binding<V>>,
+}
+
+impl<'a, V> Bindings<'a, V> {
+    /// Nothing in any namespace.
+    pub fn none() -> Self
+        ensures { shown result ≡ (λ n. None) }
+    {
+        Bindings {
+            types: None,
+            values: None,
+            macros: None,
+        }
+    }
 }
 
 /// What is put in a module. Without a name it is an unnamed trait in types.

@@ -3,6 +3,7 @@
 
 mod binding_table;
 mod bindings;
+mod bound_name;
 mod keyed;
 mod link;
 mod lists;
@@ -16,7 +17,7 @@ mod scope_table;
 mod visibility;
 
 pub use binding_table::BindingTable;
-pub use bindings::{Binding, EdgeTo, Entry, ImportOrExternCrate, Namespace, Slot};
+pub use bindings::{Binding, Bindings, EdgeTo, Entry, ImportOrExternCrate, Namespace, Slot};
 pub use module_tree::ModuleTree;
 pub use numbered_table::NumberedTable;
 pub use puts::{copy_along, fit, held_at, put_at, put_entry, settle, slot_of_entry, write};

@@ -2,7 +2,7 @@
 ghost use Rattle.std.specs.Prelude.{◌≡◌, ◌∷◌, [], ◌++◌, ◌<◌, ◌^◌, None, length, slice_get, OnOk, OnErr};
 ghost use Rattle.indexmap.specs.IndexMap.{get};
 ghost use Rattle.def_ids.specs.Ids.{is_same_module};
-ghost use Rattle.def_bindings.specs.Content.{listed_as, without_name, if_listed};
+ghost use Rattle.def_bindings.specs.Content.{listed_as, without_name};
 ghost use Rattle.def_bindings.specs.Lists.{lists_of};
 
 use def_ids::ModuleId;
@@ -65,16 +65,6 @@ impl<K: Copy> Lists<K> {
             }
             None => self.begin(module, item),
         }
-    }
-
-    /// Adds an element, if it is new.
-    pub fn push_if(&mut self, new: bool, module: ModuleId, item: K) -> Result<(), AllocError>
-        ensures done { OnOk result (lists_of self.new
-            ≡ listed_as (lists_of self.old) «module»
-            (if_listed new (lists_of self.old «module») item)) }
-        ensures refused { OnErr result (lists_of self.new ≡ lists_of self.old) }
-    {
-        if new { self.push(module, item) } else { Ok(()) }
     }
 }
 

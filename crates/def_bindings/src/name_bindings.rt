@@ -1,8 +1,9 @@
 //! The bindings of one name.
-ghost use Rattle.std.specs.Prelude.{◌≡◌};
+ghost use Rattle.std.specs.Prelude.{◌≡◌, Some, None, IfSome, IfNone, option_copied};
+ghost use Rattle.def_bindings.specs.Bindings.{shown};
 ghost use Rattle.def_bindings.specs.NameBindings.{bound_in, with_bound, unbound, is_unbound};
 
-use crate::bindings::{Binding, Namespace};
+use crate::bindings::{Binding, Bindings, Namespace};
 
 /// What one name stands for in each namespace.
 #[derive(Clone, Copy)]
@@ -25,13 +26,37 @@ impl<V: Copy> NameBindings<V> {
     }
 
     /// The binding in a namespace.
-    pub fn get(&self, ns: Namespace) -> Option<Binding<V>>
-        ensures { result ≡ bound_in self.now ns }
+    pub fn get(&self, ns: Namespace) -> Option<&Binding<V>>
+        ensures { option_copied result ≡ bound_in self.now ns }
     {
         match ns {
-            Namespace::Types => self.types,
-            Namespace::Values => self.values,
-            Namespace::Macros => self.macros,
+            Namespace::Types => self.types.as_ref(),
+            Namespace::Values => self.values.as_ref(),
+            Namespace::Macros => self.macros.as_ref(),
+        }
+    }
+
+    /// The bindings in all namespaces.
+    pub fn all(&self) -> Bindings<'_, V>
+        ensures { shown result ≡ bound_in self.now }
+    {
+        Bindings {
+            types: self.types.as_ref(),
+            values: self.values.as_ref(),
+            macros: self.macros.as_ref(),
+        }
+    }
+
+    /// The first binding, in types, values or macros, and its namespace.
+    pub fn first(&self) -> Option<(Namespace, Binding<V>)>
+        ensures some { IfSome result (λ first. bound_in self.now first.0 ≡ Some first.1) }
+        ensures none { IfNone result (bound_in self.now ≡ (λ n. None)) }
+    {
+        match (self.types, self.values, self.macros) {
+            (Some(types), _, _) => Some((Namespace::Types, types)),
+            (None, Some(values), _) => Some((Namespace::Values, values)),
+            (None, None, Some(macros)) => Some((Namespace::Macros, macros)),
+            (None, None, None) => None,
         }
     }
 

@@ -1,34 +1,37 @@
-//! A table that keeps all bindings in one numbered list.
-ghost use Rattle.std.specs.Prelude.{◌≡◌, ◌↔◌, IsTrue, None, is_some, OnOk, OnErr, IfOk};
+//! A table that keeps the names of all modules in one index.
+ghost use Rattle.std.specs.Prelude.{◌≡◌, ◌↔◌, IsTrue, None, OnOk, OnErr, IfOk};
 ghost use Rattle.def_bindings.specs.Content.{AreTied, bound_as, is_bound};
 ghost use Rattle.def_bindings.specs.Lists.{lists_of};
 ghost use Rattle.def_bindings.specs.Places.{bindings_of};
 
 use crate::binding_table::BindingTable;
-use crate::bindings::{Binding, EdgeTo, Namespace};
+use crate::bindings::{Binding, Bindings, EdgeTo, Namespace};
+use crate::bound_name::BoundName;
 use crate::keyed::Keyed;
 use crate::link::Link;
 use crate::lists::Lists;
-use crate::place::Place;
+use crate::place::Placed;
 use def_ids::{ModuleId, TraitId};
 use indexmap::IndexMap;
 use item_tree::Name;
 use std::alloc::{AllocError, Global};
 
-/// All bindings in one numbered list with one index over places, and so the unnamed traits and the
+/// What all names stand for in one index over modules and names, and so the unnamed traits and the
 /// edges; and the names of each module in first-bound order.
 pub struct NumberedTable<V> {
-    places: IndexMap<Place, Binding<V>>,
+    alloc: Global,
+    bound: IndexMap<Placed<Name>, BoundName<V>>,
     names: Lists<Name>,
     unnamed: Keyed<TraitId, V>,
     edges: Keyed<ModuleId, Link<V>>,
-    ghost tied: { AreTied (bindings_of places) (lists_of names) },
+    ghost tied: { AreTied (bindings_of bound) (lists_of names) },
 }
 
 impl<V: Drop> Drop for NumberedTable<V> {
     fn drop(self) {
         let NumberedTable {
-            places: _,
+            alloc: _,
+            bound: _,
             names: _,
             unnamed: _,
             edges: _,
@@ -36,46 +39,29 @@ impl<V: Drop> Drop for NumberedTable<V> {
     }
 }
 
-/// Whether a name has a binding in a namespace other than this one.
-fn is_bound_beside<V: Copy>(
-    places: &IndexMap<Place, Binding<V>>,
+/// Takes a binding out, and answers whether its name has another.
+fn take_out<V: Copy>(
+    names: &mut IndexMap<Placed<Name>, BoundName<V>>,
     module: ModuleId,
     name: Name,
     ns: Namespace,
 ) -> bool
-    ensures { result
-        ≡ is_bound (bound_as (bindings_of places.now) «module» name ns None) «module» name }
+    ensures bindings { bindings_of names.new
+        ≡ bound_as (bindings_of names.old) «module» name ns None }
+    ensures stays { result ≡ is_bound (bindings_of names.new) «module» name }
 {
-    match ns {
-        Namespace::Types => {
-            has(places, module, name, Namespace::Values)
-                || has(places, module, name, Namespace::Macros)
-        }
-        Namespace::Values => {
-            has(places, module, name, Namespace::Types)
-                || has(places, module, name, Namespace::Macros)
-        }
-        Namespace::Macros => {
-            has(places, module, name, Namespace::Types)
-                || has(places, module, name, Namespace::Values)
-        }
-    }
-}
-
-/// Whether there is a binding at a place.
-fn has<V: Copy>(
-    places: &IndexMap<Place, Binding<V>>,
-    module: ModuleId,
-    name: Name,
-    ns: Namespace,
-) -> bool
-    ensures { result ≡ is_some (bindings_of places.now «module» name ns) }
-{
-    places.contains_key(&Place {
+    let placed = Placed {
         at: module,
-        name,
-        ns,
-    })
+        key: name,
+    };
+    let Some(bound) = names.get_mut(&placed) else {
+        return false;
+    };
+    if bound.take(ns) {
+        return true;
+    }
+    let _ = names.swap_remove(&placed);
+    false
 }
 
 impl<V: Copy> NumberedTable<V> {
@@ -88,7 +74,8 @@ impl<V: Copy> NumberedTable<V> {
         ensures { IfOk result (λ table. content_of table ≡ empty) }
     {
         Ok(NumberedTable {
-            places: IndexMap::new(alloc),
+            alloc,
+            bound: IndexMap::new(alloc),
             names: Lists::new(alloc),
             unnamed: Keyed::new(alloc),
             edges: Keyed::new(alloc),
@@ -99,7 +86,7 @@ impl<V: Copy> NumberedTable<V> {
     pub fn is_empty(&self) -> bool
         ensures { IsTrue result ↔ (content_of self.now ≡ empty) }
     {
-        if !self.places.is_empty() {
+        if !self.bound.is_empty() {
             return false;
         }
         if !self.unnamed.is_empty() {
@@ -139,12 +126,24 @@ impl<V: Copy> BindingTable for NumberedTable<V> {
     ghost sources = { λ t. modules_of t.edges.entries.entries };
 
     fn binding(&self, module: ModuleId, name: Name, ns: Namespace) -> Option<Binding<V>> {
-        let place = Place {
+        match self.bound.get(&Placed {
             at: module,
-            name,
-            ns,
+            key: name,
+        }) {
+            Some(bound) => bound.get(ns).copied(),
+            None => None,
+        }
+    }
+
+    fn bindings(&self, module: ModuleId, name: Name) -> Bindings<'_, V> {
+        let placed = Placed {
+            at: module,
+            key: name,
         };
-        self.places.get(&place).copied()
+        let Some(bound) = self.bound.get(&placed) else {
+            return Bindings::none();
+        };
+        bound.all()
     }
 
     fn name_at(&self, module: ModuleId, index: usize) -> Option<Name> {
@@ -192,33 +191,22 @@ impl<V: Copy> BindingTable for NumberedTable<V> {
             ≡ with_binding (content_of self.old) «module» name ns binding) }
         ensures refused { OnErr result (content_of self.new ≡ content_of self.old) }
     {
-        let place = Place {
+        let alloc = self.alloc;
+        let placed = Placed {
             at: module,
-            name,
-            ns,
+            key: name,
         };
-        if self.places.insert(place, binding)?.is_some() {
-            return Ok(());
+        if let Some(bound) = self.bound.get_mut(&placed) {
+            return bound.set(alloc, ns, binding);
         }
-        let new = !is_bound_beside(&self.places, module, name, ns);
-        match self.names.push_if(new, module, name) {
-            Ok(()) => Ok(()),
-            Err(refused) => {
-                let _ = self.places.swap_remove(&place);
-                Err(refused)
-            }
-        }
+        self.bound.reserve(1)?;
+        self.names.push(module, name)?;
+        self.bound.insert(placed, BoundName::of(ns, binding))?;
+        Ok(())
     }
 
     fn remove(&mut self, module: ModuleId, name: Name, ns: Namespace) {
-        let place = Place {
-            at: module,
-            name,
-            ns,
-        };
-        let stays = is_bound_beside(&self.places, module, name, ns);
-        let _ = self.places.swap_remove(&place);
-        if !stays {
+        if !take_out(&mut self.bound, module, name, ns) {
             self.names.remove(module, name);
         }
     }

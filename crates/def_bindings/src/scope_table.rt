@@ -2,7 +2,7 @@
 ghost use Rattle.std.specs.Prelude.{◌≡◌, is_some, true, IfOk, OnOk, OnErr};
 
 use crate::binding_table::BindingTable;
-use crate::bindings::{Binding, EdgeTo, Namespace};
+use crate::bindings::{Binding, Bindings, EdgeTo, Namespace};
 use crate::row::Row;
 use def_ids::{ModuleId, TraitId};
 use indexmap::IndexMap;
@@ -62,6 +62,13 @@ impl<V: Copy> BindingTable for ScopeTable<V> {
     fn binding(&self, module: ModuleId, name: Name, ns: Namespace) -> Option<Binding<V>> {
         let row = self.rows.get(&module)?;
         row.binding(name, ns)
+    }
+
+    fn bindings(&self, module: ModuleId, name: Name) -> Bindings<'_, V> {
+        let Some(row) = self.rows.get(&module) else {
+            return Bindings::none();
+        };
+        row.all(name)
     }
 
     fn name_at(&self, module: ModuleId, index: usize) -> Option<Name> {

@@ -6,7 +6,7 @@ ghost use Rattle.def_modules.specs.ScopeMaps.{textual_of, derives_of, invoked_of
 
 use crate::per_ns::PerNs;
 use crate::table::Table;
-use def_bindings::{BindingTable, Namespace, Visibility};
+use def_bindings::{BindingTable, Visibility};
 use def_ids::{
     BuiltinDeriveImplId, ConstId, Def, ExternBlockId, ExternCrateId, ImplId, MacroId, ModuleId,
     TraitId,
@@ -29,10 +29,11 @@ impl<'a> ItemScope<'a> {
     pub fn get(&self, name: Name) -> PerNs
         ensures { result ≡ meaning (scope_content self.now) (place_of self.now) name }
     {
+        let found = self.table.bindings(self.place, name);
         PerNs {
-            types: self.table.binding(self.place, name, Namespace::Types),
-            values: self.table.binding(self.place, name, Namespace::Values),
-            macros: self.table.binding(self.place, name, Namespace::Macros),
+            types: found.types.copied(),
+            values: found.values.copied(),
+            macros: found.macros.copied(),
         }
     }
 

@@ -1,10 +1,11 @@
 //! What a glob brings of a module or an enum.
-ghost use Rattle.std.specs.Prelude.{◌≡◌, ◌++◌, IfOk, OnOk};
+ghost use Rattle.std.specs.Prelude.{◌≡◌, ◌++◌, Some, IfOk, OnOk, option_copied};
 ghost use Rattle.std.specs.List.{flat_map};
 ghost use Rattle.def_bindings.specs.ModuleTree.{chain_in};
 ghost use Rattle.def_bindings.specs.Visibility.{order_over};
 ghost use Rattle.def_map.specs.Answers.{variant_found};
-ghost use Rattle.def_rules.specs.Globs.{brought, glob_sees, name_entries, scope_entries, seen, unnamed_entry, variant_entries};
+ghost use Rattle.def_map.specs.PerNs.{kept};
+ghost use Rattle.def_rules.specs.Globs.{brought, glob_sees, name_entries, scope_entries, unnamed_entry, variant_entries};
 
 use crate::directive::is_public;
 use def_bindings::{
@@ -40,20 +41,26 @@ impl<'a, T: BindingTable<Vis = Visibility>> GlobScope<'a, T> {
         }
     }
 
-    /// What the module binds in a namespace, if the glob sees it.
-    fn seen(&self, name: Name, ns: Namespace) -> Option<Item>
-        ensures { result ≡ seen (order_over (chain_in self.now.order.now)) self.now.glob self.now.own (T.content self.now.table.now) self.now.source name ns }
+    /// Appends the entry of what the module binds in a namespace, if the glob sees it.
+    fn push_seen(
+        &self,
+        entries: &mut Vec<Entry<Visibility>>,
+        name: Name,
+        ns: Namespace,
+        item: Option<&Item>,
+    ) -> Result<(), AllocError>
+        ensures { OnOk result (let o = order_over (chain_in self.now.order.now) in
+            entries.new.items ≡ entries.old.items
+            ++ brought o self.now.glob name ns
+            (kept (λ item. glob_sees o self.now.own self.now.glob.importer item.vis) (option_copied item.entry))) }
     {
-        match self.table.binding(self.source, name, ns) {
-            Some(item) => {
-                if self.sees(item.vis) {
-                    Some(item)
-                } else {
-                    None
-                }
-            }
-            None => None,
+        let Some(item) = item else {
+            return Ok(());
+        };
+        if !self.sees(item.vis) {
+            return Ok(());
         }
+        push_item(entries, self.order, self.glob, name, ns, item)
     }
 
     /// Appends the entries of a name, in types, values and macros.
@@ -61,34 +68,10 @@ impl<'a, T: BindingTable<Vis = Visibility>> GlobScope<'a, T> {
         ensures { OnOk result (entries.new.items ≡ entries.old.items
             ++ name_entries (order_over (chain_in self.now.order.now)) self.now.glob self.now.own (T.content self.now.table.now) self.now.source name) }
     {
-        let types = self.seen(name, Namespace::Types);
-        let values = self.seen(name, Namespace::Values);
-        let macros = self.seen(name, Namespace::Macros);
-        push_brought(
-            entries,
-            self.order,
-            self.glob,
-            name,
-            Namespace::Types,
-            types,
-        )?;
-        push_brought(
-            entries,
-            self.order,
-            self.glob,
-            name,
-            Namespace::Values,
-            values,
-        )?;
-        push_brought(
-            entries,
-            self.order,
-            self.glob,
-            name,
-            Namespace::Macros,
-            macros,
-        )?;
-        Ok(())
+        let found = self.table.bindings(self.source, name);
+        self.push_seen(entries, name, Namespace::Types, found.types)?;
+        self.push_seen(entries, name, Namespace::Values, found.values)?;
+        self.push_seen(entries, name, Namespace::Macros, found.macros)
     }
 
     /// Appends the entry of an unnamed trait, if the glob sees it.
@@ -153,6 +136,28 @@ impl<'a, T: BindingTable<Vis = Visibility>> GlobScope<'a, T> {
     }
 }
 
+/// Appends the entry of what a glob brings in a namespace.
+fn push_item(
+    entries: &mut Vec<Entry<Visibility>>,
+    order: &ModuleTree,
+    glob: EdgeTo<Visibility>,
+    name: Name,
+    ns: Namespace,
+    item: &Item,
+) -> Result<(), AllocError>
+    ensures { OnOk result (entries.new.items ≡ entries.old.items
+        ++ brought (order_over (chain_in order.now)) glob name ns (Some item.now)) }
+{
+    entries.push(Entry {
+        name: Some(name),
+        ns,
+        def: item.def,
+        vis: lesser_or_import(order, item.vis, glob.vis),
+        origin: Some(ImportOrExternCrate::Glob(glob.glob)),
+    })?;
+    Ok(())
+}
+
 /// Appends the entry of what a glob brings in a namespace, if there is something.
 fn push_brought(
     entries: &mut Vec<Entry<Visibility>>,
@@ -165,17 +170,10 @@ fn push_brought(
     ensures { OnOk result (entries.new.items ≡ entries.old.items
         ++ brought (order_over (chain_in order.now)) glob name ns item) }
 {
-    let Some(item) = item else {
-        return Ok(());
-    };
-    entries.push(Entry {
-        name: Some(name),
-        ns,
-        def: item.def,
-        vis: lesser_or_import(order, item.vis, glob.vis),
-        origin: Some(ImportOrExternCrate::Glob(glob.glob)),
-    })?;
-    Ok(())
+    match item {
+        Some(item) => push_item(entries, order, glob, name, ns, &item),
+        None => Ok(()),
+    }
 }
 
 /// What a variant is in values, if it has a constructor.

@@ -66,10 +66,11 @@ pub fn finished_map<D: SourceDatabase>(db: &D, id: MapId) -> Option<&DefMap>
 fn bound<T: BindingTable<Vis = Visibility>>(table: &T, place: ModuleId, name: Name) -> PerNs
     ensures { result ≡ per_namespace ((T.content table.now).binding place name) }
 {
+    let found = table.bindings(place, name);
     PerNs {
-        types: table.binding(place, name, Namespace::Types),
-        values: table.binding(place, name, Namespace::Values),
-        macros: table.binding(place, name, Namespace::Macros),
+        types: found.types.copied(),
+        values: found.values.copied(),
+        macros: found.macros.copied(),
     }
 }
 

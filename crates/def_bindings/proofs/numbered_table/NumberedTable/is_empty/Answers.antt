@@ -19,6 +19,6 @@ returns g c =
     let t = c.args.self.now in
     let places : IsTrue c.is_empty.result = cc in
     let unnamed : IsTrue c.is_empty-2.result = cc in (
-      λ h. empty_whole t (nil_from_length t.places.entries (c.is_empty.ensures.0 places)) (c.is_empty-2.ensures.0 unnamed) (c.is_empty-3.ensures.0 h),
+      λ h. empty_whole t (nil_from_length t.bound.entries (c.is_empty.ensures.0 places)) (c.is_empty-2.ensures.0 unnamed) (c.is_empty-3.ensures.0 h),
       λ h. c.is_empty-3.ensures.1 (empty_parts t h).2,
     )

@@ -1,53 +1,56 @@
-use Rattle.std.proofs.Common.{sym, ap, ◌∙◌}
-use Rattle.std.specs.Prelude.{is_some}
+use Rattle.std.proofs.Common.{◌<◌, Some, None, [], ◌∷◌, ◌++◌, refl, ap, sym, ◌∙◌, arith}
+use Rattle.std.specs.HashMap.{spare}
 use Rattle.def_bindings.specs.Lists.{lists_of}
 use Rattle.def_bindings.specs.NumberedTable.{content_of}
-use Rattle.def_bindings.proofs.NumberedTableLemmas.{content-parts, numbered-set, numbered-back, numbered-reset, tied-same}
-use Rattle.def_bindings.proofs.ResultLemmas.{none_there}
+use Rattle.def_bindings.proofs.NumberedTableLemmas.{bindings-begun, bindings-written, bindings-kept, bindings-same, bound-there, bound-nowhere, content-parts, numbered-new, numbered-known, tied-same, tied-written}
+use Rattle.def_bindings.proofs.ResultLemmas.{OnOk_then, OnErr_then, at_ok, some_there}
 use Rattle.def_bindings.proofs.numbered_table.NumberedTableBindingTable.set.Goals as goal
 
-pub invariant_of-self-then-is_some : goal.invariant_of-self-then-is_some
-invariant_of-self-then-is_some g c =
+pub invariant_of-self : goal.invariant_of-self
+invariant_of-self g c =
     let t = c.args.self.now in
-    let there = ap is_some (sym c.in_ok-insert.ensures.old) ∙ sym c.is_some.ensures ∙ c.if-is_some.true in
-    let written = numbered-reset t.places c.insert.new.self (lists_of t.names) c.args.module c.args.name c.args.ns c.args.binding t.tied there c.in_ok-insert.ensures.updates.0 in
-    record { tied = written.2 }
+    let there = sym c.in-Some.ensures.value in
+    let after = ((c.get_mut.follows.holds c.set.new.self).3 (some_there there)).0 in
+    record { tied = tied-written t.bound (c.get_mut.follows.lender c.set.new.self) (lists_of t.names) c.args.module c.args.name c.in-Some.bound.now c.set.new.self there after t.tied c.args.ns c.args.binding c.set.result c.set.ensures.done c.set.ensures.refused }
 
-pub returns-then-is_some-clause-done : goal.returns-then-is_some-clause-done
-returns-then-is_some-clause-done g c =
+pub returns-in-Some-clause-done : goal.returns-in-Some-clause-done
+returns-in-Some-clause-done g c =
     let t = c.args.self.now in
-    let there = ap is_some (sym c.in_ok-insert.ensures.old) ∙ sym c.is_some.ensures ∙ c.if-is_some.true in
-    let written = numbered-reset t.places c.insert.new.self (lists_of t.names) c.args.module c.args.name c.args.ns c.args.binding t.tied there c.in_ok-insert.ensures.updates.0 in
-    content-parts (content_of t) _ _ _ _ written.0 written.1
+    let there = sym c.in-Some.ensures.value in
+    let after = ((c.get_mut.follows.holds c.set.new.self).3 (some_there there)).0 in
+    OnOk_then c.set.result c.set.ensures.done (λ set.
+    let bindings = bindings-written t.bound (c.get_mut.follows.lender c.set.new.self) c.args.module c.args.name c.in-Some.bound.now c.set.new.self there after c.args.ns (Some c.args.binding) set in
+    let names = numbered-known _ _ (lists_of t.names) t.tied c.args.module c.args.name c.args.ns c.args.binding bindings (bound-there t.bound c.args.module c.args.name c.in-Some.bound.now there) in
+    content-parts (content_of t) _ _ _ _ bindings names.0)
 
-pub invariant_of-self-in-Ok : goal.invariant_of-self-in-Ok
-invariant_of-self-in-Ok g c =
+pub returns-in-Some-clause-refused : goal.returns-in-Some-clause-refused
+returns-in-Some-clause-refused g c =
     let t = c.args.self.now in
-    let none = none_there (ap is_some (sym c.in_ok-insert.ensures.old) ∙ sym c.is_some.ensures ∙ c.if-is_some.false) in
-    let written = numbered-set t.places c.insert.new.self (lists_of t.names) c.args.module c.args.name c.args.ns c.args.binding t.tied c.in_ok-insert.ensures.updates.0
-    (lists_of c.push_if.new.self) none c.is_bound_beside-new.result c.is_bound_beside-new.ensures c.in-Ok.ensures.done in
-    record { tied = written.2 }
+    let there = sym c.in-Some.ensures.value in
+    let after = ((c.get_mut.follows.holds c.set.new.self).3 (some_there there)).0 in
+    OnErr_then c.set.result c.set.ensures.refused (λ same.
+    content-parts (content_of t) _ _ _ _ (bindings-kept t.bound (c.get_mut.follows.lender c.set.new.self) c.args.module c.args.name c.in-Some.bound.now c.set.new.self there after same) refl)
 
-pub returns-in-Ok-clause-done : goal.returns-in-Ok-clause-done
-returns-in-Ok-clause-done g c =
-    let t = c.args.self.now in
-    let none = none_there (ap is_some (sym c.in_ok-insert.ensures.old) ∙ sym c.is_some.ensures ∙ c.if-is_some.false) in
-    let written = numbered-set t.places c.insert.new.self (lists_of t.names) c.args.module c.args.name c.args.ns c.args.binding t.tied c.in_ok-insert.ensures.updates.0
-    (lists_of c.push_if.new.self) none c.is_bound_beside-new.result c.is_bound_beside-new.ensures c.in-Ok.ensures.done in
-    content-parts (content_of t) _ _ _ _ written.0 written.1
+pub invariant_of-self-in-Break-branch-2 : goal.invariant_of-self-in-Break-branch-2
+invariant_of-self-in-Break-branch-2 g c =
+    let same = c.in_ok-reserve.ensures.entries ∙ ap (λ r. r.entries) c.get_mut.follows.holds-at-none in
+    record { tied = tied-same _ _ _ _ (bindings-same c.args.self.now.bound c.reserve.new.self same) c.in_err-push.ensures.refused c.args.self.now.tied }
 
-pub invariant_of-self-in-Err : goal.invariant_of-self-in-Err
-invariant_of-self-in-Err g c =
+pub invariant_of-self-2 : goal.invariant_of-self-2
+invariant_of-self-2 g c =
     let t = c.args.self.now in
-    let none = none_there (ap is_some (sym c.in_ok-insert.ensures.old) ∙ sym c.is_some.ensures ∙ c.if-is_some.false) in
-    let back = numbered-back t.places c.insert.new.self (lists_of t.names) c.args.module c.args.name c.args.ns c.args.binding t.tied c.in_ok-insert.ensures.updates.0
-    c.swap_remove.new.self none c.swap_remove.ensures.updates.0 in
-    record { tied = tied-same _ _ _ _ back c.in-Err.ensures.refused t.tied }
+    let same = c.in_ok-reserve.ensures.entries ∙ ap (λ r. r.entries) c.get_mut.follows.holds-at-none in
+    let none = sym c.in_default.ensures.value in
+    let room : 0 < spare c.reserve.new.self = omega (arith, c.in_ok-reserve.ensures.ok) in
+    let updates = at_ok c.insert.result (c.insert.ensures.succeeds room) c.insert.ensures.updates in
+    let bindings = bindings-begun t.bound c.reserve.new.self c.insert.new.self c.args.module c.args.name c.args.ns c.args.binding c.of.result same none updates.0 c.of.ensures in
+    record { tied = (numbered-new _ _ (lists_of t.names) t.tied c.args.module c.args.name c.args.ns c.args.binding (lists_of c.push.new.self) bindings (bound-nowhere t.bound c.args.module c.args.name none) c.in_ok-push.ensures.done).1 }
 
-pub returns-in-Err-clause-refused : goal.returns-in-Err-clause-refused
-returns-in-Err-clause-refused g c =
+pub returns-clause-done : goal.returns-clause-done
+returns-clause-done g c =
     let t = c.args.self.now in
-    let none = none_there (ap is_some (sym c.in_ok-insert.ensures.old) ∙ sym c.is_some.ensures ∙ c.if-is_some.false) in
-    let back = numbered-back t.places c.insert.new.self (lists_of t.names) c.args.module c.args.name c.args.ns c.args.binding t.tied c.in_ok-insert.ensures.updates.0
-    c.swap_remove.new.self none c.swap_remove.ensures.updates.0 in
-    content-parts (content_of t) _ _ _ _ back c.in-Err.ensures.refused
+    let same = c.in_ok-reserve.ensures.entries ∙ ap (λ r. r.entries) c.get_mut.follows.holds-at-none in
+    let none = sym c.in_default.ensures.value in
+    let bindings = bindings-begun t.bound c.reserve.new.self c.insert.new.self c.args.module c.args.name c.args.ns c.args.binding c.of.result same none c.in_ok-insert.ensures.updates.0 c.of.ensures in
+    let names = numbered-new _ _ (lists_of t.names) t.tied c.args.module c.args.name c.args.ns c.args.binding (lists_of c.push.new.self) bindings (bound-nowhere t.bound c.args.module c.args.name none) c.in_ok-push.ensures.done in
+    content-parts (content_of t) _ _ _ _ bindings names.0
