@@ -22,7 +22,7 @@ pub trait BindingTable {
     fn binding(&self, module: ModuleId, name: Name, ns: Namespace) -> Option<Binding<Self::Vis>>
         ensures { result ≡ (content self.now).binding «module» name ns };
 
-    /// What a name stands for in each namespace, found by one look-up.
+    /// What a name stands for in each namespace, lent where the table keeps it.
     fn bindings(&self, module: ModuleId, name: Name) -> Bindings<'_, Self::Vis>
         ensures { shown result ≡ (content self.now).binding «module» name };
 

@@ -4,6 +4,7 @@ ghost use Rattle.indexmap.specs.IndexMap.{get};
 ghost use Rattle.def_map.specs.ItemScopes.{place_of, scope_content, scope_state, meaning, resolutions_from, unnamed_from};
 ghost use Rattle.def_modules.specs.ScopeMaps.{textual_of, derives_of, invoked_of};
 
+use crate::path_resolution::bound;
 use crate::per_ns::PerNs;
 use crate::table::Table;
 use def_bindings::{BindingTable, Visibility};
@@ -29,12 +30,7 @@ impl<'a> ItemScope<'a> {
     pub fn get(&self, name: Name) -> PerNs
         ensures { result ≡ meaning (scope_content self.now) (place_of self.now) name }
     {
-        let found = self.table.bindings(self.place, name);
-        PerNs {
-            types: found.types.copied(),
-            values: found.values.copied(),
-            macros: found.macros.copied(),
-        }
+        bound(self.table, self.place, name)
     }
 
     /// The names in the order in which they were first bound, with what they mean.

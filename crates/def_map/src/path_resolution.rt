@@ -26,6 +26,7 @@ use def_ids::{Def, Interner, ModuleId};
 use def_modules::{LocalDefMap, MapData};
 use item_tree::{ModPath, RawVisibility};
 use sources::Asking;
+pub(crate) use sources::bound;
 pub use sources::finished_map;
 
 /// What a path means, asked from a module of a map whose bindings stand in `table`. Of a

@@ -63,7 +63,11 @@ pub fn finished_map<D: SourceDatabase>(db: &D, id: MapId) -> Option<&DefMap>
 }
 
 /// What a table binds in each namespace.
-fn bound<T: BindingTable<Vis = Visibility>>(table: &T, place: ModuleId, name: Name) -> PerNs
+pub(crate) fn bound<T: BindingTable<Vis = Visibility>>(
+    table: &T,
+    place: ModuleId,
+    name: Name,
+) -> PerNs
     ensures { result ≡ per_namespace ((T.content table.now).binding place name) }
 {
     let found = table.bindings(place, name);
