@@ -40,11 +40,11 @@ coherent_mono o left_out target_of P Q c f coherent i name ns b g m here by know
       | inr p ↦ inr (p.0, (p.1.0, (p.1.1.0, p.1.1.1, p.1.1.2, p.1.1.3, f m p.1.0 (Named name ns) p.1.1.4)))
     ]
 
-in_reached : (changed : Bool) (x : Slot) (rest : List Slot) → changed ≡ true → Contains (cond changed (x ∷ []) [] ++ rest) x
+pub in_reached : (changed : Bool) (x : Slot) (rest : List Slot) → changed ≡ true → Contains (cond changed (x ∷ []) [] ++ rest) x
 in_reached true x rest h = first_in x rest
 in_reached false x rest h = cc
 
-passes_one : (P' : Pending) (s : ModuleId) (k : ℕ) (x : Slot) (xs : List Slot) (importer : ModuleId) (changed : Bool)
+pub passes_one : (P' : Pending) (s : ModuleId) (k : ℕ) (x : Slot) (xs : List Slot) (importer : ModuleId) (changed : Bool)
     → (changed ≡ true → (j : ℕ) → P' importer j x)
     → Passes (With P' s k (x ∷ xs)) (With P' s k xs) s k x importer changed
 passes_one P' s k x xs importer changed adds = record {
@@ -58,11 +58,11 @@ passes_one P' s k x xs importer changed adds = record {
   adds = λ h j. inl (adds h j);
 }
 
-nothing_more : (P' : Pending) (s : ModuleId) (k : ℕ) (m : ModuleId) (j : ℕ) (y : Slot) → With P' s k [] m j y → P' m j y
+pub nothing_more : (P' : Pending) (s : ModuleId) (k : ℕ) (m : ModuleId) (j : ℕ) (y : Slot) → With P' s k [] m j y → P' m j y
 nothing_more P' s k m j y p = elim p [ inl p' ↦ p' | inr q ↦ absurd (none_in y q.2) ]
 
 module _ {V : Type 0} (o : Order V) (left_out : ModuleId → Bool) (P' : Pending) (s : ModuleId) (k : ℕ) (e : EdgeTo V) where
-  at_after : (x : Slot) (c : Content V) → slice_get (c.edges s) k ≡ Some e → slice_get ((copied o s e x c).edges s) k ≡ Some e
+  pub at_after : (x : Slot) (c : Content V) → slice_get (c.edges s) k ≡ Some e → slice_get ((copied o s e x c).edges s) k ≡ Some e
   at_after x c at = ap (λ (f : ModuleId → List (EdgeTo _)). slice_get (f s) k) (edges_copied o s e x c) ∙ at
 
   pub closed_all : (xs : List Slot) (c : Content V) → slice_get (c.edges s) k ≡ Some e

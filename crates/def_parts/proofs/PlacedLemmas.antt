@@ -127,7 +127,7 @@ module _ {V : Type 0} (o : Order V) (left_out : ModuleId → Bool) (P : Pending)
               ]
         ]
 
-in_changed : (changed : Bool) (x : Slot) → changed ≡ true → Contains (cond changed (x ∷ []) []) x
+pub in_changed : (changed : Bool) (x : Slot) → changed ≡ true → Contains (cond changed (x ∷ []) []) x
 in_changed true x h = first_in x []
 in_changed false x h = cc
 
@@ -158,7 +158,7 @@ named_entry e name ns t m c h f =
     subst (λ k. (t ≡ m) ⊎ ((b : Binding _) × (held c t (Named name k) ≡ Some b) × (b.def ≡ e.def))) s.1 (f s.0)
 
 module _ {V : Type 0} (o : Order V) (left_out : ModuleId → Bool) (P : Pending) (m : ModuleId) where
-  closed_put : (x : Option Slot) (offer : Binding V) (c : Content V) → ((y : Slot) → Contains (changed_at o m x offer c) y → (j : ℕ) → P m j y)
+  pub closed_put : (x : Option Slot) (offer : Binding V) (c : Content V) → ((y : Slot) → Contains (changed_at o m x offer c) y → (j : ℕ) → P m j y)
       → ClosedBut o left_out P c → ClosedBut o left_out P (put_at o m x offer c)
   closed_put None offer c pends closed = closed
   closed_put (Some x) offer c pends closed =

@@ -1,6 +1,6 @@
 -- What an update keeps, by what its two parts ensure.
 use Rattle.std.proofs.Common.{◌≡◌, ℕ, Bool, true, false, cond, Option, Some, None, List, [], ◌∷◌, refl, sym, ap, ◌∙◌, subst, inl, inr, arith}
-use Rattle.std.specs.Prelude.{is_some, slice_get, Contains, option_to_list}
+use Rattle.std.specs.Prelude.{is_some, ◌&&◌, slice_get, Contains, option_to_list}
 use Rattle.std.proofs.lemmas.List.Elements.{Contains-append_left, Contains-append_right, Contains-append_cases}
 use Rattle.def_ids.specs.declared.ids.ModuleId.{ModuleId}
 use Rattle.def_ids.specs.declared.ids.GlobId.{GlobId}
@@ -10,16 +10,25 @@ use Rattle.def_bindings.specs.declared.bindings.EdgeTo.{EdgeTo}
 use Rattle.def_bindings.specs.declared.bindings.Entry.{Entry}
 use Rattle.def_bindings.specs.declared.bindings.Slot.{Slot}
 use Rattle.def_bindings.specs.declared.bindings.Slot.TheVariants.{Named}
-use Rattle.def_bindings.specs.Order.{Order}
+use Rattle.def_ids.specs.Ids.{is_same_module}
+use Rattle.def_bindings.specs.IdLaws.{same_module_equal}
+use Rattle.def_bindings.specs.Slots.{is_same_slot}
+use Rattle.def_bindings.specs.PutsLaws.{held_elsewhere-put_entry}
+use Rattle.std.proofs.lemmas.Bool.{cases_Bool}
+use Rattle.def_bindings.specs.Order.{Order, IsPartialOrder}
 use Rattle.def_bindings.specs.Content.{Content}
-use Rattle.def_bindings.specs.Puts.{put_entry, puts, slot_of, offered}
+use Rattle.def_bindings.specs.Puts.{held, put_entry, puts, slot_of, offered}
 use Rattle.def_bindings.specs.Closure.{IsClosed, IsCoherent}
-use Rattle.def_parts.specs.Waves.{Copies, none, more, def_at, slots_of, BeginsAt, LedOrHome, EntriesFollow, ListsAll, IsClosedTo, KeepsGlobs}
-use Rattle.def_parts.specs.RecordingLaws.{edges_updated, recorded_closed, globs_updated}
+use Rattle.def_parts.specs.Waves.{Copies, none, more, def_at, def_or, slots_of, BeginsAt, LedOrHome, EntriesFollow, ListsAll, IsClosedTo, KeepsGlobs}
+use Rattle.def_parts.specs.RecordingLaws.{bound_copies, edges_updated, recorded_closed, globs_updated}
 use Rattle.def_parts.specs.Pending.{changed_at, changed_by, carried_by, AllAt, ClosedBut, CoherentBut}
 use Rattle.def_parts.specs.ListLaws.{none_in}
 use Rattle.def_parts.specs.PuttingLaws.{edges_puts}
+use Rattle.def_parts.specs.Raised.{IsRaisedAt, KeepsDef, HasOneDef, KeepsRaised, RaisedBut, RaisesPending, RaisesTo}
+use Rattle.def_parts.proofs.RaisedEdgeLemmas.{raised_recorded}
 use Rattle.def_parts.proofs.WavingLemmas.{past_end}
+use Rattle.def_parts.proofs.RaisingLemmas.{held_or}
+use Rattle.def_parts.proofs.RaisedPutsLemmas.{raised_puts}
 use Rattle.def_parts.proofs.PlacedLemmas.{closed_puts, coherent_puts}
 
 changed_in : (changed : Bool) (x y : Slot) → Contains (cond changed (x ∷ []) []) y → Contains (x ∷ []) y
@@ -82,6 +91,59 @@ coherent_after o left_out target_of m list c follow led coherent =
       after.1,
     )
 
+-- what a list leaves raised where a place was raised
+pub raised_after : {V : Type 0} (o : Order V) → IsPartialOrder o.at_most → (left_out : ModuleId → Bool) (m : ModuleId) (list : List (Entry V)) (c : Content V) → IsClosed o left_out c
+    → (i : ModuleId) (y : Slot) → left_out i ≡ false → (i ≡ m → HasOneDef list y) → IsRaisedAt o c i y → RaisedBut o c (AllAt m (carried_by o m list c)) i y (puts o m list c)
+raised_after o laws left_out m list c closed i y left one risen keeps s k e b there g at to own seen here by same =
+    let after : RaisedBut o c (AllAt m (changed_by o m list c)) i y (puts o m list c) =
+    raised_puts o laws left_out c i y left (AllAt m (changed_by o m list c)) m list c (λ z h j. (refl, h)) (λ is. one (sym is)) (λ is f q at t h. inl h)
+    (λ s k e x b at left h seen. inl (closed s k e x b at left h seen))
+    (λ _ s k e b there g at to own seen here by same.
+    inl (risen s k e at to b there g own (ap (λ n. o.can_see n b.vis) to ∙ seen) (ap (λ n. held c n y) to ∙ here) by same)) in
+    elim (after keeps s k e b there g at to own seen here by same) [ inl flat ↦ inl flat | inr p ↦ inr (travels o m list c s k y e at p) ]
+
+-- a list leaves the places of other modules
+held_apart : {V : Type 0} (o : Order V) (m : ModuleId) (list : List (Entry V)) (c : Content V) (i : ModuleId) (y : Slot) → is_same_module m i ≡ false → held (puts o m list c) i y ≡ held c i y
+held_apart o m [] c i y apart = refl
+held_apart o m (e ∷ es) c i y apart =
+    held_apart o m es (put_entry o m e c) i y apart ∙ held_elsewhere-put_entry o m e c i y (λ x q. ap (λ b. b && is_same_slot x y) apart)
+
+-- after the puts a place of another module is as it was, and the wave leaves this module's definitions
+module _ {V : Type 0} (o : Order V) (m : ModuleId) (list : List (Entry V)) (c c2 : Content V) (xs : List Slot)
+    (copies : Copies o xs (def_at (puts o m list c) m) (puts o m list c) c2) (i : ModuleId) (y : Slot) (keeps : KeepsDef c c2 i y) where
+  home_same : m ≡ i → (b b2 : Binding V) → held (puts o m list c) i y ≡ Some b → held c2 i y ≡ Some b2 → b.def ≡ b2.def
+  home_same is b b2 h h2 =
+      elim (held_or o xs (def_at (puts o m list c) m) copies i y b2 h2) [
+        | inl was ↦ let twice : Some b ≡ Some b2 = sym h ∙ was in let same : b ≡ b2 = cc in ap (λ (z : Binding _). z.def) same
+        | inr def ↦ sym (def ∙ ap def_or (ap (λ n. held (puts o m list c) n y) is ∙ h))
+      ]
+
+  apart_same : is_same_module m i ≡ false → held (puts o m list c) i y ≡ held c i y
+  apart_same apart = held_apart o m list c i y apart
+
+  pub keeps_puts : KeepsDef c (puts o m list c) i y
+  keeps_puts a b ha hb =
+      elim (cases_Bool (is_same_module m i)) [
+        | inl same ↦
+            let b2 = bound_copies o xs (def_at (puts o m list c) m) copies i y (b, hb) in
+            keeps a b2.0 ha b2.1 ∙ sym (home_same (same_module_equal m i same) b b2.0 hb b2.1)
+        | inr apart ↦ let twice : Some a ≡ Some b = sym ha ∙ (sym (apart_same apart) ∙ hb) in let same : a ≡ b = cc in ap (λ (z : Binding _). z.def) same
+      ]
+
+  pub keeps_wave : KeepsDef (puts o m list c) c2 i y
+  keeps_wave b b2 hb hb2 =
+      elim (cases_Bool (is_same_module m i)) [
+        | inl same ↦ home_same (same_module_equal m i same) b b2 hb hb2
+        | inr apart ↦ keeps b b2 (sym (apart_same apart) ∙ hb) hb2
+      ]
+
+pub raised_updated : {V : Type 0} (o : Order V) → IsPartialOrder o.at_most → (m : ModuleId) (list : List (Entry V)) (c c2 : Content V)
+    → Copies o (carried_by o m list c) (def_at (puts o m list c) m) (puts o m list c) c2 → RaisesPending o m (carried_by o m list c) (puts o m list c) c2
+    → KeepsRaised o m list c c2
+raised_updated o laws m list c c2 copies spread left_out closed i y left keeps one risen =
+    spread left_out (closed_after o left_out m list c closed) i y left (keeps_wave o m list c c2 (carried_by o m list c) copies i y keeps)
+    (λ _. raised_after o laws left_out m list c closed i y left one risen (keeps_puts o m list c c2 (carried_by o m list c) copies i y keeps))
+
 pub begins_after_puts : {V : Type 0} (o : Order V) (target_of : GlobId → Option ModuleId) (m : ModuleId) (list : List (Entry V)) (c : Content V) → BeginsAt target_of c → BeginsAt target_of (puts o m list c)
 begins_after_puts o target_of m list c begins s k e t at known =
     begins s k e t (ap (λ (f : ModuleId → List (EdgeTo _)). slice_get (f s) k) (sym (edges_puts o m list c)) ∙ at) known
@@ -120,3 +182,14 @@ module _ {V : Type 0} (o : Order V) (m : ModuleId) (list : List (Entry V)) (c c1
 
   pub update_globs : Copies o xs (def_at c1 m) c1 c2 → KeepsGlobs m list c c2
   update_globs copies = globs_updated o m list (slots_of list) (def_at (puts o m list c) m) c c2 (update_copies copies)
+
+  pub update_raised : IsPartialOrder o.at_most → Copies o xs (def_at c1 m) c1 c2 → RaisesPending o m xs c1 c2 → KeepsRaised o m list c c2
+  update_raised laws copies spread =
+      raised_updated o laws m list c c2
+      (subst (λ ys. Copies o ys (def_at (puts o m list c) m) (puts o m list c) c2) parts.0 (subst (λ d. Copies o xs (def_at d m) d c2) parts.1 copies))
+      (subst (λ ys. RaisesPending o m ys (puts o m list c) c2) parts.0 (subst (λ d. RaisesPending o m xs d c2) parts.1 spread))
+
+  pub update_raises : IsPartialOrder o.at_most → Copies o xs (def_at c1 m) c1 c2 → RaisesTo o m list c c2
+  update_raises laws copies target edge y to all one keeps =
+      let now : Copies o xs (def_at (puts o m list c) m) (puts o m list c) c2 = subst (λ d. Copies o xs (def_at d m) d c2) parts.1 copies in
+      raised_recorded o laws m list c c2 xs now target edge y to all one (keeps_puts o m list c c2 xs now m y keeps)

@@ -1,5 +1,5 @@
 -- What a wave keeps from one step to the next.
-use Rattle.std.proofs.Common.{◌≡◌, ℕ, suc, ◌≤◌, zero, Bool, Option, Some, None, List, [], ◌∷◌, ◌++◌, length, refl, sym, ap, ◌∙◌, subst, inl, inr, ◌⊎◌, arith}
+use Rattle.std.proofs.Common.{◌≡◌, ℕ, suc, ◌≤◌, zero, Bool, false, Option, Some, None, List, [], ◌∷◌, ◌++◌, length, refl, sym, ap, ◌∙◌, subst, inl, inr, ◌⊎◌, arith}
 use Rattle.std.specs.Prelude.{slice_get, Contains}
 use Rattle.std.proofs.lemmas.List.Elements.{Contains-append_left, Contains-push, Contains-push_cases}
 use Rattle.std.proofs.lemmas.Bool.{cases_eq}
@@ -18,6 +18,8 @@ use Rattle.def_parts.specs.Waves.{Copies, none, BeginsAt, LedOrHome, def_at, def
 use Rattle.def_bindings.specs.Closure.{IsClosed, IsCoherent}
 use Rattle.def_parts.proofs.CoheringLemmas.{HasDefs}
 use Rattle.def_parts.specs.ListLaws.{none_in, first_in, only_in}
+use Rattle.def_parts.specs.Raised.{RaisedBut, RaisesPending}
+use Rattle.def_parts.proofs.RaisingLemmas.{held_or, raised_all, raised_mono}
 use Rattle.def_parts.proofs.StepsLemmas.{all_copied}
 use Rattle.def_parts.proofs.RoomLemmas.{HasVis, all_room}
 use Rattle.def_parts.proofs.SumsLemmas.{all_vis, in_held_vises}
@@ -42,6 +44,9 @@ pub record Wave {V : Type 0} (o : Order V) (home : ModuleId) (slots : List Slot)
   pub coherent : (left_out : ModuleId → Bool) (target_of : GlobId → Option ModuleId) → BeginsAt target_of c0 → LedOrHome left_out target_of home c0
       → CoherentBut o left_out target_of (AllAt home slots) c0
       → CoherentBut o left_out target_of (PendingIn frames) c × LedOrHome left_out target_of home c
+  -- what is not raised is pending in a frame
+  pub raised : (left_out : ModuleId → Bool) → ClosedBut o left_out (AllAt home slots) c0 → (importer : ModuleId) (slot : Slot) → left_out importer ≡ false
+      → RaisedBut o c0 (AllAt home slots) importer slot c0 → RaisedBut o c0 (PendingIn frames) importer slot c
 
 -- what a wave's step makes of the frames: the others stay, one goes on to its next edge, and what was reached is taken up
 pub record FramesAfter (rest new : List Frame) (s : ModuleId) (k : ℕ) (xs : List Slot) (importer : ModuleId) (r : List Slot) : Type 0 where
@@ -127,6 +132,11 @@ module _ {V : Type 0} (o : Order V) (height : ℕ) (lawful : IsLawful o height) 
             (λ source index edge target at' known. begins source index edge target (ap (λ (g : ModuleId → List (EdgeTo _)). slice_get (g source) index) (sym wave.edges) ∙ at') known)
             now.1 wave.home_defs sources inside (taken _ after)
             (coherent_mono o left_out target_of (PendingIn (rest ++ f ∷ [])) (With (PendingIn new) f.source f.next f.slots.items) c (still_pending _ after) now.0);
+        raised = λ left_out closed importer slot left start.
+            raised_all o lawful.is_order left_out c0 importer slot left (PendingIn new) f.source f.next e (def_at c0 home) f.slots.items c at
+            sources (held_or o slots (def_at c0 home) wave.copies) (taken _ after)
+            (closed_mono o left_out (PendingIn (rest ++ f ∷ [])) (With (PendingIn new) f.source f.next f.slots.items) c (still_pending _ after) (wave.closed left_out closed))
+            (raised_mono o c0 (PendingIn (rest ++ f ∷ [])) (With (PendingIn new) f.source f.next f.slots.items) importer slot c (still_pending _ after) (wave.raised left_out closed importer slot left start));
       }
 
 pub empty_in : {X : Type 0} (xs : List X) (x : X) → length xs ≡ 0 → Contains xs x → ⊥
@@ -154,6 +164,7 @@ wave_start o home slots sources c f at_home first all =
           Contains-append_left _ _ _ (in_held_vises c home slots y b has is);
       closed = λ left_out start. closed_mono o left_out (AllAt home slots) (PendingIn (f ∷ [])) c pending start;
       coherent = λ left_out target_of begins led start. (coherent_mono o left_out target_of (AllAt home slots) (PendingIn (f ∷ [])) c pending start, led);
+      raised = λ left_out closed importer slot left start. raised_mono o c (AllAt home slots) (PendingIn (f ∷ [])) importer slot c pending start;
     }
 
 -- where no frame is left, nothing is pending
@@ -174,6 +185,14 @@ wave_coherent o home slots vs c0 c frames over wave left_out target_of begins le
           elim (now.0 i name ns b g m here by known li lm) [ inl follows ↦ follows | inr p ↦ absurd (empty_in frames p.1.1.4.0 over p.1.1.4.1) ],
       now.1,
     )
+
+pub wave_raised : {V : Type 0} (o : Order V) (home : ModuleId) (slots : List Slot) (vs : List V) (c0 c : Content V) (frames : List Frame)
+    → length frames ≡ 0 → Wave o home slots vs c0 c frames → RaisesPending o home slots c0 c
+wave_raised o home slots vs c0 c frames over wave left_out closed importer slot left keeps start s k e at to b there g own seen here by same =
+    elim (wave.raised left_out closed importer slot left start keeps s k e b there g at to own (ap (λ n. o.can_see n b.vis) (sym to) ∙ seen) (ap (λ n. held c n slot) (sym to) ∙ here) by same) [
+      | inl flat ↦ flat
+      | inr p ↦ absurd (empty_in frames p.0 over p.1)
+    ]
 
 pub past_end : {X : Type 0} (xs : List X) (k j : ℕ) (x : X) → slice_get xs k ≡ None → k ≤ j → slice_get xs j ≡ Some x → ⊥
 past_end [] k j x h le at = cc
@@ -212,6 +231,8 @@ module _ {V : Type 0} (c : Content V) (rest : List Frame) (f : Frame) (ends : sl
               ],
           now.1,
         );
+    raised = λ left_out closed importer slot left start keeps s k e b there g at to own seen here by same.
+        elim (wave.raised left_out closed importer slot left start keeps s k e b there g at to own seen here by same) [ inl flat ↦ inl flat | inr p ↦ inr (still_without s k slot e at p) ];
   }
 
 -- a wave without slots is over as it begins
@@ -227,4 +248,5 @@ wave_still o home slots c empty =
       vises = λ h q. absurd (none_in h q);
       closed = λ left_out start. closed_mono o left_out (AllAt home slots) (PendingIn []) c pending start;
       coherent = λ left_out target_of begins led start. (coherent_mono o left_out target_of (AllAt home slots) (PendingIn []) c pending start, led);
+      raised = λ left_out closed importer slot left start. raised_mono o c (AllAt home slots) (PendingIn []) importer slot c pending start;
     }

@@ -7,11 +7,13 @@ use Rattle.def_ids.specs.declared.ids.GlobId.{GlobId}
 use Rattle.def_bindings.specs.declared.bindings.EdgeTo.{EdgeTo}
 use Rattle.def_bindings.specs.declared.bindings.Slot.{Slot}
 use Rattle.def_bindings.specs.declared.bindings.Slot.TheVariants.{Named, Unnamed}
-use Rattle.def_bindings.specs.Order.{Order}
+use Rattle.def_bindings.specs.declared.bindings.Binding.{Binding}
+use Rattle.def_bindings.specs.Order.{Order, rises_to}
 use Rattle.def_bindings.specs.Content.{Content, with_edge, replaced}
 use Rattle.def_ids.specs.Ids.{is_same_module}
-use Rattle.def_bindings.specs.Puts.{held, edge_to, joined}
+use Rattle.def_bindings.specs.Puts.{held, carried, edge_to, joined}
 use Rattle.def_bindings.specs.Closure.{IsClosed, IsCoherent}
+use Rattle.def_parts.specs.Raised.{IsRaisedAt, KeepsRaisedWith}
 use Rattle.def_parts.specs.Waves.{BeginsAt, IsClosedTo, Leads, AreSingle, AddsEdge}
 use Rattle.def_bindings.specs.IdLaws.{same_module_equal, same_module_itself}
 use Rattle.def_parts.specs.LedLaws.{found_importer}
@@ -75,6 +77,37 @@ module _ {V : Type 0} (o : Order V) (c c' : Content V) (s : ModuleId) (edge : Ed
 
   pub adding_coherent : (left_out : ModuleId → Bool) (target_of : GlobId → Option ModuleId) → IsCoherent o left_out target_of c → IsCoherent o left_out target_of c'
   adding_coherent left_out target_of coherent = subst (λ d. IsCoherent o left_out target_of d) (sym is) coherent
+
+  -- the joined edge has the visibility of one that raises nothing
+  by_joined : (t b : Binding V) → rises_to o t.vis (carried o edge b).vis ≡ false → (there : Option (EdgeTo V)) → ((f : EdgeTo V) → there ≡ Some f → rises_to o t.vis (carried o f b).vis ≡ false)
+      → rises_to o t.vis (carried o (joined o there edge) b).vis ≡ false
+  by_joined t b new None old = new
+  by_joined t b new (Some f) old =
+      elim (cases_Bool (rises_to o f.vis edge.vis)) [
+        | inl up ↦ rw up new
+        | inr down ↦ rw down (old f refl)
+      ]
+
+  pub adding_raised : KeepsRaisedWith o s edge c c'
+  adding_raised i y new old =
+      let to_edge = joined_importer o c s edge (edge_to (c.edges s) edge.importer) refl in
+      subst (λ d. IsRaisedAt o d i y) (sym is) (λ m k e at to b there g own seen here by same.
+      let own' : held c m y ≡ Some b = sym (held_with_edge c s (joined o (edge_to (c.edges s) edge.importer) edge) m y) ∙ own in
+      let here' : held c e.importer y ≡ Some there = sym (held_with_edge c s (joined o (edge_to (c.edges s) edge.importer) edge) e.importer y) ∙ here in
+      elim (in_with_edge c s (joined o (edge_to (c.edges s) edge.importer) edge) m k e at) [
+        | inl was ↦ old m k e was to b there g own' seen here' by same
+        | inr fresh ↦
+            let leads : e.importer ≡ edge.importer = ap (λ (n : EdgeTo _). n.importer) fresh.1 ∙ to_edge in
+            let own_s : held c s y ≡ Some b = ap (λ n. held c n y) fresh.0 ∙ own' in
+            let flat = by_joined there b
+            (new (sym leads ∙ to) b there g own_s (ap (λ n. o.can_see n b.vis) (sym leads) ∙ seen) (ap (λ n. held c n y) (sym leads) ∙ here') by same)
+            (edge_to (c.edges s) edge.importer)
+            (λ f at_f.
+            let found = found_importer (c.edges s) edge.importer f at_f in
+            let to_f : f.importer ≡ e.importer = found.0 ∙ sym leads in
+            old s found.1.0 f found.1.1 (to_f ∙ to) b there g own_s (ap (λ n. o.can_see n b.vis) to_f ∙ seen) (ap (λ n. held c n y) to_f ∙ here') by same) in
+            ap (λ (n : EdgeTo _). rises_to o there.vis (carried o n b).vis) fresh.1 ∙ flat
+      ])
 
   abbrev new_edge : EdgeTo V
   new_edge = joined o (edge_to (c.edges s) edge.importer) edge

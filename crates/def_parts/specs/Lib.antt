@@ -1,6 +1,8 @@
 pub mod Waves
 pub mod Globs
 pub mod Pending
+pub mod Raised
+pub mod RaisedLaws
 pub mod ListLaws
 pub mod SettlingLaws
 pub mod CopyingLaws

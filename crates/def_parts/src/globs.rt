@@ -4,6 +4,7 @@ ghost use Rattle.def_bindings.specs.Content.{without_binding};
 ghost use Rattle.def_bindings.specs.Puts.{joined};
 ghost use Rattle.def_parts.specs.Waves.{KeepsGlobs, AddsEdge};
 ghost use Rattle.def_parts.specs.Globs.{Updates, ClosesTo, KeepsClosed, KeepsCoherent, with_recorded, KeepsClosedWith, KeepsBegins, StaysCoherent};
+ghost use Rattle.def_parts.specs.Raised.{KeepsRaised, KeepsRaisedWith, RaisesTo};
 
 mod wave;
 
@@ -96,12 +97,18 @@ impl<T: BindingTable> Globs<T> {
         ensures closes { OnOk result
             (ClosesTo (O.order order.now) «module» list.now (T.content self.old)
             (T.content self.new)) }
+        ensures raises { OnOk result
+            (RaisesTo (O.order order.now) «module» list.now (T.content self.old)
+            (T.content self.new)) }
 
         // What stays.
         ensures closed { OnOk result
             (KeepsClosed (O.order order.now) (T.content self.old) (T.content self.new)) }
         ensures coherent { OnOk result
             (KeepsCoherent (O.order order.now) «module» list.now (T.content self.old)
+            (T.content self.new)) }
+        ensures raised { OnOk result
+            (KeepsRaised (O.order order.now) «module» list.now (T.content self.old)
             (T.content self.new)) }
         ensures globs { OnOk result
             (KeepsGlobs «module» list.now (T.content self.old) (T.content self.new)) }
@@ -135,6 +142,10 @@ impl<T: BindingTable> Globs<T> {
             (KeepsBegins source glob (T.content self.old) (T.content self.new)) }
         ensures coherent { OnOk result
             (StaysCoherent (O.order order.now) (T.content self.old) (T.content self.new)) }
+        ensures raised { OnOk result
+            (KeepsRaisedWith (O.order order.now) source
+            (record { importer = importer; vis = vis; glob = glob }) (T.content self.old)
+            (T.content self.new)) }
         ensures led { OnOk result
             (AddsEdge source importer glob (T.content self.old) (T.content self.new)) }
         ensures refused { OnErr result (T.content self.new ≡ T.content self.old) }

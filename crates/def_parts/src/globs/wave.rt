@@ -3,6 +3,7 @@ ghost use Rattle.std.specs.Prelude.{◌≡◌, IfOk, OnOk};
 ghost use Rattle.def_bindings.specs.Puts.{puts};
 ghost use Rattle.def_parts.specs.Waves.{Copies, def_at};
 ghost use Rattle.def_parts.specs.Pending.{copied_all, reached, carried_by, ClosesPending, MendsPending};
+ghost use Rattle.def_parts.specs.Raised.{RaisesPending};
 
 use def_bindings::{
     Binding, BindingTable, EdgeTo, Entry, Slot, VisOrder, copy_along, put_at, slot_of_entry,
@@ -87,6 +88,9 @@ pub fn spread<T: BindingTable, O: VisOrder<Vis = T::Vis>>(
         (T.content table.new)) }
     ensures coherent { OnOk result
         (MendsPending (O.order order.now) «module» slots.items (T.content table.old)
+        (T.content table.new)) }
+    ensures raised { OnOk result
+        (RaisesPending (O.order order.now) «module» slots.items (T.content table.old)
         (T.content table.new)) }
 {
     // Mostly there is no slot, and then there is nothing to keep a stack for.

@@ -1,4 +1,4 @@
-use Rattle.def_parts.specs.AddingLaws.{adding_closed, adding_begins, adding_coherent, adding_edge, added}
+use Rattle.def_parts.specs.AddingLaws.{adding_closed, adding_begins, adding_coherent, adding_raised, adding_edge, added}
 use Rattle.def_parts.proofs.globs.Globs.add_edge.Goals as goal
 
 pub returns-clause-edge : goal.returns-clause-edge
@@ -30,6 +30,13 @@ returns-clause-coherent g c =
 pub returns-clause-led : goal.returns-clause-led
 returns-clause-led g c =
     rw (← c.self.view_is) (adding_edge (g.O.VisOrder.order c.args.order.now) (g.T.BindingTable.content c.self.inside.table) (g.T.BindingTable.content c.set_edge.new.self) c.args.source
+    (record { importer = c.args.importer; vis = c.args.vis; glob = c.args.glob })
+    (added (g.O.VisOrder.order c.args.order.now) (g.T.BindingTable.content c.self.inside.table) (g.T.BindingTable.content c.set_edge.new.self) c.args.source
+    (record { importer = c.args.importer; vis = c.args.vis; glob = c.args.glob }) c.edge_to-there.result c.join-edge.result c.edge_to-there.ensures c.join-edge.ensures c.in_ok-set_edge.ensures.done))
+
+pub returns-clause-raised : goal.returns-clause-raised
+returns-clause-raised g c =
+    rw (← c.self.view_is) (adding_raised (g.O.VisOrder.order c.args.order.now) (g.T.BindingTable.content c.self.inside.table) (g.T.BindingTable.content c.set_edge.new.self) c.args.source
     (record { importer = c.args.importer; vis = c.args.vis; glob = c.args.glob })
     (added (g.O.VisOrder.order c.args.order.now) (g.T.BindingTable.content c.self.inside.table) (g.T.BindingTable.content c.set_edge.new.self) c.args.source
     (record { importer = c.args.importer; vis = c.args.vis; glob = c.args.glob }) c.edge_to-there.result c.join-edge.result c.edge_to-there.ensures c.join-edge.ensures c.in_ok-set_edge.ensures.done))

@@ -1,4 +1,4 @@
-use Rattle.def_parts.proofs.UpdateLemmas.{update_copies, update_closed, update_coherent, update_edges, update_recorded, update_globs}
+use Rattle.def_parts.proofs.UpdateLemmas.{update_copies, update_closed, update_coherent, update_edges, update_recorded, update_globs, update_raised, update_raises}
 use Rattle.def_parts.proofs.globs.Globs.update.Goals as goal
 
 pub returns-clause-updates : goal.returns-clause-updates
@@ -30,3 +30,15 @@ pub returns-clause-edges : goal.returns-clause-edges
 returns-clause-edges g c =
     rw (← c.self.view_is) (update_edges (g.O.VisOrder.order c.args.order.now) c.args.module c.args.list.now (g.T.BindingTable.content c.self.inside.table)
     (g.T.BindingTable.content c.put_list.new.table) (g.T.BindingTable.content c.spread.new.table) c.in_ok-changed.changed.items c.in_ok-changed.ensures c.in_ok-spread.ensures.copies)
+
+pub returns-clause-raised : goal.returns-clause-raised
+returns-clause-raised g c =
+    rw (← c.self.view_is) (update_raised (g.O.VisOrder.order c.args.order.now) c.args.module c.args.list.now (g.T.BindingTable.content c.self.inside.table)
+    (g.T.BindingTable.content c.put_list.new.table) (g.T.BindingTable.content c.spread.new.table) c.in_ok-changed.changed.items c.in_ok-changed.ensures
+    (g.met.O.VisOrder.lawful c.args.order.now).is_order c.in_ok-spread.ensures.copies c.in_ok-spread.ensures.raised)
+
+pub returns-clause-raises : goal.returns-clause-raises
+returns-clause-raises g c =
+    rw (← c.self.view_is) (update_raises (g.O.VisOrder.order c.args.order.now) c.args.module c.args.list.now (g.T.BindingTable.content c.self.inside.table)
+    (g.T.BindingTable.content c.put_list.new.table) (g.T.BindingTable.content c.spread.new.table) c.in_ok-changed.changed.items c.in_ok-changed.ensures
+    (g.met.O.VisOrder.lawful c.args.order.now).is_order c.in_ok-spread.ensures.copies)

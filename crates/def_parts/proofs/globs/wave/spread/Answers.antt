@@ -3,7 +3,7 @@ use Rattle.std.proofs.lemmas.Option.{slice_get_within}
 use Rattle.std.specs.Prelude.{vec_len}
 use Rattle.std.proofs.lemmas.Bool.{eqb-true, eq-eqb, false≢true}
 use Rattle.def_bindings.specs.declared.bindings.EdgeTo.{EdgeTo}
-use Rattle.def_parts.proofs.WavingLemmas.{wave_start, wave_closed, wave_coherent, wave_without, wave_still}
+use Rattle.def_parts.proofs.WavingLemmas.{wave_start, wave_closed, wave_coherent, wave_raised, wave_without, wave_still}
 use Rattle.def_parts.proofs.IterationLemmas.{iterate_on, iterate_reached, measure_on, measure_reached, some_slot}
 use Rattle.def_parts.proofs.MeasureLemmas.{measure_ends}
 use Rattle.def_parts.specs.Waves.{none}
@@ -79,6 +79,11 @@ returns-clause-coherent g c =
     let none : length c.frames.frames.items ≡ 0 = sym c.frames.frames.ok.0 ∙ c.in_default.ensures.cases.0 in
     wave_coherent _ _ _ _ _ _ c.frames.frames.items none c.frames.invariant
 
+pub returns-clause-raised : goal.returns-clause-raised
+returns-clause-raised g c =
+    let none : length c.frames.frames.items ≡ 0 = sym c.frames.frames.ok.0 ∙ c.in_default.ensures.cases.0 in
+    wave_raised _ _ _ _ _ _ c.frames.frames.items none c.frames.invariant
+
 pub returns-then-is_empty-clause-copies : goal.returns-then-is_empty-clause-copies
 returns-then-is_empty-clause-copies g c = none
 
@@ -91,3 +96,8 @@ pub returns-then-is_empty-clause-coherent : goal.returns-then-is_empty-clause-co
 returns-then-is_empty-clause-coherent g c =
     let empty : length c.args.slots.items ≡ 0 = sym c.args.slots.ok.0 ∙ eqb-true _ _ (sym c.if-is_empty.ensures) in
     wave_coherent _ _ _ _ _ _ [] refl (wave_still (g.O.VisOrder.order c.args.order.now) c.args.module c.args.slots.items (g.T.BindingTable.content c.args.table.now) empty)
+
+pub returns-then-is_empty-clause-raised : goal.returns-then-is_empty-clause-raised
+returns-then-is_empty-clause-raised g c =
+    let empty : length c.args.slots.items ≡ 0 = sym c.args.slots.ok.0 ∙ eqb-true _ _ (sym c.if-is_empty.ensures) in
+    wave_raised _ _ _ _ _ _ [] refl (wave_still (g.O.VisOrder.order c.args.order.now) c.args.module c.args.slots.items (g.T.BindingTable.content c.args.table.now) empty)
