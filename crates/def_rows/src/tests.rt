@@ -1,0 +1,11 @@
+//! What no contract says: tables, trees and directories at work, and worked rows over scripted crates.
+
+mod blocks;
+mod dependencies;
+mod directories;
+mod glob_imports;
+mod globs;
+mod prelude_imports;
+mod proc_macros;
+mod tables;
+mod trees;
