@@ -112,178 +112,176 @@ impl fmt::Display for FileText {
     }
 }
 
-/// Prints maps to a writer, with the names of a session.
-#[derive(Drop)]
-struct Printer<'a, 'b, W> {
-    session: &'a Interner,
-    out: &'b mut W,
+/// Prints a module, with its parent and its name.
+fn print_module<W: io::Write>(
+    session: &Interner,
+    map: &DefMap,
+    index: usize,
+    name: Option<Name>,
+    out: &mut W,
+) -> Result<(), Fault> {
+    let Some(parent) = map.parent(index) else {
+        writeln!(out, "module {index} - crate")?;
+        return Ok(());
+    };
+    let name = match name {
+        Some(name) => text_of(session, name),
+        None => "",
+    };
+    writeln!(out, "module {index} {parent} {name}")?;
+    Ok(())
 }
 
-impl<'a, 'b, W: io::Write> Printer<'a, 'b, W> {
-    fn module(&mut self, map: &DefMap, index: usize, name: Option<Name>) -> Result<(), Fault> {
-        let Some(parent) = map.parent(index) else {
-            writeln!(self.out, "module {index} - crate")?;
-            return Ok(());
-        };
-        let name = match name {
-            Some(name) => text_of(self.session, name),
-            None => "",
-        };
-        writeln!(self.out, "module {index} {parent} {name}")?;
-        Ok(())
-    }
+/// Prints what a name is bound to in a namespace of a module, if it is bound there.
+fn print_binding<W: io::Write>(
+    krate: Crate,
+    index: usize,
+    name: &str,
+    namespace: &str,
+    item: Option<Item>,
+    out: &mut W,
+) -> Result<(), Fault> {
+    let Some(item) = item else {
+        return Ok(());
+    };
+    let def = DefText {
+        krate,
+        def: item.def,
+    };
+    let vis = VisibilityText(item.vis);
+    let origin = OriginText(item.import);
+    writeln!(
+        out,
+        "binding {index} {name} {namespace} {def} {vis} {origin}"
+    )?;
+    Ok(())
+}
 
-    fn binding(
-        &mut self,
-        krate: Crate,
-        index: usize,
-        name: &str,
-        namespace: &str,
-        item: Option<Item>,
-    ) -> Result<(), Fault> {
-        if let Some(item) = item {
-            let def = DefText {
-                krate,
-                def: item.def,
-            };
-            let vis = VisibilityText(item.vis);
-            let origin = OriginText(item.import);
-            writeln!(
-                self.out,
-                "binding {index} {name} {namespace} {def} {vis} {origin}"
-            )?;
+/// Prints the bindings of a module, by the bytes of their names.
+fn print_bindings<W: io::Write>(
+    session: &Interner,
+    krate: Crate,
+    index: usize,
+    bindings: &[(Name, PerNs)],
+    out: &mut W,
+) -> Result<(), Fault> {
+    for (name, found) in bindings {
+        let name = text_of(session, *name);
+        print_binding(krate, index, name, "types", found.types, out)?;
+        print_binding(krate, index, name, "values", found.values, out)?;
+        print_binding(krate, index, name, "macros", found.macros, out)?;
+    }
+    Ok(())
+}
+
+/// Prints the traits that a module has without a name.
+fn print_traits<W: io::Write>(
+    index: usize,
+    traits: &[(TraitId, Visibility)],
+    out: &mut W,
+) -> Result<(), Fault> {
+    for (id, vis) in traits {
+        let number = id.0;
+        let vis = VisibilityText(*vis);
+        writeln!(out, "trait {index} trait:{number} {vis}")?;
+    }
+    Ok(())
+}
+
+/// Prints an edge of a glob.
+fn print_edge<W: io::Write>(edge: Edge, out: &mut W) -> Result<(), Fault> {
+    let source = edge.source.index;
+    let importer = edge.importer.index;
+    let vis = VisibilityText(edge.vis);
+    let use_id = edge.glob.use_id.0;
+    let idx = edge.glob.idx;
+    writeln!(out, "edge {source} {importer} {vis} {use_id}.{idx}")?;
+    Ok(())
+}
+
+fn print_diagnostic<W: io::Write>(diagnostic: &DefDiagnostic, out: &mut W) -> Result<(), Fault> {
+    let module = diagnostic.module.index;
+    let file = FileText(diagnostic.ast_id.file);
+    let item = diagnostic.ast_id.value.0;
+    match &diagnostic.kind {
+        DefDiagnosticKind::UnresolvedModule { candidates } => {
+            write!(out, "diag unresolved-module {module} {file}:{item} ")?;
+            print_candidates(candidates.as_slice(), out)?;
         }
-        Ok(())
-    }
-
-    /// The bindings of a module, by the bytes of their names.
-    fn bindings(
-        &mut self,
-        alloc: Global,
-        krate: Crate,
-        index: usize,
-        scope: &ItemScope<'_>,
-    ) -> Result<(), Fault> {
-        for (name, found) in &sorted(alloc, self.session, scope)? {
-            let name = text_of(self.session, *name);
-            self.binding(krate, index, name, "types", found.types)?;
-            self.binding(krate, index, name, "values", found.values)?;
-            self.binding(krate, index, name, "macros", found.macros)?;
+        DefDiagnosticKind::UnresolvedExternCrate => {
+            writeln!(out, "diag unresolved-extern-crate {module} {file}:{item}")?;
         }
-        Ok(())
-    }
-
-    /// The traits that a module has without a name, by their numbers.
-    fn unnamed_traits(
-        &mut self,
-        alloc: Global,
-        index: usize,
-        scope: &ItemScope<'_>,
-    ) -> Result<(), Fault> {
-        for (id, vis) in &sorted_traits(alloc, scope)? {
-            let number = id.0;
-            let vis = VisibilityText(*vis);
-            writeln!(self.out, "trait {index} trait:{number} {vis}")?;
+        DefDiagnosticKind::UnconfiguredCode { cfg } => {
+            let cfg = cfg.0;
+            writeln!(out, "diag unconfigured {module} {file}:{item} {cfg}")?;
         }
-        Ok(())
-    }
-
-    /// An edge of a glob.
-    fn edge(&mut self, edge: &Edge) -> Result<(), Fault> {
-        let source = edge.source.index;
-        let importer = edge.importer.index;
-        let vis = VisibilityText(edge.vis);
-        let use_id = edge.glob.use_id.0;
-        let idx = edge.glob.idx;
-        writeln!(self.out, "edge {source} {importer} {vis} {use_id}.{idx}")?;
-        Ok(())
-    }
-
-    fn diagnostic(&mut self, diagnostic: &DefDiagnostic) -> Result<(), Fault> {
-        let module = diagnostic.module.index;
-        let file = FileText(diagnostic.ast_id.file);
-        let item = diagnostic.ast_id.value.0;
-        match &diagnostic.kind {
-            DefDiagnosticKind::UnresolvedModule { candidates } => {
-                write!(self.out, "diag unresolved-module {module} {file}:{item} ")?;
-                self.candidates(candidates.as_slice())?;
-            }
-            DefDiagnosticKind::UnresolvedExternCrate => {
-                writeln!(
-                    self.out,
-                    "diag unresolved-extern-crate {module} {file}:{item}"
-                )?;
-            }
-            DefDiagnosticKind::UnconfiguredCode { cfg } => {
-                let cfg = cfg.0;
-                writeln!(self.out, "diag unconfigured {module} {file}:{item} {cfg}")?;
-            }
-            DefDiagnosticKind::UnresolvedImport { index } => {
-                writeln!(
-                    self.out,
-                    "diag unresolved-import {module} {file}:{item} {index}"
-                )?;
-            }
+        DefDiagnosticKind::UnresolvedImport { index } => {
+            writeln!(out, "diag unresolved-import {module} {file}:{item} {index}")?;
         }
-        Ok(())
     }
+    Ok(())
+}
 
-    /// The files that were looked for.
-    fn candidates(&mut self, candidates: &[Text]) -> Result<(), Fault> {
-        let mut is_due = false;
-        for candidate in candidates {
-            if is_due {
-                write!(self.out, ",")?;
-            }
-            let candidate = candidate.as_str();
-            write!(self.out, "{candidate}")?;
-            is_due = true;
+/// Prints the files that were looked for, and ends the line.
+fn print_candidates<W: io::Write>(candidates: &[Text], out: &mut W) -> Result<(), Fault> {
+    let mut is_due = false;
+    for candidate in candidates {
+        if is_due {
+            write!(out, ",")?;
         }
-        writeln!(self.out)?;
-        Ok(())
+        let candidate = candidate.as_str();
+        write!(out, "{candidate}")?;
+        is_due = true;
     }
+    writeln!(out)?;
+    Ok(())
+}
 
-    /// The word or words with which a path begins, if any. Answers whether a separator is due.
-    fn path_start(&mut self, kind: PathKind) -> Result<bool, Fault> {
-        match kind {
-            PathKind::Plain => return Ok(false),
-            PathKind::Abs => {}
-            PathKind::Crate => write!(self.out, "crate")?,
-            PathKind::Super(0) => write!(self.out, "self")?,
-            PathKind::Super(levels) => {
-                write!(self.out, "super")?;
-                for _ in 1..levels {
-                    write!(self.out, "::super")?;
-                }
-            }
-            PathKind::DollarCrate(krate) => {
-                let number = krate.0;
-                write!(self.out, "${number}")?;
+/// Prints the word or words with which a path begins, if any. Answers whether a separator is due.
+fn print_path_start<W: io::Write>(kind: PathKind, out: &mut W) -> Result<bool, Fault> {
+    match kind {
+        PathKind::Plain => return Ok(false),
+        PathKind::Abs => {}
+        PathKind::Crate => write!(out, "crate")?,
+        PathKind::Super(0) => write!(out, "self")?,
+        PathKind::Super(levels) => {
+            write!(out, "super")?;
+            for _ in 1..levels {
+                write!(out, "::super")?;
             }
         }
-        Ok(true)
-    }
-
-    fn path(&mut self, path: &ModPath) -> Result<(), Fault> {
-        let mut is_due = self.path_start(path.kind)?;
-        for segment in &path.segments {
-            if is_due {
-                write!(self.out, "::")?;
-            }
-            let segment = text_of(self.session, *segment);
-            write!(self.out, "{segment}")?;
-            is_due = true;
+        PathKind::DollarCrate(krate) => {
+            let number = krate.0;
+            write!(out, "${number}")?;
         }
-        Ok(())
     }
+    Ok(true)
+}
 
-    fn left_import(&mut self, import: &LeftImport) -> Result<(), Fault> {
-        let module = import.module.index;
-        write!(self.out, "left import {module} ")?;
-        self.path(&import.path)?;
-        writeln!(self.out)?;
-        Ok(())
+fn print_path<W: io::Write>(session: &Interner, path: &ModPath, out: &mut W) -> Result<(), Fault> {
+    let mut is_due = print_path_start(path.kind, out)?;
+    for segment in &path.segments {
+        if is_due {
+            write!(out, "::")?;
+        }
+        let segment = text_of(session, *segment);
+        write!(out, "{segment}")?;
+        is_due = true;
     }
+    Ok(())
+}
+
+/// Prints an import that the run left over.
+fn print_left_import<W: io::Write>(
+    session: &Interner,
+    import: &LeftImport,
+    out: &mut W,
+) -> Result<(), Fault> {
+    let module = import.module.index;
+    write!(out, "left import {module} ")?;
+    print_path(session, &import.path, out)?;
+    writeln!(out)?;
+    Ok(())
 }
 
 /// What a scope binds, by the bytes of the names.
@@ -325,6 +323,32 @@ fn sorted_edges(alloc: Global, edges: &[Edge]) -> Result<Vec<Edge>, AllocError> 
     Ok(found)
 }
 
+/// Prints the modules of a map, and what their scopes bind.
+fn print_map<W: io::Write>(
+    alloc: Global,
+    session: &Interner,
+    map: &DefMap,
+    out: &mut W,
+) -> Result<(), Fault> {
+    let krate = map.id().krate;
+    for (index, module) in map.modules().iter().enumerate() {
+        print_module(session, map, index, module.name, out)?;
+    }
+    for index in 0..map.modules().len() {
+        if let Some(scope) = map.scope(index) {
+            let bindings = sorted(alloc, session, &scope)?;
+            print_bindings(session, krate, index, bindings.as_slice(), out)?;
+        }
+    }
+    for index in 0..map.modules().len() {
+        if let Some(scope) = map.scope(index) {
+            let traits = sorted_traits(alloc, &scope)?;
+            print_traits(index, traits.as_slice(), out)?;
+        }
+    }
+    Ok(())
+}
+
 /// Prints a map, the diagnostics of its run, and what the run left over.
 pub fn print<W: io::Write>(
     alloc: Global,
@@ -332,30 +356,15 @@ pub fn print<W: io::Write>(
     collected: &Collected,
     out: &mut W,
 ) -> Result<(), Fault> {
-    let map = &collected.def_map;
-    let krate = map.id().krate;
-    let mut printer = Printer { session, out };
-    for (index, module) in map.modules().iter().enumerate() {
-        printer.module(map, index, module.name)?;
-    }
-    for index in 0..map.modules().len() {
-        if let Some(scope) = map.scope(index) {
-            printer.bindings(alloc, krate, index, &scope)?;
-        }
-    }
-    for index in 0..map.modules().len() {
-        if let Some(scope) = map.scope(index) {
-            printer.unnamed_traits(alloc, index, &scope)?;
-        }
-    }
+    print_map(alloc, session, &collected.def_map, out)?;
     for edge in &sorted_edges(alloc, collected.outcome.edges.as_slice())? {
-        printer.edge(edge)?;
+        print_edge(*edge, out)?;
     }
     for diagnostic in &collected.diagnostics {
-        printer.diagnostic(diagnostic)?;
+        print_diagnostic(diagnostic, out)?;
     }
     for import in &collected.outcome.imports {
-        printer.left_import(import)?;
+        print_left_import(session, import, out)?;
     }
     Ok(())
 }
