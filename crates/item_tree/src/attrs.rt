@@ -16,7 +16,7 @@ use std::marker::Model;
 use std::slice;
 
 /// What stands behind an attribute's path.
-#[derive(Debug, Drop)]
+#[derive(Drop)]
 pub enum AttrInput {
     /// The text of a literal, without quotes and escapes.
     Str(Text),
@@ -24,7 +24,7 @@ pub enum AttrInput {
 }
 
 /// An attribute, with its list of paths where its arguments are one.
-#[derive(Debug, Drop)]
+#[derive(Drop)]
 pub struct Attr {
     pub path: ModPath,
     pub input: Option<AttrInput>,
@@ -33,13 +33,13 @@ pub struct Attr {
 }
 
 /// The attributes of an item, in order.
-#[derive(Debug, Drop)]
+#[derive(Drop)]
 pub struct Attrs {
     pub list: Seq<Attr>,
 }
 
 /// The attributes of an item, and whether the item is compiled.
-#[derive(Debug, Drop)]
+#[derive(Drop)]
 pub enum AttrsOrCfg {
     Enabled(Attrs),
     CfgDisabled(CfgExpr, Attrs),

@@ -20,7 +20,7 @@ pub enum RawVisibility {
 }
 
 /// The contents of a module.
-#[derive(Debug, Drop)]
+#[derive(Drop)]
 pub enum ModContents {
     Inline(Seq<ModItemId>),
     /// The items are those of a file of its own.
@@ -28,7 +28,7 @@ pub enum ModContents {
 }
 
 /// What an import takes.
-#[derive(Clone, Copy, PartialEq, Eq, Debug)]
+#[derive(Clone, Copy, PartialEq, Eq)]
 pub enum ImportKind {
     Plain,
     /// What stands in types alone, as `use a::{self}` takes it.
@@ -38,7 +38,7 @@ pub enum ImportKind {
 }
 
 /// The name that an import or an extern crate is given.
-#[derive(Clone, Copy, PartialEq, Eq, Debug)]
+#[derive(Clone, Copy, PartialEq, Eq)]
 pub enum ImportAlias {
     Alias(Name),
     /// `as _`: no name.
@@ -46,7 +46,7 @@ pub enum ImportAlias {
 }
 
 /// One import of a `use`. `idx` is its place among the imports of the `use`, from 0.
-#[derive(Debug, Drop)]
+#[derive(Drop)]
 pub struct UseImport {
     pub idx: u32,
     pub path: ModPath,
@@ -55,7 +55,7 @@ pub struct UseImport {
 }
 
 /// The constructor of a struct in values.
-#[derive(Debug, Drop)]
+#[derive(Drop)]
 pub enum CtorVisibility {
     NoValueNsCtor,
     ValueNsCtorWithVis(RawVisibility),
@@ -64,14 +64,14 @@ pub enum CtorVisibility {
 }
 
 /// What the expansion of a macro call is read as.
-#[derive(Clone, Copy, PartialEq, Eq, Debug)]
+#[derive(Clone, Copy, PartialEq, Eq)]
 pub enum ExpandTo {
     Items,
     Statements,
 }
 
 /// What an item is.
-#[derive(Debug, Drop)]
+#[derive(Drop)]
 pub enum ModItemKind {
     Mod {
         name: Name,
@@ -131,7 +131,7 @@ pub enum ModItemKind {
 }
 
 /// An item of a tree. `ast_id` is its number in its file.
-#[derive(Debug, Drop)]
+#[derive(Drop)]
 pub struct ItemNode {
     pub ast_id: FileAstId,
     pub attrs: Option<AttrsOrCfg>,
