@@ -1,14 +1,12 @@
 -- What a name stands for that is kept small, at worked rows.
-use Rattle.std.proofs.Common.{◌≡◌, ℕ, Option, Some, None, Bor, Global, refl}
+use Rattle.std.proofs.Common.{◌≡◌, ℕ, Option, Some, None, Global, refl}
 use Rattle.std.specs.Prelude.{Box}
 use Rattle.def_ids.specs.declared.ids.Def.TheVariants.{Struct}
 use Rattle.def_bindings.specs.declared.bindings.Namespace.TheVariants.{Types, Values, Macros}
 use Rattle.def_bindings.specs.declared.bindings.Binding.{Binding}
-use Rattle.def_bindings.specs.declared.bindings.Bindings.{Bindings}
 use Rattle.def_bindings.specs.declared.name_bindings.NameBindings.{NameBindings}
 use Rattle.def_bindings.specs.declared.bound_name.BoundName.{BoundName}
-use Rattle.def_bindings.specs.Bindings.{shown}
-use Rattle.def_bindings.specs.NameBindings.{unbound, with_bound}
+use Rattle.def_bindings.specs.NameBindings.{bound_in, unbound, with_bound}
 use Rattle.def_bindings.specs.BoundName.{beside, stands_for, with_namespace}
 
 abbrev bind : ℕ → Binding ℕ
@@ -37,6 +35,6 @@ module _ (b : Box (NameBindings ℕ) Global) (is : b.value ≡ with_bound (with_
 changed : (with_namespace (stands_for value_alone) Types (Some (bind 2)) Types ≡ Some (bind 2)) × (with_namespace (stands_for value_alone) Types (Some (bind 2)) Values ≡ Some (bind 1)) × (with_namespace (stands_for value_alone) Values None Values ≡ None)
 changed = (refl, refl, refl)
 
--- what a table keeps, by namespace
-kept : (t v : Bor (Binding ℕ)) → (shown (record { types = Some t; values = Some v; macros = None }) Types ≡ Some t.now) × (shown (record { types = Some t; values = Some v; macros = None }) Values ≡ Some v.now) × (shown (record { types = Some t; values = Some v; macros = None }) Macros ≡ None)
+-- the three together, by namespace
+kept : (t v : Binding ℕ) → (bound_in (record { types = Some t; values = Some v; macros = None }) Types ≡ Some t) × (bound_in (record { types = Some t; values = Some v; macros = None }) Values ≡ Some v) × (bound_in (record { types = Some t; values = Some v; macros = None }) Macros ≡ None)
 kept t v = (refl, refl, refl)

@@ -1,5 +1,6 @@
 pub mod ContentLemmas
 pub mod BoundNameLemmas
+pub mod SearchLemmas
 pub mod ByModuleLemmas
 pub mod ResultLemmas
 pub mod LinkLemmas

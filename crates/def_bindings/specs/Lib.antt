@@ -1,6 +1,5 @@
 pub mod Content
 pub mod Order
-pub mod Bindings
 pub mod BoundName
 pub mod Chains
 pub mod Tree

@@ -1,16 +1,19 @@
 //! Tables of bindings.
 ghost use Rattle.std.specs.Prelude.{◌≡◌, ◌<◌, ◌^◌, List, length, slice_get, OnOk, OnErr};
 ghost use Rattle.def_ids.specs.declared.ids.ModuleId.{ModuleId};
-ghost use Rattle.def_bindings.specs.Bindings.{shown};
 ghost use Rattle.def_bindings.specs.Content.{Content, with_binding, without_binding, with_unnamed, with_edge, vis_of, AreSources, AreTied};
+ghost use Rattle.def_bindings.specs.NameBindings.{bound_in};
 ghost use Rattle.def_bindings.specs.Puts.{edge_to};
 
-use crate::bindings::{Binding, Bindings, EdgeTo, Namespace};
+use crate::bindings::{Binding, EdgeTo, Namespace};
+use crate::name_bindings::NameBindings;
 use def_ids::{ModuleId, TraitId};
 use item_tree::Name;
 use std::alloc::AllocError;
 
-/// Bindings, names, unnamed traits and glob edges by module, however they are kept.
+/// Bindings, names, unnamed traits and glob edges by module, however they are kept. What is read is
+/// copied. A table that finds all bindings of a name, an unnamed trait or an edge by one look-up has
+/// bodies of its own for `bindings`, `unnamed_vis` and `edge_to`.
 pub trait BindingTable {
     type Vis: Copy;
 
@@ -22,9 +25,16 @@ pub trait BindingTable {
     fn binding(&self, module: ModuleId, name: Name, ns: Namespace) -> Option<Binding<Self::Vis>>
         ensures { result ≡ (content self.now).binding «module» name ns };
 
-    /// What a name stands for in each namespace, lent where the table keeps it.
-    fn bindings(&self, module: ModuleId, name: Name) -> Bindings<'_, Self::Vis>
-        ensures { shown result ≡ (content self.now).binding «module» name };
+    /// What a name stands for in each namespace.
+    fn bindings(&self, module: ModuleId, name: Name) -> NameBindings<Self::Vis>
+        ensures { bound_in result ≡ (content self.now).binding «module» name }
+    {
+        NameBindings {
+            types: self.binding(module, name, Namespace::Types),
+            values: self.binding(module, name, Namespace::Values),
+            macros: self.binding(module, name, Namespace::Macros),
+        }
+    }
 
     /// The name at this place of a module's names, in first-bound order.
     fn name_at(&self, module: ModuleId, index: usize) -> Option<Name>
@@ -37,7 +47,17 @@ pub trait BindingTable {
 
     /// The visibility of an unnamed trait, where the module has it.
     fn unnamed_vis(&self, module: ModuleId, item: TraitId) -> Option<Self::Vis>
-        ensures { result ≡ vis_of ((content self.now).unnamed «module») item };
+        ensures { result ≡ vis_of ((content self.now).unnamed «module») item }
+    {
+        let mut index = 0;
+        'items: while let Some(found) = self.unnamed_at(module, index) {
+            if item == found.0 {
+                return Some(found.1);
+            }
+            index += 1;
+        }
+        None
+    }
 
     fn edge_at(&self, module: ModuleId, index: usize) -> Option<EdgeTo<Self::Vis>>
         ensures edge { result ≡ slice_get ((content self.now).edges «module») index }
@@ -45,7 +65,17 @@ pub trait BindingTable {
 
     /// The edge to an importer, where the module has one.
     fn edge_to(&self, module: ModuleId, importer: ModuleId) -> Option<EdgeTo<Self::Vis>>
-        ensures { result ≡ edge_to ((content self.now).edges «module») importer };
+        ensures { result ≡ edge_to ((content self.now).edges «module») importer }
+    {
+        let mut index = 0;
+        'edges: while let Some(edge) = self.edge_at(module, index) {
+            if edge.importer == importer {
+                return Some(edge);
+            }
+            index += 1;
+        }
+        None
+    }
 
     fn set(
         &mut self,

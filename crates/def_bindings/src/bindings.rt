@@ -1,6 +1,4 @@
 //! What modules bind.
-ghost use Rattle.std.specs.Prelude.{◌≡◌, None};
-ghost use Rattle.def_bindings.specs.Bindings.{shown};
 
 use def_ids::{Def, ExternCrateId, GlobId, ImportId, ModuleId, TraitId};
 use item_tree::Name;
@@ -30,29 +28,8 @@ pub struct Binding<V> {
     pub import: Option<ImportOrExternCrate>,
 }
 
-/// What a name stands for in each namespace, where a table keeps it.
-#[derive(Clone, Copy)]
-pub struct Bindings<'a, V> {
-    pub types: Option<&'a Binding<V>>,
-    pub values: Option<&'a Binding<V>>,
-    pub macros: Option<&'a Binding<V>>,
-}
-
-impl<'a, V> Bindings<'a, V> {
-    /// Nothing in any namespace.
-    pub fn none() -> Self
-        ensures { shown result ≡ (λ n. None) }
-    {
-        Bindings {
-            types: None,
-            values: None,
-            macros: None,
-        }
-    }
-}
-
 /// What is put in a module. Without a name it is an unnamed trait in types.
-#[derive(Clone, Copy, PartialEq, Eq, Debug)]
+#[derive(Clone, Copy, PartialEq, Eq)]
 pub struct Entry<V> {
     pub name: Option<Name>,
     pub ns: Namespace,
@@ -62,7 +39,7 @@ pub struct Entry<V> {
 }
 
 /// The edge of a recorded glob, as its source keeps it: where its names go, with which visibility.
-#[derive(Clone, Copy, PartialEq, Eq, Debug)]
+#[derive(Clone, Copy, PartialEq, Eq)]
 pub struct EdgeTo<V> {
     pub importer: ModuleId,
     pub vis: V,
@@ -70,7 +47,7 @@ pub struct EdgeTo<V> {
 }
 
 /// What a module can bind: a name in a namespace, or a trait without a name.
-#[derive(Clone, Copy, PartialEq, Eq, Debug)]
+#[derive(Clone, Copy, PartialEq, Eq)]
 pub enum Slot {
     Named(Name, Namespace),
     Unnamed(TraitId),

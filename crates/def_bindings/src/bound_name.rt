@@ -1,11 +1,10 @@
 //! What one name stands for, as a numbered table keeps it.
 ghost use Rattle.std.specs.Prelude.{◌≡◌, Some, None, IsTrue, IsFalse, OnOk, OnErr, option_copied};
-ghost use Rattle.def_bindings.specs.Bindings.{shown};
 ghost use Rattle.def_bindings.specs.Content.{is_namespace};
 ghost use Rattle.def_bindings.specs.NameBindings.{bound_in};
 ghost use Rattle.def_bindings.specs.BoundName.{beside, stands_for, with_namespace};
 
-use crate::bindings::{Binding, Bindings, Namespace};
+use crate::bindings::{Binding, Namespace};
 use crate::name_bindings::NameBindings;
 use std::alloc::{AllocError, Global};
 
@@ -102,14 +101,10 @@ impl<V: Copy> BoundName<V> {
     }
 
     /// The bindings in all namespaces.
-    pub fn all(&self) -> Bindings<'_, V>
-        ensures { shown result ≡ stands_for self.now }
+    pub fn all(&self) -> NameBindings<V>
+        ensures { bound_in result ≡ stands_for self.now }
     {
-        Bindings {
-            types: self.get(Namespace::Types),
-            values: self.get(Namespace::Values),
-            macros: self.get(Namespace::Macros),
-        }
+        all_beside(&self.others).with(self.ns, Some(self.binding))
     }
 
     /// Binds the name in a namespace.

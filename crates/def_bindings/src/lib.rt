@@ -17,8 +17,9 @@ mod scope_table;
 mod visibility;
 
 pub use binding_table::BindingTable;
-pub use bindings::{Binding, Bindings, EdgeTo, Entry, ImportOrExternCrate, Namespace, Slot};
+pub use bindings::{Binding, EdgeTo, Entry, ImportOrExternCrate, Namespace, Slot};
 pub use module_tree::ModuleTree;
+pub use name_bindings::NameBindings;
 pub use numbered_table::NumberedTable;
 pub use puts::{copy_along, fit, held_at, put_at, put_entry, settle, slot_of_entry, write};
 pub use scope_table::ScopeTable;

@@ -1,9 +1,8 @@
 //! The bindings of one name.
 ghost use Rattle.std.specs.Prelude.{◌≡◌, Some, None, IfSome, IfNone, option_copied};
-ghost use Rattle.def_bindings.specs.Bindings.{shown};
 ghost use Rattle.def_bindings.specs.NameBindings.{bound_in, with_bound, unbound, is_unbound};
 
-use crate::bindings::{Binding, Bindings, Namespace};
+use crate::bindings::{Binding, Namespace};
 
 /// What one name stands for in each namespace.
 #[derive(Clone, Copy)]
@@ -33,17 +32,6 @@ impl<V: Copy> NameBindings<V> {
             Namespace::Types => self.types.as_ref(),
             Namespace::Values => self.values.as_ref(),
             Namespace::Macros => self.macros.as_ref(),
-        }
-    }
-
-    /// The bindings in all namespaces.
-    pub fn all(&self) -> Bindings<'_, V>
-        ensures { shown result ≡ bound_in self.now }
-    {
-        Bindings {
-            types: self.types.as_ref(),
-            values: self.values.as_ref(),
-            macros: self.macros.as_ref(),
         }
     }
 

@@ -5,11 +5,12 @@ ghost use Rattle.def_bindings.specs.Lists.{lists_of};
 ghost use Rattle.def_bindings.specs.Places.{bindings_of};
 
 use crate::binding_table::BindingTable;
-use crate::bindings::{Binding, Bindings, EdgeTo, Namespace};
+use crate::bindings::{Binding, EdgeTo, Namespace};
 use crate::bound_name::BoundName;
 use crate::keyed::Keyed;
 use crate::link::Link;
 use crate::lists::Lists;
+use crate::name_bindings::NameBindings;
 use crate::place::Placed;
 use def_ids::{ModuleId, TraitId};
 use indexmap::IndexMap;
@@ -135,15 +136,14 @@ impl<V: Copy> BindingTable for NumberedTable<V> {
         }
     }
 
-    fn bindings(&self, module: ModuleId, name: Name) -> Bindings<'_, V> {
-        let placed = Placed {
+    fn bindings(&self, module: ModuleId, name: Name) -> NameBindings<V> {
+        match self.bound.get(&Placed {
             at: module,
             key: name,
-        };
-        let Some(bound) = self.bound.get(&placed) else {
-            return Bindings::none();
-        };
-        bound.all()
+        }) {
+            Some(bound) => bound.all(),
+            None => NameBindings::unbound(),
+        }
     }
 
     fn name_at(&self, module: ModuleId, index: usize) -> Option<Name> {

@@ -3,14 +3,13 @@ ghost use Rattle.std.specs.Prelude.{◌≡◌, ◌<◌, ◌^◌, length, slice_g
 ghost use Rattle.std.specs.List.{IsDistinct};
 ghost use Rattle.indexmap.specs.IndexMap.{insert_entry, keys};
 ghost use Rattle.def_ids.specs.Ids.{is_same_module};
-ghost use Rattle.def_bindings.specs.Bindings.{shown};
 ghost use Rattle.def_bindings.specs.Content.{is_name, is_trait, vis_of};
 ghost use Rattle.def_bindings.specs.Link.{link_of};
 ghost use Rattle.def_bindings.specs.NameBindings.{with_bound};
 ghost use Rattle.def_bindings.specs.Puts.{edge_to};
 ghost use Rattle.def_bindings.specs.RowEntries.{bindings_at, bindings_left, are_bound};
 
-use crate::bindings::{Binding, Bindings, EdgeTo, Namespace};
+use crate::bindings::{Binding, EdgeTo, Namespace};
 use crate::link::Link;
 use crate::name_bindings::NameBindings;
 use def_ids::{ModuleId, TraitId};
@@ -41,8 +40,8 @@ impl<V: Copy> Row<V> {
         }
     }
 
-    /// The bindings of a name.
-    fn bindings(&self, name: Name) -> NameBindings<V>
+    /// What a name is bound to in all namespaces.
+    pub fn bindings(&self, name: Name) -> NameBindings<V>
         ensures { result ≡ bindings_at self.now.names.entries name }
     {
         match self.names.get(&name) {
@@ -57,16 +56,6 @@ impl<V: Copy> Row<V> {
     {
         let bindings = self.names.get(&name)?;
         bindings.get(ns).copied()
-    }
-
-    /// What a name is bound to in all namespaces.
-    pub fn all(&self, name: Name) -> Bindings<'_, V>
-        ensures { shown result ≡ row_binding self.now name }
-    {
-        let Some(bindings) = self.names.get(&name) else {
-            return Bindings::none();
-        };
-        bindings.all()
     }
 
     /// The name at this place, in first-bound order.

@@ -2,7 +2,8 @@
 ghost use Rattle.std.specs.Prelude.{◌≡◌, is_some, true, IfOk, OnOk, OnErr};
 
 use crate::binding_table::BindingTable;
-use crate::bindings::{Binding, Bindings, EdgeTo, Namespace};
+use crate::bindings::{Binding, EdgeTo, Namespace};
+use crate::name_bindings::NameBindings;
 use crate::row::Row;
 use def_ids::{ModuleId, TraitId};
 use indexmap::IndexMap;
@@ -64,11 +65,11 @@ impl<V: Copy> BindingTable for ScopeTable<V> {
         row.binding(name, ns)
     }
 
-    fn bindings(&self, module: ModuleId, name: Name) -> Bindings<'_, V> {
-        let Some(row) = self.rows.get(&module) else {
-            return Bindings::none();
-        };
-        row.all(name)
+    fn bindings(&self, module: ModuleId, name: Name) -> NameBindings<V> {
+        match self.rows.get(&module) {
+            Some(row) => row.bindings(name),
+            None => NameBindings::unbound(),
+        }
     }
 
     fn name_at(&self, module: ModuleId, index: usize) -> Option<Name> {

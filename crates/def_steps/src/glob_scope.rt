@@ -69,9 +69,9 @@ impl<'a, T: BindingTable<Vis = Visibility>> GlobScope<'a, T> {
             ++ name_entries (order_over (chain_in self.now.order.now)) self.now.glob self.now.own (T.content self.now.table.now) self.now.source name) }
     {
         let found = self.table.bindings(self.source, name);
-        self.push_seen(entries, name, Namespace::Types, found.types)?;
-        self.push_seen(entries, name, Namespace::Values, found.values)?;
-        self.push_seen(entries, name, Namespace::Macros, found.macros)
+        self.push_seen(entries, name, Namespace::Types, found.types.as_ref())?;
+        self.push_seen(entries, name, Namespace::Values, found.values.as_ref())?;
+        self.push_seen(entries, name, Namespace::Macros, found.macros.as_ref())
     }
 
     /// Appends the entry of an unnamed trait, if the glob sees it.

@@ -72,9 +72,9 @@ pub(crate) fn bound<T: BindingTable<Vis = Visibility>>(
 {
     let found = table.bindings(place, name);
     PerNs {
-        types: found.types.copied(),
-        values: found.values.copied(),
-        macros: found.macros.copied(),
+        types: found.types,
+        values: found.values,
+        macros: found.macros,
     }
 }
 
