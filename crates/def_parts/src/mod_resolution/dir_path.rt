@@ -27,7 +27,7 @@ impl Model for DirPath {
 
 impl DirPath {
     /// The path of a crate's root.
-    pub fn empty(alloc: Global) -> DirPath
+    pub(crate) fn empty(alloc: Global) -> DirPath
         ensures { result ≡ [] }
     {
         DirPath {
@@ -36,14 +36,14 @@ impl DirPath {
     }
 
     /// The directory of this name in an empty path.
-    pub fn of_name(alloc: Global, name: &str) -> Result<DirPath, AllocError>
+    pub(crate) fn of_name(alloc: Global, name: &str) -> Result<DirPath, AllocError>
         ensures { IfOk result (λ dir. dir ≡ pieces_of name.now) }
     {
         DirPath::empty(alloc).join_name(name)
     }
 
     /// The directory of this name in this one.
-    pub fn join_name(&self, name: &str) -> Result<DirPath, AllocError>
+    pub(crate) fn join_name(&self, name: &str) -> Result<DirPath, AllocError>
         ensures { IfOk result (λ dir. dir ≡ self.now ++ pieces_of name.now) }
     {
         let mut path = self.path.clone()?;
@@ -53,7 +53,7 @@ impl DirPath {
     }
 
     /// The directory at a path, which is closed by `/` unless it is empty or ends with it.
-    pub fn closed(mut path: String) -> Result<DirPath, AllocError>
+    pub(crate) fn closed(mut path: String) -> Result<DirPath, AllocError>
         ensures { IfOk result (λ dir. dir ≡ without_last_empty (pieces_of (string_bytes path))) }
     {
         if !is_dir_text(path.as_str()) {
@@ -63,7 +63,7 @@ impl DirPath {
     }
 
     /// The path of a file in this directory.
-    pub fn join_file(&self, name: &str, end: &str) -> Result<String, AllocError>
+    pub(crate) fn join_file(&self, name: &str, end: &str) -> Result<String, AllocError>
         ensures { IfOk result (λ path. pieces_of (string_bytes path)
             ≡ self.now ++ pieces_of (name.now ++ end.now)) }
     {
@@ -122,7 +122,11 @@ impl DirPath {
     }
 
     /// The text of an attribute, behind this directory's or the parent's.
-    pub fn join_attr(&self, attr: &str, relative_to_parent: bool) -> Result<String, AllocError>
+    pub(crate) fn join_attr(
+        &self,
+        attr: &str,
+        relative_to_parent: bool,
+    ) -> Result<String, AllocError>
         requires { IsTrue relative_to_parent → self.now ≡ [] → ⊥ }
         ensures { IfOk result (λ path. pieces_of (string_bytes path)
             ≡ base_of self.now relative_to_parent ++ pieces_of (clean attr.now)) }
