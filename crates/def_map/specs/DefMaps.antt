@@ -58,6 +58,11 @@ crate_map_id krate = record { krate = krate; block = None }
 abbrev pub block_map_id : MapState → BlockId → MapId
 block_map_id s block = record { krate = s.id.krate; block = Some block }
 
+-- which map is seeded: a crate's, or a block's of the crate that the block is of, whichever crate is named
+abbrev pub seeded_id : Crate → Option BlockInfo → MapId
+seeded_id krate None = crate_map_id krate
+seeded_id krate (Some info) = record { krate = info.krate; block = Some info.block }
+
 -- the map that is seeded: a crate's, or a block's
 abbrev pub seeded : Crate → Edition → Option BlockInfo → MapState
 seeded krate edition None = fresh_state (crate_map_id krate) edition [] fresh_crate

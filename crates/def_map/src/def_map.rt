@@ -33,17 +33,18 @@ impl Drop for DefMap {
 }
 
 impl DefMap {
-    ghost use Rattle.def_map.specs.DefMaps.{seeded};
+    ghost use Rattle.def_map.specs.DefMaps.{seeded, seeded_id};
 
     /// A map with one root and nothing in it. Without a block it is the map of the crate, with the
     /// tools that need no declaration. With one it is a block's, in the crate of the map that the
-    /// block's data were taken from.
+    /// block's data were taken from: `krate` is then not looked at, also where it is another crate.
     pub fn seed(
         alloc: Global,
         krate: Crate,
         edition: Edition,
         block: Option<BlockInfo>,
     ) -> Result<DefMap, AllocError>
+        ensures id { IfOk result (λ map. (state_of map).id ≡ seeded_id krate block) }
         ensures state { IfOk result (λ map. state_of map ≡ seeded krate edition block) }
         ensures content { IfOk result (λ map. content_of map ≡ none_bound) }
         ensures fresh { IfOk result (λ map. IsFresh (state_of map) (content_of map)) }
