@@ -22,7 +22,7 @@ pub use item_scope::{ItemScope, Resolutions, UnnamedTraits};
 pub use macro_resolver::MacroResolver;
 pub use path_resolution::{
     Asked, BuiltinShadowMode, PrefixInfo, ReachedFixedPoint, ResolveMode, ResolvePathResult,
-    finished_map, resolve_path, resolve_path_fp_with_macro, resolve_visibility,
+    ResolvePaths, finished_map, resolve_path, resolve_path_fp_with_macro, resolve_visibility,
 };
 pub use per_ns::{Item, MacroSubNs, PerNs, public_item};
 pub use source_database::{
@@ -31,3 +31,18 @@ pub use source_database::{
     UnresolvedMacro,
 };
 pub use table::Table;
+
+// The ids, visibilities and bindings that maps are made of.
+pub use def_bindings::{
+    Binding, BindingTable, EdgeTo, Entry, ImportOrExternCrate, ModuleTree, NameBindings, Namespace,
+    NumberedTable, ScopeTable, Slot, VisOrder, Visibility,
+};
+pub use def_ids::{
+    Adt, BuiltinAttr, BuiltinDeriveImplId, BuiltinDeriveImplLoc, ConstId, ConstLoc,
+    CustomProcMacroExpander, Def, Edition, EnumId, EnumLoc, ExternBlockId, ExternBlockLoc,
+    ExternCrateId, ExternCrateLoc, FunctionId, FunctionLoc, GlobId, ImplId, ImplLoc, ImportId,
+    Interner, ItemContainerId, Location, LocationId, Macro2Id, Macro2Loc, MacroDefId, MacroDefKind,
+    MacroExpander, MacroId, MacroRulesId, MacroRulesLoc, MapId, ModuleId, ProcMacroId,
+    ProcMacroLoc, ProcMacroUse, StaticId, StaticLoc, StructId, StructLoc, TraitId, TraitLoc,
+    TypeAliasId, TypeAliasLoc, UnionId, UnionLoc, UseId, UseLoc, VariantId,
+};

@@ -151,6 +151,145 @@ fn module_reached(found: PerNs, left: Option<usize>) -> Option<ModuleId>
     }
 }
 
+/// A map without its bindings, which stand in a table that is handed in: what paths mean there.
+pub trait ResolvePaths {
+    ghost use Rattle.def_bindings.specs.declared.visibility.Visibility.{Visibility};
+    ghost use Rattle.def_bindings.specs.Content.{Content};
+    ghost use Rattle.def_modules.specs.MapView.{MapView};
+
+    /// The map as paths see it, with what its table contains.
+    ghost view: { Self → Content Visibility → MapView };
+
+    /// What a path means, asked from a module of this map. Of a name that stands alone, `shadow`
+    /// says whether a builtin type goes before a module, and only the macros of
+    /// `expected_macro_subns` count, if that is given.
+    fn resolve_path_fp_with_macro<D: SourceDatabase, T: BindingTable<Vis = Visibility>>(
+        &self,
+        table: &T,
+        local_def_map: &LocalDefMap,
+        db: &D,
+        session: &Interner,
+        mode: ResolveMode,
+        original_module: ModuleId,
+        path: &ModPath,
+        shadow: BuiltinShadowMode,
+        expected_macro_subns: Option<MacroSubNs>,
+    ) -> ResolvePathResult
+        ensures { let oracle = D.oracle db.now in
+            let m = view self.now (T.content table.now) in
+            let w = world_of oracle (session_of session.now) m (local_view local_def_map.now) in
+            result ≡ resolve w (asked_by mode shadow expected_macro_subns) original_module path.now };
+
+    /// What a path that is no import's means, and the first segment that is left where it ends at a
+    /// definition without names.
+    fn resolve_path<D: SourceDatabase, T: BindingTable<Vis = Visibility>>(
+        &self,
+        table: &T,
+        local_def_map: &LocalDefMap,
+        db: &D,
+        session: &Interner,
+        original_module: ModuleId,
+        path: &ModPath,
+        shadow: BuiltinShadowMode,
+        expected_macro_subns: Option<MacroSubNs>,
+    ) -> (PerNs, Option<usize>)
+        ensures { let oracle = D.oracle db.now in
+            let m = view self.now (T.content table.now) in
+            let w = world_of oracle (session_of session.now) m (local_view local_def_map.now) in
+            let asked = asked_by Other shadow expected_macro_subns in
+            let answer = resolve w asked original_module path.now in
+            result ≡ (answer.resolved_def, answer.segment_index) };
+
+    /// What a visibility means that is written in a module. `None` where its path leads to no module.
+    fn resolve_visibility<D: SourceDatabase, T: BindingTable<Vis = Visibility>>(
+        &self,
+        table: &T,
+        local_def_map: &LocalDefMap,
+        db: &D,
+        session: &Interner,
+        original_module: ModuleId,
+        visibility: &RawVisibility,
+    ) -> Option<Visibility>
+        ensures { let oracle = D.oracle db.now in
+            let m = view self.now (T.content table.now) in
+            let w = world_of oracle (session_of session.now) m (local_view local_def_map.now) in
+            result ≡ visibility_of w original_module visibility.now };
+}
+
+impl ResolvePaths for MapData {
+    ghost view = { map_with };
+
+    fn resolve_path_fp_with_macro<D: SourceDatabase, T: BindingTable<Vis = Visibility>>(
+        &self,
+        table: &T,
+        local_def_map: &LocalDefMap,
+        db: &D,
+        session: &Interner,
+        mode: ResolveMode,
+        original_module: ModuleId,
+        path: &ModPath,
+        shadow: BuiltinShadowMode,
+        expected_macro_subns: Option<MacroSubNs>,
+    ) -> ResolvePathResult {
+        resolve_path_fp_with_macro(
+            self,
+            table,
+            local_def_map,
+            db,
+            session,
+            mode,
+            original_module,
+            path,
+            shadow,
+            expected_macro_subns,
+        )
+    }
+
+    fn resolve_path<D: SourceDatabase, T: BindingTable<Vis = Visibility>>(
+        &self,
+        table: &T,
+        local_def_map: &LocalDefMap,
+        db: &D,
+        session: &Interner,
+        original_module: ModuleId,
+        path: &ModPath,
+        shadow: BuiltinShadowMode,
+        expected_macro_subns: Option<MacroSubNs>,
+    ) -> (PerNs, Option<usize>) {
+        resolve_path(
+            self,
+            table,
+            local_def_map,
+            db,
+            session,
+            original_module,
+            path,
+            shadow,
+            expected_macro_subns,
+        )
+    }
+
+    fn resolve_visibility<D: SourceDatabase, T: BindingTable<Vis = Visibility>>(
+        &self,
+        table: &T,
+        local_def_map: &LocalDefMap,
+        db: &D,
+        session: &Interner,
+        original_module: ModuleId,
+        visibility: &RawVisibility,
+    ) -> Option<Visibility> {
+        resolve_visibility(
+            self,
+            table,
+            local_def_map,
+            db,
+            session,
+            original_module,
+            visibility,
+        )
+    }
+}
+
 impl DefMap {
     /// What a path means, asked from a module of this map. Of a name that stands alone, `shadow`
     /// says whether a builtin type goes before a module, and only the macros of
@@ -170,8 +309,7 @@ impl DefMap {
             let w = world_of oracle (session_of session.now) (view_of self.now) (local_view local_def_map.now) in
             result ≡ resolve w (asked_by mode shadow expected_macro_subns) original_module path.now }
     {
-        resolve_path_fp_with_macro(
-            &self.data,
+        self.data.resolve_path_fp_with_macro(
             &self.table,
             local_def_map,
             db,
@@ -202,8 +340,7 @@ impl DefMap {
             let answer = resolve w asked original_module path.now in
             result ≡ (answer.resolved_def, answer.segment_index) }
     {
-        resolve_path(
-            &self.data,
+        self.data.resolve_path(
             &self.table,
             local_def_map,
             db,
@@ -228,8 +365,7 @@ impl DefMap {
             let w = world_of oracle (session_of session.now) (view_of self.now) (local_view local_def_map.now) in
             result ≡ visibility_of w original_module visibility.now }
     {
-        resolve_visibility(
-            &self.data,
+        self.data.resolve_visibility(
             &self.table,
             local_def_map,
             db,
