@@ -1,10 +1,9 @@
 -- Worked rows of what a session shows.
-use Rattle.std.specs.Prelude.{◌≡◌, [], ◌∷◌, Some, None, true, false, codes, refl}
+use Rattle.std.specs.Prelude.{◌≡◌, [], ◌∷◌, Some, None, codes, refl}
 use Rattle.item_tree.specs.declared.ids.HirFileId.TheVariants.{File}
-use Rattle.item_tree.specs.declared.macro_flags.TheConstants.MacroRulesLocFlags.{LOCAL_INNER, ALLOW_INTERNAL_UNSAFE}
 use Rattle.def_ids.specs.Interner.{first_tables}
 use Rattle.def_ids.specs.Ids.{crate_root}
-use Rattle.def_ids.specs.Session.{session_of, shown_item, shown_macro, macro_def, macro_kind, has_flag, FunctionItem, StructItem, UnionItem}
+use Rattle.def_ids.specs.Session.{session_of, shown_item, shown_macro, macro_def, macro_kind, FunctionItem, StructItem, UnionItem}
 use Rattle.def_ids.specs.declared.ids.ItemContainerId.TheVariants.{Module, ExternBlock}
 use Rattle.def_ids.specs.declared.ids.MacroId.TheVariants.{MacroRules, Macro2, ProcMacro}
 use Rattle.def_ids.specs.declared.interner.Interner.{Interner}
@@ -62,14 +61,10 @@ rules =
 abbrev one_macro : Interner
 one_macro = record first_tables { macro_rules = rules ∷ [] }
 
--- the bits of its flags are shown apart
-pub flags_shown : (session_of one_macro).macro_at (MacroRules (record { 0 = 0 })) ≡ Some (record { container = crate_root (record { 0 = 3 }); position = position; kind = kind.Declarative (record { 0 = 1 }); local_inner = false; allow_internal_unsafe = true; edition = Edition2021 })
+-- its flags are shown whole
+pub flags_shown : (session_of one_macro).macro_at (MacroRules (record { 0 = 0 })) ≡ Some (record { container = crate_root (record { 0 = 3 }); position = position; kind = kind.Declarative (record { 0 = 1 }); flags = record { 0 = 2 }; edition = Edition2021 })
 unfolding shown_macro
 flags_shown = refl
-
--- the bits by which flags are shown are those of the flags
-pub flag_bits : (has_flag LOCAL_INNER 1 ≡ true) × (has_flag LOCAL_INNER 2 ≡ false) × (has_flag ALLOW_INTERNAL_UNSAFE 1 ≡ false) × (has_flag ALLOW_INTERNAL_UNSAFE 2 ≡ true)
-flag_bits = (refl, refl, refl, refl)
 
 -- its crate is its module's
 pub macro_shown : macro_def (session_of one_macro) (MacroRules (record { 0 = 0 })) ≡ Some (record { krate = record { 0 = 3 }; id = MacroRules (record { 0 = 0 }); kind = kind.Declarative (record { 0 = 1 }) })
@@ -90,12 +85,12 @@ two_macros =
     }
 
 -- a `macro` item has the kind of its expander, its own flags and its edition
-pub macro_item_shown : (session_of two_macros).macro_at (Macro2 (record { 0 = 0 })) ≡ Some (record { container = crate_root (record { 0 = 3 }); position = position; kind = kind.BuiltInEager 6; local_inner = false; allow_internal_unsafe = true; edition = Edition2024 })
+pub macro_item_shown : (session_of two_macros).macro_at (Macro2 (record { 0 = 0 })) ≡ Some (record { container = crate_root (record { 0 = 3 }); position = position; kind = kind.BuiltInEager 6; flags = record { 0 = 2 }; edition = Edition2024 })
 unfolding shown_macro
 macro_item_shown = refl
 
 -- a procedural macro has no flags, and is of the kind that it was declared with
-pub procedural_shown : (session_of two_macros).macro_at (ProcMacro (record { 0 = 0 })) ≡ Some (record { container = crate_root (record { 0 = 3 }); position = position; kind = kind.ProcMacro (Id 8) Attr; local_inner = false; allow_internal_unsafe = false; edition = Edition2021 })
+pub procedural_shown : (session_of two_macros).macro_at (ProcMacro (record { 0 = 0 })) ≡ Some (record { container = crate_root (record { 0 = 3 }); position = position; kind = kind.ProcMacro (Id 8) Attr; flags = record { 0 = 0 }; edition = Edition2021 })
 unfolding shown_macro
 procedural_shown = refl
 

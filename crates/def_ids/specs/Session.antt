@@ -1,6 +1,5 @@
 -- What a session shows: the location of each id and the text of each name.
-use Rattle.std.specs.Prelude.{◌≡◌, ◌==◌, ℕ, Bool, false, List, Option, Some, option_map, slice_get}
-use Rattle.std.specs.Int.RustNames.{bit_and}
+use Rattle.std.specs.Prelude.{◌≡◌, ℕ, List, Option, Some, option_map, slice_get}
 use Rattle.item_tree.specs.declared.ids.FileAstId.{FileAstId}
 use Rattle.item_tree.specs.declared.ids.InFile.{InFile}
 use Rattle.item_tree.specs.declared.macro_flags.MacroRulesLocFlags.{MacroRulesLocFlags}
@@ -10,7 +9,10 @@ use Rattle.def_ids.specs.declared.ids.ItemContainerId.{ItemContainerId}
 use Rattle.def_ids.specs.declared.ids.ItemContainerId.TheVariants.{Module}
 use Rattle.def_ids.specs.declared.ids.MacroId.{MacroId}
 use Rattle.def_ids.specs.declared.ids.MacroId.TheVariants.{MacroRules, Macro2, ProcMacro}
+use Rattle.def_ids.specs.declared.ids.Macro2Id.{Macro2Id}
+use Rattle.def_ids.specs.declared.ids.MacroRulesId.{MacroRulesId}
 use Rattle.def_ids.specs.declared.ids.ModuleId.{ModuleId}
+use Rattle.def_ids.specs.declared.ids.ProcMacroId.{ProcMacroId}
 use Rattle.def_ids.specs.declared.interner.Interner.{Interner}
 use Rattle.def_ids.specs.declared.locs.BuiltinDeriveImplLoc.{BuiltinDeriveImplLoc}
 use Rattle.def_ids.specs.declared.locs.Macro2Loc.{Macro2Loc}
@@ -46,8 +48,7 @@ pub record MacroLoc : Type 0 where
   pub container : ModuleId
   pub position : InFile FileAstId
   pub kind : MacroDefKind
-  pub local_inner : Bool
-  pub allow_internal_unsafe : Bool
+  pub flags : MacroRulesLocFlags
   pub edition : Edition
 
 -- the tables of a session, as functions
@@ -64,9 +65,12 @@ pub record Grows (old new : Session) : Type 0 where
   pub macro_at : (m : MacroId) (loc : MacroLoc) → old.macro_at m ≡ Some loc → new.macro_at m ≡ Some loc
   pub derive_impl : (i : ℕ) (loc : BuiltinDeriveImplLoc) → old.derive_impl i ≡ Some loc → new.derive_impl i ≡ Some loc
 
--- equal locations have equal numbers
+-- equal locations have equal numbers, in each of the kinds that have numbers of their own
 pub record IsInjective (session : Session) : Type 0 where
   pub item : (k : ItemKind) (i j : ℕ) (loc : ItemLoc) → session.item k i ≡ Some loc → session.item k j ≡ Some loc → i ≡ j
+  pub macro_rules : (a b : MacroRulesId) (loc : MacroLoc) → session.macro_at (MacroRules a) ≡ Some loc → session.macro_at (MacroRules b) ≡ Some loc → a ≡ b
+  pub macro2 : (a b : Macro2Id) (loc : MacroLoc) → session.macro_at (Macro2 a) ≡ Some loc → session.macro_at (Macro2 b) ≡ Some loc → a ≡ b
+  pub proc_macro : (a b : ProcMacroId) (loc : MacroLoc) → session.macro_at (ProcMacro a) ≡ Some loc → session.macro_at (ProcMacro b) ≡ Some loc → a ≡ b
   pub derive_impl : (i j : ℕ) (loc : BuiltinDeriveImplLoc) → session.derive_impl i ≡ Some loc → session.derive_impl j ≡ Some loc → i ≡ j
 
 -- what expands a macro
@@ -85,10 +89,6 @@ in_module m position = record { container = Module m; position = position }
 abbrev pub in_container : ItemContainerId → InFile FileAstId → ItemLoc
 in_container container position = record { container = container; position = position }
 
--- whether these flags have all of these bits
-abbrev pub has_flag : MacroRulesLocFlags → ℕ → Bool
-has_flag flags flag = bit_and flags.0 flag == flag
-
 -- a `macro_rules` macro
 abbrev pub rules_loc : MacroRulesLoc → MacroLoc
 rules_loc loc =
@@ -96,8 +96,7 @@ rules_loc loc =
       container = loc.container;
       position = loc.position;
       kind = kind_of_expander loc.expander;
-      local_inner = has_flag loc.flags 1;
-      allow_internal_unsafe = has_flag loc.flags 2;
+      flags = loc.flags;
       edition = loc.edition;
     }
 
@@ -108,20 +107,18 @@ macro2_loc loc =
       container = loc.container;
       position = loc.position;
       kind = kind_of_expander loc.expander;
-      local_inner = has_flag loc.flags 1;
-      allow_internal_unsafe = has_flag loc.flags 2;
+      flags = loc.flags;
       edition = loc.edition;
     }
 
--- a procedural macro, which has no flags
+-- a procedural macro, which has none of the flags
 abbrev pub proc_macro_loc : ProcMacroLoc → MacroLoc
 proc_macro_loc loc =
     record {
       container = loc.container;
       position = loc.position;
       kind = kind.ProcMacro loc.expander loc.kind;
-      local_inner = false;
-      allow_internal_unsafe = false;
+      flags = record { 0 = 0 };
       edition = loc.edition;
     }
 

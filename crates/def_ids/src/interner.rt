@@ -110,8 +110,8 @@ impl Interner {
         self.names.text(name)
     }
 
-    /// A law for contracts: equal items, and equal impls of derives, have equal ids.
-    /// Nothing happens when it runs.
+    /// A law for contracts: equal locations have equal ids, of items, of macros and of impls of
+    /// derives. Nothing happens when it runs.
     #[tactic(auto, using(crate::proofs::SessionLemmas::injective_from_tables))]
     pub fn has_unique_ids(&self)
         ensures { IsInjective (session_of self.now) }
@@ -128,6 +128,9 @@ impl Interner {
         self.uses.len();
         self.extern_crates.len();
         self.extern_blocks.len();
+        self.macro_rules.len();
+        self.macro2s.len();
+        self.proc_macros.len();
         self.builtin_derive_impls.len();
     }
 }

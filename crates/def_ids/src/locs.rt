@@ -4,91 +4,91 @@ use crate::macro_def::{CustomProcMacroExpander, Edition, MacroExpander, ProcMacr
 use item_tree::{AttrId, FileAstId, InFile, MacroRulesLocFlags};
 
 /// Where a function stands.
-#[derive(Clone, Copy, PartialEq, Eq, Hash, Debug)]
+#[derive(Clone, Copy, PartialEq, Eq, Hash)]
 pub struct FunctionLoc {
     pub container: ItemContainerId,
     pub position: InFile<FileAstId>,
 }
 
 /// Where a struct stands.
-#[derive(Clone, Copy, PartialEq, Eq, Hash, Debug)]
+#[derive(Clone, Copy, PartialEq, Eq, Hash)]
 pub struct StructLoc {
     pub container: ModuleId,
     pub position: InFile<FileAstId>,
 }
 
 /// Where a union stands.
-#[derive(Clone, Copy, PartialEq, Eq, Hash, Debug)]
+#[derive(Clone, Copy, PartialEq, Eq, Hash)]
 pub struct UnionLoc {
     pub container: ModuleId,
     pub position: InFile<FileAstId>,
 }
 
 /// Where an enum stands.
-#[derive(Clone, Copy, PartialEq, Eq, Hash, Debug)]
+#[derive(Clone, Copy, PartialEq, Eq, Hash)]
 pub struct EnumLoc {
     pub container: ModuleId,
     pub position: InFile<FileAstId>,
 }
 
 /// Where a constant stands.
-#[derive(Clone, Copy, PartialEq, Eq, Hash, Debug)]
+#[derive(Clone, Copy, PartialEq, Eq, Hash)]
 pub struct ConstLoc {
     pub container: ItemContainerId,
     pub position: InFile<FileAstId>,
 }
 
 /// Where a static stands.
-#[derive(Clone, Copy, PartialEq, Eq, Hash, Debug)]
+#[derive(Clone, Copy, PartialEq, Eq, Hash)]
 pub struct StaticLoc {
     pub container: ItemContainerId,
     pub position: InFile<FileAstId>,
 }
 
 /// Where a trait stands.
-#[derive(Clone, Copy, PartialEq, Eq, Hash, Debug)]
+#[derive(Clone, Copy, PartialEq, Eq, Hash)]
 pub struct TraitLoc {
     pub container: ModuleId,
     pub position: InFile<FileAstId>,
 }
 
 /// Where a type alias stands.
-#[derive(Clone, Copy, PartialEq, Eq, Hash, Debug)]
+#[derive(Clone, Copy, PartialEq, Eq, Hash)]
 pub struct TypeAliasLoc {
     pub container: ItemContainerId,
     pub position: InFile<FileAstId>,
 }
 
 /// Where an impl stands.
-#[derive(Clone, Copy, PartialEq, Eq, Hash, Debug)]
+#[derive(Clone, Copy, PartialEq, Eq, Hash)]
 pub struct ImplLoc {
     pub container: ModuleId,
     pub position: InFile<FileAstId>,
 }
 
 /// Where a `use` item stands.
-#[derive(Clone, Copy, PartialEq, Eq, Hash, Debug)]
+#[derive(Clone, Copy, PartialEq, Eq, Hash)]
 pub struct UseLoc {
     pub container: ModuleId,
     pub position: InFile<FileAstId>,
 }
 
 /// Where an `extern crate` item stands.
-#[derive(Clone, Copy, PartialEq, Eq, Hash, Debug)]
+#[derive(Clone, Copy, PartialEq, Eq, Hash)]
 pub struct ExternCrateLoc {
     pub container: ModuleId,
     pub position: InFile<FileAstId>,
 }
 
 /// Where an extern block stands.
-#[derive(Clone, Copy, PartialEq, Eq, Hash, Debug)]
+#[derive(Clone, Copy, PartialEq, Eq, Hash)]
 pub struct ExternBlockLoc {
     pub container: ModuleId,
     pub position: InFile<FileAstId>,
 }
 
 /// Where a `macro_rules` macro stands, and what it is.
-#[derive(Clone, Copy, PartialEq, Eq, Hash, Debug)]
+#[derive(Clone, Copy, PartialEq, Eq, Hash)]
 pub struct MacroRulesLoc {
     pub container: ModuleId,
     pub position: InFile<FileAstId>,
@@ -98,7 +98,7 @@ pub struct MacroRulesLoc {
 }
 
 /// Where a `macro` item stands, and what it is.
-#[derive(Clone, Copy, PartialEq, Eq, Hash, Debug)]
+#[derive(Clone, Copy, PartialEq, Eq, Hash)]
 pub struct Macro2Loc {
     pub container: ModuleId,
     pub position: InFile<FileAstId>,
@@ -108,7 +108,7 @@ pub struct Macro2Loc {
 }
 
 /// Where a procedural macro's function stands, and what the macro is.
-#[derive(Clone, Copy, PartialEq, Eq, Hash, Debug)]
+#[derive(Clone, Copy, PartialEq, Eq, Hash)]
 pub struct ProcMacroLoc {
     pub container: ModuleId,
     pub position: InFile<FileAstId>,
@@ -118,7 +118,7 @@ pub struct ProcMacroLoc {
 }
 
 /// Of which derive a builtin impl is.
-#[derive(Clone, Copy, PartialEq, Eq, Hash, Debug)]
+#[derive(Clone, Copy, PartialEq, Eq, Hash)]
 pub struct BuiltinDeriveImplLoc {
     pub adt: Adt,
     /// The trait, by the oracle's number.

@@ -6,7 +6,7 @@ use bitflags::Flags;
 use item_tree::{Crate, MacroCallStyles};
 
 /// An edition of the language.
-#[derive(Clone, Copy, PartialEq, Eq, Hash, Debug)]
+#[derive(Clone, Copy, PartialEq, Eq, Hash)]
 pub enum Edition {
     Edition2015,
     Edition2018,
@@ -15,7 +15,7 @@ pub enum Edition {
 }
 
 /// A builtin attribute macro.
-#[derive(Clone, Copy, PartialEq, Eq, Hash, Debug)]
+#[derive(Clone, Copy, PartialEq, Eq, Hash)]
 pub enum BuiltinAttr {
     Test,
     Bench,
@@ -26,7 +26,7 @@ pub enum BuiltinAttr {
 }
 
 /// What expands a procedural macro.
-#[derive(Clone, Copy, PartialEq, Eq, Hash, Debug)]
+#[derive(Clone, Copy, PartialEq, Eq, Hash)]
 pub enum CustomProcMacroExpander {
     /// The macro of this number, of those that were built for its crate.
     Id(u32),
@@ -39,7 +39,7 @@ pub enum CustomProcMacroExpander {
 }
 
 /// By what a procedural macro is called.
-#[derive(Clone, Copy, PartialEq, Eq, Hash, Debug)]
+#[derive(Clone, Copy, PartialEq, Eq, Hash)]
 pub enum ProcMacroUse {
     CustomDerive,
     Bang,
@@ -47,7 +47,7 @@ pub enum ProcMacroUse {
 }
 
 /// What expands a `macro_rules` macro or a `macro` item. The numbers are the oracle's.
-#[derive(Clone, Copy, PartialEq, Eq, Hash, Debug)]
+#[derive(Clone, Copy, PartialEq, Eq, Hash)]
 pub enum MacroExpander {
     /// Its own rules, which may be called in these ways.
     Declarative(MacroCallStyles),
@@ -61,7 +61,7 @@ pub enum MacroExpander {
 }
 
 /// What expands a macro. The numbers are the oracle's.
-#[derive(Clone, Copy, PartialEq, Eq, Hash, Debug)]
+#[derive(Clone, Copy, PartialEq, Eq, Hash)]
 pub enum MacroDefKind {
     /// Its own rules, which may be called in these ways.
     Declarative(MacroCallStyles),
@@ -76,7 +76,7 @@ pub enum MacroDefKind {
 }
 
 /// A macro: its crate, its id and what expands it.
-#[derive(Clone, Copy, PartialEq, Eq, Hash, Debug)]
+#[derive(Clone, Copy, PartialEq, Eq, Hash)]
 pub struct MacroDefId {
     pub krate: Crate,
     pub id: MacroId,

@@ -124,7 +124,7 @@ abbrev a_variant : ℕ → Item
 a_variant i = public_item (def.Variant (record { 0 = i }))
 
 abbrev macro_loc : MacroDefKind → MacroLoc
-macro_loc kind = record { container = in_crate 0; position = position; kind = kind; local_inner = false; allow_internal_unsafe = false; edition = Edition2021 }
+macro_loc kind = record { container = in_crate 0; position = position; kind = kind; flags = record { 0 = 0 }; edition = Edition2021 }
 
 -- a macro that is called, an attribute, and no other
 abbrev macro_at : MacroId → Option MacroLoc
