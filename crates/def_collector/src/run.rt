@@ -2,7 +2,7 @@
 //! until none resolves any further.
 ghost use Rattle.std.specs.Prelude.{◌≡◌, ◌++◌, [], Some, is_some, option_map, IfOk, OnOk};
 ghost use Rattle.def_ids.specs.declared.interner.Interner.{Interner};
-ghost use Rattle.def_ids.specs.Session.{Grows, session_of};
+ghost use Rattle.def_ids.specs.Session.{AddsLocations, session_of};
 ghost use Rattle.def_map.specs.DefMaps as whole;
 ghost use Rattle.def_map.specs.Fresh.{IsFresh};
 ghost use Rattle.def_modules.specs.Locals.{local_view};
@@ -31,7 +31,8 @@ use std::alloc::{AllocError, Global};
 ///
 /// The map is fresh, as `DefMap::seed` leaves one; the tree is a block's, and `crate_local` is
 /// given, exactly where the map is a block's. A tree that the database lacks counts as empty. Want
-/// of memory answers no map; the session keeps all earlier entries, perhaps with more.
+/// of memory answers no map; the session keeps all earlier entries, perhaps with more locations, and
+/// no name gets a text.
 pub fn collect_defs<D: SourceDatabase>(
     alloc: Global,
     db: &D,
@@ -49,8 +50,8 @@ pub fn collect_defs<D: SourceDatabase>(
         Answers (setting_of (D.oracle db.now) def_map tree_id (option_map (λ l. local_view l.now) crate_local.entry))
         (session_of session.old) (session_of session.new) (shown collected)) }
 
-    // Whatever is answered, the session keeps its entries.
-    ensures session { Grows (session_of session.old) (session_of session.new) }
+    // Whatever is answered, the session keeps its entries, and no name gets a text.
+    ensures session { AddsLocations (session_of session.old) (session_of session.new) }
 {
     let (data, table) = def_map.into_parts();
     let is_proc_macro = is_proc_macro_crate(db, data.tree.map.krate);
@@ -87,7 +88,7 @@ fn collect<'a, D: SourceDatabase>(
         (started (D.oracle db.now) tree_id (state_of collector.old session.old))
         [] (state_of collector.new session.new)) }
     ensures settled { OnOk result (NoneReady (D.oracle db.now) (state_of collector.new session.new)) }
-    ensures session { Grows (session_of session.old) (session_of session.new) }
+    ensures session { AddsLocations (session_of session.old) (session_of session.new) }
 {
     seed_with_top_level(collector, db, session, tree_id)?;
     resolution_loop(collector, db, session)
@@ -105,7 +106,7 @@ fn seed_with_top_level<'a, D: SourceDatabase>(
         (first_tasks (D.oracle db.now) (map_state collector.old.def_map) tree_id)
         (started (D.oracle db.now) tree_id (state_of collector.old session.old))
         [] (state_of collector.new session.new)) }
-    ensures session { Grows (session_of session.old) (session_of session.new) }
+    ensures session { AddsLocations (session_of session.old) (session_of session.new) }
 {
     let map = collector.def_map.tree.map;
     let tree_id = first_tree(db, map, tree_id);

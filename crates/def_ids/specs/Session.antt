@@ -65,6 +65,11 @@ pub record Grows (old new : Session) : Type 0 where
   pub macro_at : (m : MacroId) (loc : MacroLoc) → old.macro_at m ≡ Some loc → new.macro_at m ≡ Some loc
   pub derive_impl : (i : ℕ) (loc : BuiltinDeriveImplLoc) → old.derive_impl i ≡ Some loc → new.derive_impl i ≡ Some loc
 
+-- locations alone were added: no name got a text
+pub record AddsLocations (old new : Session) : Type 0 where
+  pub text : new.text ≡ old.text
+  pub grows : Grows old new
+
 -- equal locations have equal numbers, in each of the kinds that have numbers of their own
 pub record IsInjective (session : Session) : Type 0 where
   pub item : (k : ItemKind) (i j : ℕ) (loc : ItemLoc) → session.item k i ≡ Some loc → session.item k j ≡ Some loc → i ≡ j

@@ -1,5 +1,6 @@
 -- Laws of sessions that grow.
-use Rattle.def_ids.specs.Session.{Session, Grows}
+use Rattle.std.proofs.Common.{refl, ◌∙◌}
+use Rattle.def_ids.specs.Session.{Session, Grows, AddsLocations}
 
 -- a session that stays has grown by nothing
 pub grows_refl : (s : Session) → Grows s s
@@ -14,3 +15,11 @@ grows_trans a b c first second =
       macro_at = λ m loc at. second.macro_at m loc (first.macro_at m loc at);
       derive_impl = λ i loc at. second.derive_impl i loc (first.derive_impl i loc at);
     }
+
+-- to a session that stays no location was added
+pub adds_refl : (s : Session) → AddsLocations s s
+adds_refl s = record { text = refl; grows = grows_refl s }
+
+-- locations after locations are locations
+pub adds_trans : (a b c : Session) → AddsLocations a b → AddsLocations b c → AddsLocations a c
+adds_trans a b c first second = record { text = second.text ∙ first.text; grows = grows_trans a b c first.grows second.grows }

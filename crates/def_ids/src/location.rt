@@ -42,7 +42,7 @@ pub trait LocationId: Copy {
 
 /// A location, which has an id of its own.
 pub trait Location: Exact + Hash + Copy {
-    ghost use Rattle.def_ids.specs.Session.{Grows, session_of};
+    ghost use Rattle.def_ids.specs.Session.{AddsLocations, session_of};
 
     type Id: LocationId<Loc = Self>;
 
@@ -60,7 +60,7 @@ pub trait Location: Exact + Hash + Copy {
             (IsGrownBy self (Self.Id.entries session.old) (Self.Id.entries session.new)) }
         ensures others { session.new
             ≡ Self.Id.with_entries session.old (Self.Id.entries session.new) }
-        ensures grows { Grows (session_of session.old) (session_of session.new) }
+        ensures adds { AddsLocations (session_of session.old) (session_of session.new) }
 
         // On failure nothing changes. Only a new location can fail.
         ensures unchanged { OnErr result (session.new ≡ session.old) }

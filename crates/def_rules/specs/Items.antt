@@ -29,7 +29,7 @@ use Rattle.def_ids.specs.declared.ids.ItemContainerId.TheVariants as contained
 use Rattle.def_ids.specs.declared.ids.ModuleId.{ModuleId}
 use Rattle.def_ids.specs.declared.ids.UseId.{UseId}
 use Rattle.def_ids.specs.Ids.{crate_root}
-use Rattle.def_ids.specs.Session.{Session, Grows, ItemKind, ItemLoc, FunctionItem, StructItem, UnionItem, EnumItem, ConstItem, StaticItem, TraitItem, TypeAliasItem, ImplItem, UseItem, ExternCrateItem, ExternBlockItem, in_container}
+use Rattle.def_ids.specs.Session.{Session, AddsLocations, ItemKind, ItemLoc, FunctionItem, StructItem, UnionItem, EnumItem, ConstItem, StaticItem, TraitItem, TypeAliasItem, ImplItem, UseItem, ExternCrateItem, ExternBlockItem, in_container}
 use Rattle.def_bindings.specs.declared.bindings.Entry.{Entry}
 use Rattle.def_bindings.specs.declared.bindings.ImportOrExternCrate.TheVariants.{ExternCrate as ByCrate}
 use Rattle.def_bindings.specs.declared.bindings.Namespace.{Namespace}
@@ -310,10 +310,10 @@ Handles oracle s site item (Static name raw) effect = Declares oracle s site ite
 Handles oracle s site item (Trait name raw) effect = Declares oracle s site item TraitItem (λ n. def.Trait (record { 0 = n })) Types name raw effect
 Handles oracle s site item (TypeAlias name raw) effect = Declares oracle s site item TypeAliasItem (λ n. def.TypeAlias (record { 0 = n })) Types name raw effect
 
--- an item is handled in a session that may have grown
+-- an item is handled in a session that may have more locations
 abbrev pub HandlesInSession : Oracle → State → Site → ItemNode → Effect → Type 0
 HandlesInSession oracle s site item effect =
-    (session : Session) × Grows s.session session × Handles oracle (record s { session = session }) site item item.kind effect
+    (session : Session) × AddsLocations s.session session × Handles oracle (record s { session = session }) site item item.kind effect
 
 -- an item that cfg disables is reported, and nothing else; any other is handled
 abbrev pub VisitsNode : Oracle → State → Site → ItemNode → Option CfgExpr → Effect → Type 0

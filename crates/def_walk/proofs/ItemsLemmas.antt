@@ -15,8 +15,8 @@ use Rattle.def_ids.specs.declared.ids.Def.{Def}
 use Rattle.def_ids.specs.declared.ids.Def.TheVariants.{Module}
 use Rattle.def_ids.specs.declared.ids.Def.TheVariants as def
 use Rattle.def_ids.specs.declared.ids.ModuleId.{ModuleId}
-use Rattle.def_ids.specs.Session.{Session, Grows, StructItem, UseItem, in_module, ItemKind, FunctionItem, UnionItem, EnumItem, ConstItem, StaticItem, TraitItem, TypeAliasItem, ImplItem, ExternCrateItem, ExternBlockItem, in_container}
-use Rattle.def_ids.specs.SessionLaws.{grows_refl}
+use Rattle.def_ids.specs.Session.{Session, AddsLocations, StructItem, UseItem, in_module, ItemKind, FunctionItem, UnionItem, EnumItem, ConstItem, StaticItem, TraitItem, TypeAliasItem, ImplItem, ExternCrateItem, ExternBlockItem, in_container}
+use Rattle.def_ids.specs.SessionLaws.{adds_refl}
 use Rattle.def_bindings.specs.declared.bindings.Entry.{Entry}
 use Rattle.def_bindings.specs.declared.bindings.Namespace.TheVariants.{Types, Values}
 use Rattle.def_bindings.specs.declared.visibility.Visibility.{Visibility}
@@ -92,7 +92,7 @@ pub handled_module : (oracle : Oracle) (s t : State) (site : Site) (item : ItemN
     → item.kind ≡ Mod name raw contents → vis ≡ written_vis oracle s site.scope raw → IsDone oracle (module_item oracle s site item name vis contents) t inner → Handled oracle s t site item inner
 handled_module oracle s t site item name raw contents vis inner kind seen done = record {
   effect = module_item oracle s site item name vis contents;
-  handled = (s.session, grows_refl s.session, subst (λ k. Handles oracle s site item k (module_item oracle s site item name vis contents)) (sym kind) (ap (λ v. module_item oracle s site item name v contents) seen));
+  handled = (s.session, adds_refl s.session, subst (λ k. Handles oracle s site item k (module_item oracle s site item name vis contents)) (sym kind) (ap (λ v. module_item oracle s site item name v contents) seen));
   done = done;
 }
 
@@ -103,10 +103,10 @@ imports_at at position n raw prelude imports =
 
 -- a `use` item was handled
 pub handled_use : (oracle : Oracle) (s t : State) (session : Session) (site : Site) (item : ItemNode) (raw : RawVisibility) (imports : List UseImport) (n : ℕ) (position : InFile FileAstId) (prelude : Bool)
-    → item.kind ≡ Use raw imports → Grows s.session session → position ≡ position_of site item → prelude ≡ is_prelude_import item.attrs → session.item UseItem n ≡ Some (in_module site.scope position)
+    → item.kind ≡ Use raw imports → AddsLocations s.session session → position ≡ position_of site item → prelude ≡ is_prelude_import item.attrs → session.item UseItem n ≡ Some (in_module site.scope position)
     → t ≡ record s { session = session; imports = s.imports ++ imports_at site.scope position n raw prelude imports }
     → Handled oracle s t site item []
-handled_use oracle s t session site item raw imports n position prelude kind grows placed asked numbered after =
+handled_use oracle s t session site item raw imports n position prelude kind adds placed asked numbered after =
     let effect : Effect = only (record s { session = session; imports = s.imports ++ pending_imports site item (record { 0 = n }) raw imports }) in
     let number : session.item UseItem n ≡ Some (loc_of site UseItem item) = numbered ∙ ap (λ p. Some (in_module site.scope p)) placed in
     let became : t ≡ effect.state =
@@ -115,17 +115,17 @@ handled_use oracle s t session site item raw imports n position prelude kind gro
     ∙ ap (λ b. record s { session = session; imports = s.imports ++ imports_at site.scope (position_of site item) n raw b imports }) asked in
     record {
       effect = effect;
-      handled = (session, grows, subst (λ k. Handles oracle (record s { session = session }) site item k effect) (sym kind) (n, number, refl));
+      handled = (session, adds, subst (λ k. Handles oracle (record s { session = session }) site item k effect) (sym kind) (n, number, refl));
       done = record { puts = []; tasks = refl; performs = subst (λ u. Performs oracle [] effect.state u) (sym became) (performs_none effect.state); session = ap (λ (u : State). u.session) became };
     }
 
 -- a struct was handled
 pub handled_struct : (oracle : Oracle) (s t : State) (session : Session) (site : Site) (item : ItemNode) (name : Name) (raw : RawVisibility) (written : CtorVisibility) (n : ℕ) (position : InFile FileAstId) (vis : Visibility) (ctor : Option Visibility)
-    → item.kind ≡ Struct name raw written → Grows s.session session → position ≡ position_of site item → session.item StructItem n ≡ Some (in_module site.scope position)
+    → item.kind ≡ Struct name raw written → AddsLocations s.session session → position ≡ position_of site item → session.item StructItem n ≡ Some (in_module site.scope position)
     → vis ≡ written_vis oracle (record s { session = session }) site.scope raw → ctor ≡ ctor_vis oracle (record s { session = session }) site.scope written
     → (let effect = struct_effect (record s { session = session }) site.scope name (def.Struct (record { 0 = n })) vis ctor in Performs oracle effect.tasks effect.state t)
     → t.session ≡ session → Handled oracle s t site item []
-handled_struct oracle s t session site item name raw written n position vis ctor kind grows placed numbered seen built after same =
+handled_struct oracle s t session site item name raw written n position vis ctor kind adds placed numbered seen built after same =
     let effect : Effect = struct_effect (record s { session = session }) site.scope name (def.Struct (record { 0 = n })) vis ctor in
     let number : session.item StructItem n ≡ Some (loc_of site StructItem item) = numbered ∙ ap (λ p. Some (in_module site.scope p)) placed in
     let is : effect ≡ struct_effect (record s { session = session }) site.scope name (def.Struct (record { 0 = n })) (written_vis oracle (record s { session = session }) site.scope raw) (ctor_vis oracle (record s { session = session }) site.scope written) =
@@ -133,14 +133,14 @@ handled_struct oracle s t session site item name raw written n position vis ctor
     ∙ ap (struct_effect (record s { session = session }) site.scope name (def.Struct (record { 0 = n })) (written_vis oracle (record s { session = session }) site.scope raw)) built in
     record {
       effect = effect;
-      handled = (session, grows, subst (λ k. Handles oracle (record s { session = session }) site item k effect) (sym kind) (n, number, is));
+      handled = (session, adds, subst (λ k. Handles oracle (record s { session = session }) site item k effect) (sym kind) (n, number, is));
       done = record { puts = effect.tasks; tasks = sym (append-nil effect.tasks); performs = after; session = same };
     }
 
 -- A definition was declared in one namespace
 
 module _ (oracle : Oracle) (s t : State) (session : Session) (site : Site) (item : ItemNode) (name : Name) (raw : RawVisibility) (n : ℕ) (position : InFile FileAstId) (vis : Visibility)
-    (grows : Grows s.session session) (placed : position ≡ position_of site item) (seen : vis ≡ written_vis oracle (record s { session = session }) site.scope raw) where
+    (adds : AddsLocations s.session session) (placed : position ≡ position_of site item) (seen : vis ≡ written_vis oracle (record s { session = session }) site.scope raw) where
   -- the state in the session that has grown
   abbrev grown : State
   grown = record s { session = session }
@@ -155,7 +155,7 @@ module _ (oracle : Oracle) (s t : State) (session : Session) (site : Site) (item
       let number : session.item kind n ≡ Some (loc_of site kind item) = numbered ∙ ap (λ p. Some (in_container (container_of site kind) p)) placed in
       record {
         effect = effect;
-        handled = (session, grows, handles effect (n, number, ap (declared_effect grown site.scope name ns (d n)) seen));
+        handled = (session, adds, handles effect (n, number, ap (declared_effect grown site.scope name ns (d n)) seen));
         done = record { puts = effect.tasks; tasks = refl; performs = after; session = same };
       }
 
@@ -196,7 +196,7 @@ module _ (oracle : Oracle) (s t : State) (session : Session) (site : Site) (item
 
 -- Something was recorded in the module, and nothing put
 
-module _ (oracle : Oracle) (s t : State) (session : Session) (site : Site) (item : ItemNode) (n : ℕ) (position : InFile FileAstId) (grows : Grows s.session session) (placed : position ≡ position_of site item) where
+module _ (oracle : Oracle) (s t : State) (session : Session) (site : Site) (item : ItemNode) (n : ℕ) (position : InFile FileAstId) (adds : AddsLocations s.session session) (placed : position ≡ position_of site item) where
   abbrev kept : State
   kept = record s { session = session }
 
@@ -207,7 +207,7 @@ module _ (oracle : Oracle) (s t : State) (session : Session) (site : Site) (item
       let effect : Effect = only (noted_in kept site.scope (with_unnamed_const (record { 0 = n }))) in
       record {
         effect = effect;
-        handled = (session, grows, subst (λ k. Handles oracle kept site item k effect) (sym kind) (n, numbered ∙ ap (λ p. Some (in_container site.container p)) placed, refl));
+        handled = (session, adds, subst (λ k. Handles oracle kept site item k effect) (sym kind) (n, numbered ∙ ap (λ p. Some (in_container site.container p)) placed, refl));
         done = record { puts = []; tasks = refl; performs = subst (λ u. Performs oracle [] effect.state u) (sym after) (performs_none effect.state); session = ap (λ (u : State). u.session) after };
       }
 
@@ -217,7 +217,7 @@ module _ (oracle : Oracle) (s t : State) (session : Session) (site : Site) (item
       let effect : Effect = only (noted_in kept site.scope (with_impl (record { 0 = n }) of_trait)) in
       record {
         effect = effect;
-        handled = (session, grows, subst (λ k. Handles oracle kept site item k effect) (sym kind) (n, numbered ∙ ap (λ p. Some (in_module site.scope p)) placed, refl));
+        handled = (session, adds, subst (λ k. Handles oracle kept site item k effect) (sym kind) (n, numbered ∙ ap (λ p. Some (in_module site.scope p)) placed, refl));
         done = record { puts = []; tasks = refl; performs = subst (λ u. Performs oracle [] effect.state u) (sym after) (performs_none effect.state); session = ap (λ (u : State). u.session) after };
       }
 
@@ -238,7 +238,7 @@ module _ (oracle : Oracle) (s t : State) (session : Session) (site : Site) (item
       ∙ ap (λ x. crate_effect begun site item (record { 0 = n }) (crate_name name alias) (written_vis oracle kept site.scope raw) x) found in
       record {
         effect = effect;
-        handled = (session, grows, subst (λ k. Handles oracle kept site item k effect) (sym kind) (n, number, is));
+        handled = (session, adds, subst (λ k. Handles oracle kept site item k effect) (sym kind) (n, number, is));
         done = record { puts = effect.tasks; tasks = sym (append-nil effect.tasks); performs = after; session = same ∙ sym left };
       }
     where
@@ -253,7 +253,7 @@ module _ (oracle : Oracle) (s t : State) (session : Session) (site : Site) (item
       let effect : Effect = followed_by (noted_in kept site.scope (with_extern_block (record { 0 = n }))) (walk oracle (record site { container = contained.ExternBlock (record { 0 = n }) }) children) in
       record {
         effect = effect;
-        handled = (session, grows, subst (λ k. Handles oracle kept site item k effect) (sym kind) (n, numbered ∙ ap (λ p. Some (in_module site.scope p)) placed, refl));
+        handled = (session, adds, subst (λ k. Handles oracle kept site item k effect) (sym kind) (n, numbered ∙ ap (λ p. Some (in_module site.scope p)) placed, refl));
         done = record {
           puts = [];
           tasks = ap (λ d. walk oracle (record site { container = contained.ExternBlock (record { 0 = n }); directory = d }) children) (sym same_directory)

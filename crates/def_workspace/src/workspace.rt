@@ -1,7 +1,7 @@
 //! A scripted workspace at work: a session, and the database of its files and crates.
 
 ghost use Rattle.std.specs.Prelude.{◌≡◌, IfOk};
-ghost use Rattle.def_ids.specs.Session.{Grows, session_of};
+ghost use Rattle.def_ids.specs.Session.{AddsLocations, session_of};
 ghost use Rattle.def_walk.specs.Collector.{shown};
 ghost use Rattle.def_rules.specs.Headline.{Answers};
 ghost use Rattle.def_workspace.specs.Scripted.{answers_of};
@@ -142,7 +142,7 @@ impl Workspace {
         ensures answers { IfOk result (λ collected.
             Answers (setting (answers_of self.old.db) text.now)
             (session_of self.old.session) (session_of self.new.session) (shown collected)) }
-        ensures session { Grows (session_of self.old.session) (session_of self.new.session) }
+        ensures session { AddsLocations (session_of self.old.session) (session_of self.new.session) }
         ensures db { self.new.db ≡ self.old.db }
     {
         let seeded = DefMap::seed(self.alloc, Crate(text.krate), text.edition, None)?;

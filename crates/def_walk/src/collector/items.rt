@@ -1,6 +1,6 @@
 //! What each kind of item does.
 ghost use Rattle.std.specs.Prelude.{◌≡◌, ◌∷◌, ◌++◌, [], length, map, IfOk, OnOk};
-ghost use Rattle.def_ids.specs.Session.{Grows, session_of};
+ghost use Rattle.def_ids.specs.Session.{AddsLocations, session_of};
 ghost use Rattle.def_walk.specs.Collector.{AreKnown, inner_of, queued, site_of, state_of, waiting};
 ghost use Rattle.def_steps.specs.Shown.{pending_of};
 ghost use Rattle.def_rules.specs.Performs.{Handled, Performs, Updated};
@@ -61,7 +61,7 @@ impl<'a> DefCollector<'a> {
             Handled (D.oracle db.now) (state_of self.old session.old) (state_of self.new session.new)
             (site_of site.entry) node.now (inner_of (D.oracle db.now) opened)) }
         ensures known { IfOk result (λ opened. AreKnown (D.oracle db.now) opened) }
-        ensures session { Grows (session_of session.old) (session_of session.new) }
+        ensures session { AddsLocations (session_of session.old) (session_of session.new) }
         ensures names { session.new.names ≡ session.old.names }
     {
         match &node.kind {

@@ -3,7 +3,7 @@ ghost use Rattle.std.specs.Prelude.{◌≡◌, ◌<◌, ◌+◌, ◌++◌, ◌�
 ghost use Rattle.std.specs.Option.{option_copied};
 ghost use Rattle.item_tree.specs.Trees.{item_at};
 ghost use Rattle.def_ids.specs.declared.interner.Interner.{Interner};
-ghost use Rattle.def_ids.specs.Session.{Grows, session_of};
+ghost use Rattle.def_ids.specs.Session.{AddsLocations, session_of};
 ghost use Rattle.def_walk.specs.Collector.{AreKnown, frame_tasks, inner_of, is_frame_known, is_known, left_of, list_site, listed, state_of, tree_in};
 ghost use Rattle.def_rules.specs.Work.{task_work, work};
 ghost use Rattle.def_rules.specs.Items.{name_text, ordered, walk};
@@ -78,7 +78,7 @@ impl<'a> DefCollector<'a> {
         requires { is_known (D.oracle db.now) first }
         ensures run { OnOk result (Leads (D.oracle db.now) (walk (D.oracle db.now) (list_site first.entry) first.entry.items.now)
             (state_of self.old session.old) [] (state_of self.new session.new)) }
-        ensures session { Grows (session_of session.old) (session_of session.new) }
+        ensures session { AddsLocations (session_of session.old) (session_of session.new) }
     {
         let frame = self.open(first)?;
         let mut frames = Vec::new(self.alloc);
@@ -136,7 +136,7 @@ impl<'a> DefCollector<'a> {
             < work (D.oracle db.now) texts (frame_tasks frame.old)) }
         ensures known { IfOk result (λ opened. AreKnown (D.oracle db.now) opened
             × is_frame_known (D.oracle db.now) frame.new) }
-        ensures session { Grows (session_of session.old) (session_of session.new) }
+        ensures session { AddsLocations (session_of session.old) (session_of session.new) }
         ensures names { session.new.names ≡ session.old.names }
     {
         'items: while let Some(id) = frame.next_item() {
@@ -167,7 +167,7 @@ impl<'a> DefCollector<'a> {
             1 + work (D.oracle db.now) texts (inner_of (D.oracle db.now) opened)
             < task_work (D.oracle db.now) texts (Visit (list_site list.now) id)) }
         ensures known { IfOk result (λ opened. AreKnown (D.oracle db.now) opened) }
-        ensures session { Grows (session_of session.old) (session_of session.new) }
+        ensures session { AddsLocations (session_of session.old) (session_of session.new) }
         ensures names { session.new.names ≡ session.old.names }
     {
         let Some(node) = item_in(list.tree, id) else {

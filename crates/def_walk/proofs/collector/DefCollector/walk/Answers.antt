@@ -1,6 +1,6 @@
 use Rattle.std.proofs.Common.{ap, refl, subst, sym, ◌∙◌, ◌++◌, ◌∷◌, []}
 use Rattle.def_ids.specs.Session.{session_of}
-use Rattle.def_ids.specs.SessionLaws.{grows_refl, grows_trans}
+use Rattle.def_ids.specs.SessionLaws.{adds_refl, adds_trans}
 use Rattle.def_walk.specs.Collector.{agenda_of, is_frame_known, is_known, list_site, state_of}
 use Rattle.def_rules.specs.Items.{name_text, walk}
 use Rattle.def_rules.specs.Steps.{Leads}
@@ -18,7 +18,7 @@ frames-init g c =
       run = walk_begins oracle c.args.first frame c.push.new.self.items (state_of c.args.self.now c.args.session.now) (state_of c.open.new.self c.args.session.now)
           c.requires c.in_ok-frame.ensures.list c.in_ok-frame.ensures.left one (c.in_ok-frame.ensures.entered c.args.session.now);
       known = all_pushed (is_frame_known oracle) [] c.push.new.self.items frame one (all_none (is_frame_known oracle)) (subst (is_known oracle) (sym c.in_ok-frame.ensures.list) c.requires);
-      grows = grows_refl (session_of c.args.session.now);
+      adds = adds_refl (session_of c.args.session.now);
       names = refl;
     }
 
@@ -34,7 +34,7 @@ frames-preserved g c =
           (walked oracle c.frames.frames.items c.pop.new.self.items c.in-Some.frame c.walk_list.new.frame c.in-Some.ensures.items c.in_ok-opened.opened
           (state_of c.frames.self c.frames.session) (state_of c.walk_list.new.self c.walk_list.new.session) c.in_ok-opened.ensures.run c.in_default-opened.is c.in_ok-opened.ensures.ends);
       known = all_below (is_frame_known oracle) c.pop.new.self.items c.frames.frames.items c.in-Some.frame c.in-Some.ensures.items c.frames.invariant.known;
-      grows = grows_trans (session_of c.args.session.now) (session_of c.frames.session) (session_of c.walk_list.new.session) c.frames.invariant.grows c.walk_list.ensures.session;
+      adds = adds_trans (session_of c.args.session.now) (session_of c.frames.session) (session_of c.walk_list.new.session) c.frames.invariant.adds c.walk_list.ensures.session;
       names = c.walk_list.ensures.names ∙ c.frames.invariant.names;
     }
 
@@ -50,7 +50,7 @@ frames-preserved-in_default-opened g c =
           (walked oracle c.frames.frames.items c.pop.new.self.items c.in-Some.frame c.walk_list.new.frame c.in-Some.ensures.items c.in_ok-opened.opened
           (state_of c.frames.self c.frames.session) (state_of c.walk_list.new.self c.walk_list.new.session) c.in_ok-opened.ensures.run c.in_default-opened.is c.in_ok-opened.ensures.ends);
       known = all_below (is_frame_known oracle) c.pop.new.self.items c.frames.frames.items c.in-Some.frame c.in-Some.ensures.items c.frames.invariant.known;
-      grows = grows_trans (session_of c.args.session.now) (session_of c.frames.session) (session_of c.walk_list.new.session) c.frames.invariant.grows c.walk_list.ensures.session;
+      adds = adds_trans (session_of c.args.session.now) (session_of c.frames.session) (session_of c.walk_list.new.session) c.frames.invariant.adds c.walk_list.ensures.session;
       names = c.walk_list.ensures.names ∙ c.frames.invariant.names;
     }
 
@@ -73,7 +73,7 @@ frames-preserved-in-Continue-branch-6 g c =
           c.in_ok-inner.inner c.in_ok-inner.ensures.list c.in_ok-inner.ensures.left c.in_ok-opened.ensures.known.0
           c.push-in-Some-opened.new.self.items c.push-in-Some-opened-2.new.self.items c.in_ok-push-2.ensures.items c.in_ok-push-3.ensures.items
           (all_below (is_frame_known oracle) c.pop.new.self.items c.frames.frames.items c.in-Some.frame c.in-Some.ensures.items c.frames.invariant.known) c.in_ok-opened.ensures.known.1;
-      grows = grows_trans (session_of c.args.session.now) (session_of c.frames.session) (session_of c.walk_list.new.session) c.frames.invariant.grows c.walk_list.ensures.session;
+      adds = adds_trans (session_of c.args.session.now) (session_of c.frames.session) (session_of c.walk_list.new.session) c.frames.invariant.adds c.walk_list.ensures.session;
       names = c.walk_list.ensures.names ∙ c.frames.invariant.names;
     }
 
@@ -95,12 +95,12 @@ returns-clause-run g c =
 
 pub returns-in_err-opened-clause-session : goal.returns-in_err-opened-clause-session
 returns-in_err-opened-clause-session g c =
-    grows_trans (session_of c.args.session.now) (session_of c.frames.session) (session_of c.walk_list.new.session) c.frames.invariant.grows c.walk_list.ensures.session
+    adds_trans (session_of c.args.session.now) (session_of c.frames.session) (session_of c.walk_list.new.session) c.frames.invariant.adds c.walk_list.ensures.session
 
 pub returns-in_err-inner-clause-session : goal.returns-in_err-inner-clause-session
 returns-in_err-inner-clause-session g c =
-    grows_trans (session_of c.args.session.now) (session_of c.frames.session) (session_of c.walk_list.new.session) c.frames.invariant.grows c.walk_list.ensures.session
+    adds_trans (session_of c.args.session.now) (session_of c.frames.session) (session_of c.walk_list.new.session) c.frames.invariant.adds c.walk_list.ensures.session
 
 pub returns-in_err-push-3-clause-session : goal.returns-in_err-push-3-clause-session
 returns-in_err-push-3-clause-session g c =
-    grows_trans (session_of c.args.session.now) (session_of c.frames.session) (session_of c.walk_list.new.session) c.frames.invariant.grows c.walk_list.ensures.session
+    adds_trans (session_of c.args.session.now) (session_of c.frames.session) (session_of c.walk_list.new.session) c.frames.invariant.adds c.walk_list.ensures.session

@@ -1,5 +1,5 @@
 use Rattle.std.proofs.Common.{◌≡◌, All}
-use Rattle.def_ids.specs.Session.{Grows, session_of}
+use Rattle.def_ids.specs.Session.{AddsLocations, session_of}
 use Rattle.def_walk.specs.Collector.{agenda_of, is_frame_known, list_site, state_of, walk_measure}
 use Rattle.def_rules.specs.Items.{name_text, walk}
 use Rattle.def_rules.specs.Steps.{Leads}
@@ -11,7 +11,7 @@ invariant-frames g l =
     record {
       run : Leads oracle (walk oracle (list_site l.fn.first) l.fn.first.items.now) (state_of l.fn.self l.fn.session) (agenda_of l.frames.items) (state_of l.self l.session);
       known : All (is_frame_known oracle) l.frames.items;
-      grows : Grows (session_of l.fn.session) (session_of l.session);
+      adds : AddsLocations (session_of l.fn.session) (session_of l.session);
       names : l.session.names ≡ l.fn.session.names;
     }
 

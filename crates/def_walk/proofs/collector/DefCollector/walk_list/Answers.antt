@@ -1,6 +1,6 @@
 use Rattle.std.proofs.Common.{None, Some, refl, subst, ◌∙◌, arith}
 use Rattle.def_ids.specs.Session.{session_of}
-use Rattle.def_ids.specs.SessionLaws.{grows_refl, grows_trans}
+use Rattle.def_ids.specs.SessionLaws.{adds_refl, adds_trans}
 use Rattle.def_rules.specs.Items.{name_text}
 use Rattle.def_rules.specs.StepsLaws.{leads_refl, leads_trans}
 use Rattle.def_walk.specs.Collector.{AreKnown, state_of}
@@ -12,7 +12,7 @@ items-init g c = record {
   run = λ rest. leads_refl _ _;
   fewer = omega arith;
   known = c.requires;
-  grows = grows_refl (session_of c.args.session.now);
+  adds = adds_refl (session_of c.args.session.now);
   names = refl;
 }
 
@@ -20,7 +20,7 @@ pub visit-requires : goal.visit-requires
 visit-requires g c = c.items.invariant.known
 
 pub returns-in_err-opened-clause-session : goal.returns-in_err-opened-clause-session
-returns-in_err-opened-clause-session g c = grows_trans (session_of c.args.session.now) (session_of c.items.session) (session_of c.visit.new.session) c.items.invariant.grows c.visit.ensures.session
+returns-in_err-opened-clause-session g c = adds_trans (session_of c.args.session.now) (session_of c.items.session) (session_of c.visit.new.session) c.items.invariant.adds c.visit.ensures.session
 
 pub returns-in_err-opened-clause-names : goal.returns-in_err-opened-clause-names
 returns-in_err-opened-clause-names g c = c.visit.ensures.names ∙ c.items.invariant.names
@@ -41,7 +41,7 @@ returns-in-Some-opened-clause-known g c =
     (subst (AreKnown (g.D.SourceDatabase.oracle c.args.db.now)) c.in-Some-opened.is c.in_ok-opened.ensures.known, c.items.invariant.known)
 
 pub returns-in-Some-opened-clause-session : goal.returns-in-Some-opened-clause-session
-returns-in-Some-opened-clause-session g c = grows_trans (session_of c.args.session.now) (session_of c.items.session) (session_of c.visit.new.session) c.items.invariant.grows c.visit.ensures.session
+returns-in-Some-opened-clause-session g c = adds_trans (session_of c.args.session.now) (session_of c.items.session) (session_of c.visit.new.session) c.items.invariant.adds c.visit.ensures.session
 
 pub returns-in-Some-opened-clause-names : goal.returns-in-Some-opened-clause-names
 returns-in-Some-opened-clause-names g c = c.visit.ensures.names ∙ c.items.invariant.names
@@ -55,7 +55,7 @@ items-preserved g c =
           c.in_ok-opened.opened None c.in_default-opened.is c.in_ok-opened.ensures.run rest);
       fewer = visited_within oracle c.items.frame c.in-Some.id c.in-Some.ensures.item (name_text (session_of c.args.session.now)) _ c.items.invariant.fewer;
       known = c.items.invariant.known;
-      grows = grows_trans (session_of c.args.session.now) (session_of c.items.session) (session_of c.visit.new.session) c.items.invariant.grows c.visit.ensures.session;
+      adds = adds_trans (session_of c.args.session.now) (session_of c.items.session) (session_of c.visit.new.session) c.items.invariant.adds c.visit.ensures.session;
       names = c.visit.ensures.names ∙ c.items.invariant.names;
     }
 
@@ -72,7 +72,7 @@ pub returns-clause-known : goal.returns-clause-known
 returns-clause-known g c = (tt, c.items.invariant.known)
 
 pub returns-clause-session : goal.returns-clause-session
-returns-clause-session g c = c.items.invariant.grows
+returns-clause-session g c = c.items.invariant.adds
 
 pub returns-clause-names : goal.returns-clause-names
 returns-clause-names g c = c.items.invariant.names

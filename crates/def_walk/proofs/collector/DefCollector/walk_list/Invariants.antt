@@ -1,5 +1,5 @@
 use Rattle.std.proofs.Common.{◌≡◌, ◌≤◌, ◌++◌, List, length}
-use Rattle.def_ids.specs.Session.{Grows, session_of}
+use Rattle.def_ids.specs.Session.{AddsLocations, session_of}
 use Rattle.def_walk.specs.Collector.{frame_tasks, is_frame_known, left_of, state_of}
 use Rattle.def_rules.specs.Items.{name_text}
 use Rattle.def_rules.specs.State.{Task}
@@ -15,7 +15,7 @@ invariant-items g l =
       run : (rest : List Task) → Leads oracle (frame_tasks l.fn.frame ++ rest) (state_of l.fn.self l.fn.session) (frame_tasks l.frame ++ rest) (state_of l.self l.session);
       fewer : work oracle texts (frame_tasks l.frame) ≤ work oracle texts (frame_tasks l.fn.frame);
       known : is_frame_known oracle l.frame;
-      grows : Grows (session_of l.fn.session) (session_of l.session);
+      adds : AddsLocations (session_of l.fn.session) (session_of l.session);
       names : l.session.names ≡ l.fn.session.names;
     }
 
