@@ -119,6 +119,10 @@ unnamed_raised = refl
 unnamed_not_lowered : held (put_entry levels here (unnamed (Trait tr) low) (put_entry levels here (unnamed (Trait tr) high) empty)) here (Unnamed tr) ≡ Some (unnamed_binding tr high)
 unnamed_not_lowered = refl
 
+-- a trait that is found in values or macros alone stays where it is
+trait_in_values_ignored : (c : Content Bool) → put_entry levels here (record (unnamed (Trait tr) high) { ns = Values }) c ≡ c
+trait_in_values_ignored c = refl
+
 -- an entry without a name that is no trait is ignored
 nameless_ignored : (c : Content Bool) → put_entry levels here (unnamed one high) c ≡ c
 nameless_ignored c = refl

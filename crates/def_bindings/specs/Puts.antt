@@ -9,6 +9,7 @@ use Rattle.def_ids.specs.declared.ids.Def.TheVariants.{Trait}
 use Rattle.def_ids.specs.Ids.{is_same_module}
 use Rattle.def_ids.specs.Equality.{def_eq, glob_eq}
 use Rattle.def_bindings.specs.declared.bindings.Namespace.{Namespace}
+use Rattle.def_bindings.specs.declared.bindings.Namespace.TheVariants.{Types}
 use Rattle.def_bindings.specs.declared.bindings.ImportOrExternCrate.{ImportOrExternCrate}
 use Rattle.def_bindings.specs.declared.bindings.ImportOrExternCrate.TheVariants.{Glob}
 use Rattle.def_bindings.specs.declared.bindings.Binding.{Binding}
@@ -83,15 +84,15 @@ written c m (Unnamed item) (Some b) = with_unnamed c m item b.vis
 abbrev pub put : {V : Type 0} → Order V → Content V → ModuleId → Slot → Binding V → Content V
 put o c m slot offer = written c m slot (settled o (held c m slot) (fitted slot offer))
 
--- an entry without a name is an unnamed trait, and one that is no trait is ignored
-abbrev pub unnamed_slot : Def → Option Slot
-unnamed_slot (Trait item) = Some (Unnamed item)
-unnamed_slot _ = None
+-- an entry without a name is an unnamed trait where it is in types, and all else is ignored
+abbrev pub unnamed_slot : Namespace → Def → Option Slot
+unnamed_slot Types (Trait item) = Some (Unnamed item)
+unnamed_slot _ _ = None
 
 -- the slot of an entry
 abbrev pub slot_for : Option Name → Namespace → Def → Option Slot
 slot_for (Some name) ns def = Some (Named name ns)
-slot_for None ns def = unnamed_slot def
+slot_for None ns def = unnamed_slot ns def
 
 abbrev pub slot_of : {V : Type 0} → Entry V → Option Slot
 slot_of e = slot_for e.name e.ns e.def

@@ -7,6 +7,7 @@ use Rattle.def_ids.specs.declared.ids.GlobId.{GlobId}
 use Rattle.def_ids.specs.declared.ids.Def.{Def}
 use Rattle.def_ids.specs.declared.ids.Def.TheVariants.{Trait}
 use Rattle.def_bindings.specs.declared.bindings.Namespace.{Namespace}
+use Rattle.def_bindings.specs.declared.bindings.Namespace.TheVariants.{Types}
 use Rattle.def_bindings.specs.declared.bindings.Binding.{Binding}
 use Rattle.def_bindings.specs.declared.bindings.EdgeTo.{EdgeTo}
 use Rattle.def_bindings.specs.declared.bindings.Entry.{Entry}
@@ -108,12 +109,12 @@ module _ {V : Type 0} (o : Order V) (at : ModuleId) where
       ∙ ap (λ w. (written c at (Named name e.ns) w).binding at name e.ns) settles
       ∙ held-written_here c at (Named name e.ns) (offered e)
 
-  from_unnamed : (d : Def) (name : Name) (ns : Namespace) → unnamed_slot d ≡ Some (Named name ns) → ⊥
-  from_unnamed (Trait t) name ns e = let wrong : Unnamed t ≡ Named name ns = cc in cc
-  from_unnamed _ name ns e = cc
+  from_unnamed : (k : Namespace) (d : Def) (name : Name) (ns : Namespace) → unnamed_slot k d ≡ Some (Named name ns) → ⊥
+  from_unnamed Types (Trait t) name ns e = let wrong : Unnamed t ≡ Named name ns = cc in cc
+  from_unnamed _ _ name ns e = cc
 
   named_from : (n : Option Name) (k : Namespace) (d : Def) (name : Name) (ns : Namespace) → slot_for n k d ≡ Some (Named name ns) → (n ≡ Some name) × (ns ≡ k)
-  named_from None k d name ns e = absurd (from_unnamed d name ns e)
+  named_from None k d name ns e = absurd (from_unnamed k d name ns e)
   named_from (Some x) k d name ns e = let f : Named x k ≡ Named name ns = cc in let p : x ≡ name = cc in let q : ns ≡ k = cc in (ap Some p, q)
 
   from_put_at : (slot : Option Slot) (offer : Binding V) (c : Content V) (m : ModuleId) (name : Name) (ns : Namespace) (b : Binding V)

@@ -3,7 +3,7 @@ ghost use Rattle.std.specs.Prelude.{◌≡◌, is_some, IfOk, OnErr};
 ghost use Rattle.def_bindings.specs.Puts.{held, fitted, settled, settled_over, settled_by_glob, written, put, put_entry as after_entry, is_put, slot_of, offered, answer, copied, glob_of, unnamed_binding};
 
 use crate::binding_table::BindingTable;
-use crate::bindings::{Binding, EdgeTo, Entry, ImportOrExternCrate, Slot};
+use crate::bindings::{Binding, EdgeTo, Entry, ImportOrExternCrate, Namespace, Slot};
 use crate::visibility::{VisOrder, is_raised, lesser_or_import};
 use def_ids::{Def, GlobId, ModuleId, TraitId, UseId};
 use std::alloc::AllocError;
@@ -154,13 +154,14 @@ pub fn put_at<T: BindingTable, O: VisOrder<Vis = T::Vis>>(
     write(table, module, slot, settled)
 }
 
-/// Where an entry goes. One without a name is an unnamed trait, or nothing if it is no trait.
+/// Where an entry goes. One without a name is an unnamed trait where it is in types; in another
+/// namespace, or where it is no trait, it goes nowhere.
 pub fn slot_of_entry<V: Copy>(entry: &Entry<V>) -> Option<Slot>
     ensures { result ≡ slot_of entry.now }
 {
-    match (entry.name, entry.def) {
-        (Some(name), _) => Some(Slot::Named(name, entry.ns)),
-        (None, Def::Trait(item)) => Some(Slot::Unnamed(item)),
+    match (entry.name, entry.ns, entry.def) {
+        (Some(name), ns, _) => Some(Slot::Named(name, ns)),
+        (None, Namespace::Types, Def::Trait(item)) => Some(Slot::Unnamed(item)),
         _ => None,
     }
 }

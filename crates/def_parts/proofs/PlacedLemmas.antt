@@ -8,6 +8,7 @@ use Rattle.def_ids.specs.declared.ids.GlobId.{GlobId}
 use Rattle.def_ids.specs.declared.ids.Def.{Def}
 use Rattle.def_ids.specs.declared.ids.Def.TheVariants.{Trait}
 use Rattle.def_bindings.specs.declared.bindings.Namespace.{Namespace}
+use Rattle.def_bindings.specs.declared.bindings.Namespace.TheVariants.{Types}
 use Rattle.def_bindings.specs.declared.bindings.ImportOrExternCrate.TheVariants.{Glob}
 use Rattle.def_bindings.specs.declared.bindings.Binding.{Binding}
 use Rattle.def_bindings.specs.declared.bindings.EdgeTo.{EdgeTo}
@@ -147,8 +148,8 @@ held_put o m (Some x) offer c t y b h =
 -- the name and the namespace of an entry are those of its slot
 slot_name : (n : Option Name) (k : Namespace) (d : Def) (name : Name) (ns : Namespace) → slot_for n k d ≡ Some (Named name ns) → (n ≡ Some name) × (k ≡ ns)
 slot_name (Some n) k d name ns h = (cc, cc)
-slot_name None k (Trait t) name ns h = cc
-slot_name None k _ name ns h = cc
+slot_name None Types (Trait t) name ns h = cc
+slot_name None _ _ name ns h = cc
 
 pub named_entry : {V : Type 0} (e : Entry V) (name : Name) (ns : Namespace) (t m : ModuleId) (c : Content V) → slot_of e ≡ Some (Named name ns)
     → (e.name ≡ Some name → (t ≡ m) ⊎ ((b : Binding V) × (held c t (Named name e.ns) ≡ Some b) × (b.def ≡ e.def)))
