@@ -7,5 +7,6 @@ mod glob_imports;
 mod globs;
 mod prelude_imports;
 mod proc_macros;
+mod shown_order;
 mod tables;
 mod trees;

@@ -1,1 +1,2 @@
+pub mod PlacesLemmas
 pub mod OrderLemmas

@@ -3,6 +3,7 @@ ghost use Rattle.std.specs.Prelude.{◌≡◌, IfOk, OnOk};
 ghost use Rattle.def_modules.specs.Locals.{local_view};
 ghost use Rattle.def_modules.specs.Maps.{crate_state};
 ghost use Rattle.def_rules.specs.Crates as crates;
+ghost use Rattle.def_steps.specs.Places.{with_last, with_lasts};
 
 use def_ids::ModuleId;
 use def_map::{Dependency, ExternPreludeEntry, LangCrate, LocalDefMap, MapData, SourceDatabase};
@@ -48,8 +49,24 @@ fn name_all(known: &mut LocalDefMap, deps: &[Dependency]) -> Result<(), AllocErr
     Ok(())
 }
 
-/// Names these dependencies, one after the other.
+/// Names these dependencies. Of two of one name the later stands, at the place of the first.
+#[tactic(auto, using(crate::proofs::PlacesLemmas::last_decides))]
 pub fn add_all<D: SourceDatabase>(
+    db: &D,
+    def_map: &MapData,
+    local: &mut LocalDefMap,
+    deps: &[Dependency],
+) -> Result<(), AllocError>
+    ensures { OnOk result (local_view local.new
+        ≡ crates.after_deps (D.oracle db.now) (crate_state def_map.now) deps.now (local_view local.old)) }
+{
+    let mut last = LocalDefMap::new(*local.extern_prelude.allocator());
+    add_each(db, def_map, &mut last, deps)?;
+    place_all(local, &last, deps)
+}
+
+/// Names these dependencies, one after the other.
+fn add_each<D: SourceDatabase>(
     db: &D,
     def_map: &MapData,
     local: &mut LocalDefMap,
@@ -62,6 +79,35 @@ pub fn add_all<D: SourceDatabase>(
         add_dependency(db, def_map, local, *dep)?;
     }
     Ok(())
+}
+
+/// Names these dependencies as `last` has them. Each name stands at the place of the first.
+fn place_all(
+    local: &mut LocalDefMap,
+    last: &LocalDefMap,
+    deps: &[Dependency],
+) -> Result<(), AllocError>
+    ensures { OnOk result (local_view local.new
+        ≡ with_lasts (local_view last.now) deps.now (local_view local.old)) }
+{
+    'deps: for dep in deps {
+        place(local, last, *dep)?;
+    }
+    Ok(())
+}
+
+/// Names a dependency as `last` has its name, at the place where that stands.
+fn place(local: &mut LocalDefMap, last: &LocalDefMap, dep: Dependency) -> Result<(), AllocError>
+    ensures { OnOk result (local_view local.new
+        ≡ with_last (local_view last.now) dep (local_view local.old)) }
+{
+    match last.extern_entry(dep.name) {
+        Some(entry) => local.insert(dep.name, entry),
+        None => {
+            let _ = local.extern_prelude.shift_remove(&dep.name);
+            Ok(())
+        }
+    }
 }
 
 /// Names a dependency, in the place of an earlier one of its name.

@@ -3,7 +3,8 @@
 
 use def_ids::Edition;
 use def_workspace::{
-    CrateText, CtorText, Fault, ImportText, ItemText, Line, PathText, Vector, VisText, run, show,
+    CrateText, CtorText, Fault, ImportText, ItemText, Line, PathText, PlainKind, Vector, VisText,
+    run, show,
 };
 use item_tree::{ImportKind, PathKind};
 use std::alloc::Global;
@@ -393,6 +394,95 @@ static RAISED: [&[Line]; 1] = [&[
     },
 ]];
 
+/// use m::n::*; mod t { pub trait N {} } mod m { use crate::t::*; pub mod n { pub use crate::m::*; } pub use crate::t::*; }
+static RAISED_BEHIND: [&[Line]; 1] = [&[
+    Line {
+        depth: 0,
+        item: ItemText::Use {
+            vis: VisText::PubSelf,
+            imports: &[ImportText {
+                path: PathText {
+                    kind: PathKind::Plain,
+                    segments: &["m", "n"],
+                },
+                kind: ImportKind::Glob,
+                alias: None,
+            }],
+        },
+    },
+    Line {
+        depth: 0,
+        item: ItemText::Mod {
+            vis: VisText::PubSelf,
+            name: "t",
+        },
+    },
+    Line {
+        depth: 1,
+        item: ItemText::Plain {
+            kind: PlainKind::Trait,
+            vis: VisText::Public,
+            name: "N",
+        },
+    },
+    Line {
+        depth: 0,
+        item: ItemText::Mod {
+            vis: VisText::PubSelf,
+            name: "m",
+        },
+    },
+    Line {
+        depth: 1,
+        item: ItemText::Use {
+            vis: VisText::PubSelf,
+            imports: &[ImportText {
+                path: PathText {
+                    kind: PathKind::Crate,
+                    segments: &["t"],
+                },
+                kind: ImportKind::Glob,
+                alias: None,
+            }],
+        },
+    },
+    Line {
+        depth: 1,
+        item: ItemText::Mod {
+            vis: VisText::Public,
+            name: "n",
+        },
+    },
+    Line {
+        depth: 2,
+        item: ItemText::Use {
+            vis: VisText::Public,
+            imports: &[ImportText {
+                path: PathText {
+                    kind: PathKind::Crate,
+                    segments: &["m"],
+                },
+                kind: ImportKind::Glob,
+                alias: None,
+            }],
+        },
+    },
+    Line {
+        depth: 1,
+        item: ItemText::Use {
+            vis: VisText::Public,
+            imports: &[ImportText {
+                path: PathText {
+                    kind: PathKind::Crate,
+                    segments: &["t"],
+                },
+                kind: ImportKind::Glob,
+                alias: None,
+            }],
+        },
+    },
+]];
+
 /// Looks at the lines of a scripted crate.
 fn expect_lines(
     rt: &impl Abort,
@@ -610,4 +700,27 @@ edge 4 3 pub 3.0
 #[test]
 fn a_name_that_is_raised_travels_on(rt: HostRuntime) -> Result<(), Fault> {
     expect_lines(&rt, rt.alloc(), &RAISED, RAISED_LINES)
+}
+
+const RAISED_BEHIND_LINES: &str = "module 0 - crate
+module 1 0 t
+module 2 0 m
+module 3 2 n
+binding 0 N types trait:0 in:0 glob:0.0
+binding 0 m types mod:2 in:0 decl
+binding 0 n types mod:3 in:0 glob:0.0
+binding 0 t types mod:1 in:0 decl
+binding 1 N types trait:0 pub decl
+binding 2 N types trait:0 pub glob:1.0
+binding 2 n types mod:3 pub decl
+binding 3 N types trait:0 pub glob:2.0
+binding 3 n types mod:3 pub glob:2.0
+edge 1 2 pub 1.0
+edge 2 3 pub 2.0
+edge 3 0 in:0 0.0
+";
+
+#[test]
+fn a_name_that_is_raised_is_seen_further_on(rt: HostRuntime) -> Result<(), Fault> {
+    expect_lines(&rt, rt.alloc(), &RAISED_BEHIND, RAISED_BEHIND_LINES)
 }

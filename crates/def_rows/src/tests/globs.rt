@@ -101,6 +101,48 @@ fn a_name_travels_round_a_cycle(rt: HostRuntime) -> Result<(), Fail> {
     Ok(())
 }
 
+/// An edge of two modules whose names all modules see.
+fn add_open_edge<T: BindingTable<Vis = Level>>(
+    globs: &mut Globs<T>,
+    source: usize,
+    importer: usize,
+    number: usize,
+) -> Result<(), AllocError> {
+    globs.add_edge(
+        &Levels,
+        module(source),
+        module(importer),
+        Level::High,
+        glob(number),
+    )
+}
+
+#[test]
+fn a_wave_follows_the_first_edge_to_its_end(rt: HostRuntime) -> Result<(), Fail> {
+    let mut globs = Globs::new(rt.alloc(), NumberedTable::new(rt.alloc())?);
+    add_open_edge(&mut globs, 0, 1, 0)?;
+    add_open_edge(&mut globs, 0, 2, 1)?;
+    add_open_edge(&mut globs, 1, 2, 2)?;
+    globs.update(&Levels, module(0), &[declared(1, Level::High)])?;
+    assert_eq!(rt; name_in(&globs, 2), bound(1, Level::High, Some(glob(2))));
+    Ok(())
+}
+
+#[test]
+fn names_travel_in_the_order_of_the_list(rt: HostRuntime) -> Result<(), Fail> {
+    let mut globs = Globs::new(rt.alloc(), NumberedTable::new(rt.alloc())?);
+    add_open_edge(&mut globs, 0, 1, 0)?;
+    let first = declared(1, Level::High);
+    let second = Entry {
+        name: Some(Name(41)),
+        ..declared(2, Level::High)
+    };
+    globs.update(&Levels, module(0), &[first, second])?;
+    assert_eq!(rt; globs.table().name_at(module(1), 0), Some(NAME));
+    assert_eq!(rt; globs.table().name_at(module(1), 1), Some(Name(41)));
+    Ok(())
+}
+
 #[test]
 fn a_name_stops_where_it_is_not_seen(rt: HostRuntime) -> Result<(), Fail> {
     let mut globs = Globs::new(rt.alloc(), NumberedTable::new(rt.alloc())?);

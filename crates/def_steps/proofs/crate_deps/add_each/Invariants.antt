@@ -2,7 +2,7 @@ use Rattle.std.proofs.Common.{◌≡◌, drop}
 use Rattle.def_modules.specs.Locals.{local_view}
 use Rattle.def_modules.specs.Maps.{crate_state}
 use Rattle.def_rules.specs.Crates.{after_deps}
-use Rattle.def_steps.proofs.crate_deps.add_all.Given as goal
+use Rattle.def_steps.proofs.crate_deps.add_each.Given as goal
 
 abbrev pub invariant-deps : goal.invariant-deps
 invariant-deps g l =
