@@ -10,7 +10,7 @@ use Rattle.def_bindings.specs.declared.visibility.Visibility.{Visibility}
 use Rattle.def_bindings.specs.Content.{Content}
 use Rattle.def_bindings.specs.Visibility.{order_over}
 use Rattle.def_bindings.specs.PutsLaws.{edges_stay-copied, edges_stay-put_entry}
-use Rattle.def_map.specs.declared.path_resolution.asked.ResolvePathResult.{ResolvePathResult}
+use Rattle.def_paths.specs.declared.asked.ResolvePathResult.{ResolvePathResult}
 use Rattle.def_map.specs.Oracle.{Oracle}
 use Rattle.def_map.specs.Answers.{variants_of}
 use Rattle.def_map.specs.Paths.{for_import, map_of, question}

@@ -23,7 +23,7 @@ use Rattle.def_bindings.specs.Content.{Content, is_listed, is_name, is_trait, vi
 use Rattle.def_bindings.specs.IdLaws.{name-eq, trait-eq}
 use Rattle.def_bindings.specs.Order.{Order}
 use Rattle.def_bindings.specs.Puts.{held, lessened, slot_for, slot_of, unnamed_binding, unnamed_slot}
-use Rattle.def_map.specs.declared.source_database.EnumVariant.{EnumVariant}
+use Rattle.def_oracle.specs.declared.source_database.EnumVariant.{EnumVariant}
 use Rattle.def_map.specs.Answers.{variant_found}
 use Rattle.def_modules.specs.MapView.{MapView}
 use Rattle.def_map.specs.PerNs.{Item, kept}

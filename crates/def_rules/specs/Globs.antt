@@ -18,7 +18,7 @@ use Rattle.def_bindings.specs.declared.visibility.Visibility.TheVariants.{Public
 use Rattle.def_bindings.specs.Content.{Content}
 use Rattle.def_bindings.specs.Order.{Order}
 use Rattle.def_bindings.specs.Puts.{lessened}
-use Rattle.def_map.specs.declared.source_database.EnumVariant.{EnumVariant}
+use Rattle.def_oracle.specs.declared.source_database.EnumVariant.{EnumVariant}
 use Rattle.def_map.specs.Answers.{variant_found}
 use Rattle.def_modules.specs.MapView.{MapView}
 use Rattle.def_map.specs.PerNs.{Item, kept}
