@@ -12,6 +12,8 @@ pub mod IterationLemmas
 pub mod PlacedLemmas
 pub mod RaisedPutsLemmas
 pub mod RaisedEdgeLemmas
+pub mod StaysLemmas
+pub mod TurnsLemmas
 pub mod UpdateLemmas
 pub mod DirectoriesLemmas
 pub mod DirectoriesFacts

@@ -1,18 +1,28 @@
 -- What updates and added edges leave of a table.
 use Rattle.std.specs.Prelude.{◌≡◌, Bool, false, Option, Some, List}
+use Rattle.item_tree.specs.declared.name.Name.{Name}
 use Rattle.def_ids.specs.declared.ids.ModuleId.{ModuleId}
 use Rattle.def_ids.specs.declared.ids.GlobId.{GlobId}
+use Rattle.def_bindings.specs.declared.bindings.Namespace.{Namespace}
+use Rattle.def_bindings.specs.declared.bindings.Binding.{Binding}
 use Rattle.def_bindings.specs.declared.bindings.EdgeTo.{EdgeTo}
 use Rattle.def_bindings.specs.declared.bindings.Entry.{Entry}
+use Rattle.def_bindings.specs.declared.bindings.Slot.{Slot}
 use Rattle.def_bindings.specs.Order.{Order}
 use Rattle.def_bindings.specs.Content.{Content, with_edge}
-use Rattle.def_bindings.specs.Puts.{puts, edge_to, joined}
-use Rattle.def_bindings.specs.Closure.{IsClosed, IsCoherent}
+use Rattle.def_bindings.specs.Puts.{IsExplicit, puts, edge_to, joined}
+use Rattle.def_bindings.specs.Closure.{IsBound, IsClosed, IsCoherent}
 use Rattle.def_parts.specs.Waves.{Copies, def_at, slots_of, IsClosedTo, ListsAll, BeginsAt, LedOrHome, EntriesFollow}
 
 -- a list is put in a module, and then copies of its slots follow, for each slot of the definition that the module has
 abbrev pub Updates : {V : Type 0} → Order V → ModuleId → List (Entry V) → Content V → Content V → Type 0
 Updates o at list old new = let placed = puts o at list old in Copies o (slots_of list) (def_at placed at) placed new
+
+-- what stands whatever is put and copied, to the end or not: the edges, each explicit binding, and that what is bound is bound
+pub record Stays {V : Type 0} (old new : Content V) : Type 0 where
+  pub edges : new.edges ≡ old.edges
+  pub explicit : (m : ModuleId) (name : Name) (ns : Namespace) (b : Binding V) → old.binding m name ns ≡ Some b → IsExplicit b.import → new.binding m name ns ≡ Some b
+  pub bound : (m : ModuleId) (slot : Slot) → IsBound old m slot → IsBound new m slot
 
 -- names stay closed along globs, whatever is left out
 abbrev pub KeepsClosed : {V : Type 0} → Order V → Content V → Content V → Type 0

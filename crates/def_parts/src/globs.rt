@@ -3,7 +3,7 @@ ghost use Rattle.std.specs.Prelude.{◌≡◌, OnOk, OnErr};
 ghost use Rattle.def_bindings.specs.Content.{without_binding};
 ghost use Rattle.def_bindings.specs.Puts.{joined};
 ghost use Rattle.def_parts.specs.Waves.{KeepsGlobs, AddsEdge};
-ghost use Rattle.def_parts.specs.Globs.{Updates, ClosesTo, KeepsClosed, KeepsCoherent, with_recorded, KeepsClosedWith, KeepsBegins, StaysCoherent};
+ghost use Rattle.def_parts.specs.Globs.{Updates, ClosesTo, KeepsClosed, KeepsCoherent, with_recorded, KeepsClosedWith, KeepsBegins, StaysCoherent, Stays};
 ghost use Rattle.def_parts.specs.Raised.{KeepsRaised, KeepsRaisedWith, RaisesTo};
 
 mod wave;
@@ -83,7 +83,7 @@ impl<T: BindingTable> Globs<T> {
     }
 
     /// Puts a list in a module, and lets what changes travel along the edges to the end. On `Err`
-    /// only a beginning of that was done.
+    /// a beginning of that was done: edges, explicit bindings and what was bound stand.
     pub fn update<O: VisOrder<Vis = T::Vis>>(
         &mut self,
         order: &O,
@@ -113,6 +113,9 @@ impl<T: BindingTable> Globs<T> {
         ensures globs { OnOk result
             (KeepsGlobs «module» list.now (T.content self.old) (T.content self.new)) }
         ensures edges { OnOk result ((T.content self.new).edges ≡ (T.content self.old).edges) }
+
+        // What stays, refused or not.
+        ensures stays { Stays (T.content self.old) (T.content self.new) }
     {
         let changed = put_list(self.alloc, &mut self.table, order, module, list)?;
         spread(self.alloc, &mut self.table, order, module, changed)?;

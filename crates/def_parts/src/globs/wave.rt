@@ -4,6 +4,7 @@ ghost use Rattle.def_bindings.specs.Puts.{puts};
 ghost use Rattle.def_parts.specs.Waves.{Copies, def_at};
 ghost use Rattle.def_parts.specs.Pending.{copied_all, reached, carried_by, ClosesPending, MendsPending};
 ghost use Rattle.def_parts.specs.Raised.{RaisesPending};
+ghost use Rattle.def_parts.specs.Globs.{Stays};
 
 use def_bindings::{
     Binding, BindingTable, EdgeTo, Entry, Slot, VisOrder, copy_along, put_at, slot_of_entry,
@@ -20,7 +21,7 @@ struct Frame {
 }
 
 /// Puts a list in a module, and answers the slots that changed, where the module has an edge to
-/// copy them along.
+/// copy them along. On `Err` a beginning of the list was put.
 pub fn put_list<T: BindingTable, O: VisOrder<Vis = T::Vis>>(
     alloc: Global,
     table: &mut T,
@@ -28,9 +29,11 @@ pub fn put_list<T: BindingTable, O: VisOrder<Vis = T::Vis>>(
     module: ModuleId,
     list: &[Entry<T::Vis>],
 ) -> Result<Vec<Slot>, AllocError>
-    ensures { IfOk result (λ changed. let c = T.content table.old in let o = O.order order.now in
+    ensures done { IfOk result (λ changed. let c = T.content table.old in
+        let o = O.order order.now in
         (changed.items ≡ carried_by o «module» list.now c)
         × (T.content table.new ≡ puts o «module» list.now c)) }
+    ensures stays { Stays (T.content table.old) (T.content table.new) }
 {
     // Most modules have no edge, and then the changed slots need no memory.
     let has_edge = table.edge_at(module, 0).is_some();
@@ -50,7 +53,8 @@ pub fn put_list<T: BindingTable, O: VisOrder<Vis = T::Vis>>(
     Ok(changed)
 }
 
-/// Copies slots along an edge, and answers those that changed the importer.
+/// Copies slots along an edge, and answers those that changed the importer. On `Err` the first of
+/// them were copied.
 fn copy_all<T: BindingTable, O: VisOrder<Vis = T::Vis>>(
     alloc: Global,
     table: &mut T,
@@ -59,9 +63,11 @@ fn copy_all<T: BindingTable, O: VisOrder<Vis = T::Vis>>(
     edge: EdgeTo<T::Vis>,
     slots: &[Slot],
 ) -> Result<Vec<Slot>, AllocError>
-    ensures { IfOk result (λ changed. let c = T.content table.old in let o = O.order order.now in
+    ensures done { IfOk result (λ changed. let c = T.content table.old in
+        let o = O.order order.now in
         (changed.items ≡ reached o source edge slots.now c)
         × (T.content table.new ≡ copied_all o source edge slots.now c)) }
+    ensures stays { Stays (T.content table.old) (T.content table.new) }
 {
     let mut changed = Vec::new(alloc);
     for slot in slots {
@@ -73,7 +79,7 @@ fn copy_all<T: BindingTable, O: VisOrder<Vis = T::Vis>>(
 }
 
 /// Copies changed slots along the edges of a module, and what changes there on from there, until
-/// nothing is left.
+/// nothing is left. On `Err` some of the copies were made.
 pub fn spread<T: BindingTable, O: VisOrder<Vis = T::Vis>>(
     alloc: Global,
     table: &mut T,
@@ -92,6 +98,7 @@ pub fn spread<T: BindingTable, O: VisOrder<Vis = T::Vis>>(
     ensures raised { OnOk result
         (RaisesPending (O.order order.now) «module» slots.items (T.content table.old)
         (T.content table.new)) }
+    ensures stays { Stays (T.content table.old) (T.content table.new) }
 {
     // Mostly there is no slot, and then there is nothing to keep a stack for.
     if slots.is_empty() {

@@ -7,6 +7,7 @@ use Rattle.def_parts.proofs.WavingLemmas.{wave_start, wave_closed, wave_coherent
 use Rattle.def_parts.proofs.IterationLemmas.{iterate_on, iterate_reached, measure_on, measure_reached, some_slot}
 use Rattle.def_parts.proofs.MeasureLemmas.{measure_ends}
 use Rattle.def_parts.specs.Waves.{none}
+use Rattle.def_parts.proofs.StaysLemmas.{stays_then, stays_copies}
 use Rattle.def_parts.proofs.globs.wave.spread.Goals as goal
 
 pub frames-init : goal.frames-init
@@ -40,7 +41,7 @@ frames-preserved-else-not-is_empty g c =
     iterate_on (g.O.VisOrder.order c.args.order.now) (g.O.VisOrder.height c.args.order.now) (g.met.O.VisOrder.lawful c.args.order.now) c.args.module c.args.slots.items (g.T.BindingTable.sources c.args.table.now)
     (g.T.BindingTable.content c.args.table.now) (g.T.BindingTable.content c.frames.table) (g.T.BindingTable.content c.copy_all.new.table)
     c.pop.new.self.items c.frames.frames.items c.push-in-Some-edge_at.new.self.items c.in-Some.frame _ c.in-Some-edge_at.edge c.as_slice.result.now c.in_ok-changed.changed.items
-    c.in-Some-edge_at.ensures.edge c.as_slice.ensures.value c.in_ok-changed.ensures c.in-Some.ensures.items c.in_ok-push-2.ensures.items refl refl refl
+    c.in-Some-edge_at.ensures.edge c.as_slice.ensures.value c.in_ok-changed.ensures.done c.in-Some.ensures.items c.in_ok-push-2.ensures.items refl refl refl
     (g.met.T.BindingTable.finite c.args.table.now) c.frames.invariant none
 
 pub frames-preserved-in-Continue-branch-4 : goal.frames-preserved-in-Continue-branch-4
@@ -48,7 +49,7 @@ frames-preserved-in-Continue-branch-4 g c =
     iterate_reached (g.O.VisOrder.order c.args.order.now) (g.O.VisOrder.height c.args.order.now) (g.met.O.VisOrder.lawful c.args.order.now) c.args.module c.args.slots.items (g.T.BindingTable.sources c.args.table.now)
     (g.T.BindingTable.content c.args.table.now) (g.T.BindingTable.content c.frames.table) (g.T.BindingTable.content c.copy_all.new.table)
     c.pop.new.self.items c.frames.frames.items c.push-in-Some-edge_at.new.self.items c.in-Some.frame _ c.in-Some-edge_at.edge c.as_slice.result.now c.in_ok-changed.changed.items
-    c.in-Some-edge_at.ensures.edge c.as_slice.ensures.value c.in_ok-changed.ensures c.in-Some.ensures.items c.in_ok-push-2.ensures.items refl refl refl
+    c.in-Some-edge_at.ensures.edge c.as_slice.ensures.value c.in_ok-changed.ensures.done c.in-Some.ensures.items c.in_ok-push-2.ensures.items refl refl refl
     (g.met.T.BindingTable.finite c.args.table.now) c.frames.invariant _ c.push-then-not-is_empty.new.self.items c.in_ok-push-3.ensures.items refl refl refl
 
 pub frames-smaller-else-not-is_empty : goal.frames-smaller-else-not-is_empty
@@ -56,7 +57,7 @@ frames-smaller-else-not-is_empty g c =
     measure_on (g.O.VisOrder.order c.args.order.now) (g.O.VisOrder.height c.args.order.now) (g.met.O.VisOrder.lawful c.args.order.now) c.args.module c.args.slots.items (g.T.BindingTable.sources c.args.table.now)
     (g.T.BindingTable.content c.args.table.now) (g.T.BindingTable.content c.frames.table) (g.T.BindingTable.content c.copy_all.new.table)
     c.pop.new.self.items c.frames.frames.items c.push-in-Some-edge_at.new.self.items c.in-Some.frame _ c.in-Some-edge_at.edge c.as_slice.result.now c.in_ok-changed.changed.items
-    c.in-Some-edge_at.ensures.edge c.as_slice.ensures.value c.in_ok-changed.ensures c.in-Some.ensures.items c.in_ok-push-2.ensures.items refl refl refl
+    c.in-Some-edge_at.ensures.edge c.as_slice.ensures.value c.in_ok-changed.ensures.done c.in-Some.ensures.items c.in_ok-push-2.ensures.items refl refl refl
     (g.met.T.BindingTable.finite c.args.table.now) c.frames.invariant
 
 pub frames-smaller-in-Continue-branch-4 : goal.frames-smaller-in-Continue-branch-4
@@ -65,7 +66,7 @@ frames-smaller-in-Continue-branch-4 g c =
     measure_reached (g.O.VisOrder.order c.args.order.now) (g.O.VisOrder.height c.args.order.now) (g.met.O.VisOrder.lawful c.args.order.now) c.args.module c.args.slots.items (g.T.BindingTable.sources c.args.table.now)
     (g.T.BindingTable.content c.args.table.now) (g.T.BindingTable.content c.frames.table) (g.T.BindingTable.content c.copy_all.new.table)
     c.pop.new.self.items c.frames.frames.items c.push-in-Some-edge_at.new.self.items c.in-Some.frame _ c.in-Some-edge_at.edge c.as_slice.result.now c.in_ok-changed.changed.items
-    c.in-Some-edge_at.ensures.edge c.as_slice.ensures.value c.in_ok-changed.ensures c.in-Some.ensures.items c.in_ok-push-2.ensures.items refl refl refl
+    c.in-Some-edge_at.ensures.edge c.as_slice.ensures.value c.in_ok-changed.ensures.done c.in-Some.ensures.items c.in_ok-push-2.ensures.items refl refl refl
     (g.met.T.BindingTable.finite c.args.table.now) c.frames.invariant
     _ c.push-then-not-is_empty.new.self.items some.0 c.in_ok-push-3.ensures.items refl refl some.1
 
@@ -101,3 +102,12 @@ pub returns-then-is_empty-clause-raised : goal.returns-then-is_empty-clause-rais
 returns-then-is_empty-clause-raised g c =
     let empty : length c.args.slots.items ≡ 0 = sym c.args.slots.ok.0 ∙ eqb-true _ _ (sym c.if-is_empty.ensures) in
     wave_raised _ _ _ _ _ _ [] refl (wave_still (g.O.VisOrder.order c.args.order.now) c.args.module c.args.slots.items (g.T.BindingTable.content c.args.table.now) empty)
+
+pub returns-in_err-changed-clause-stays : goal.returns-in_err-changed-clause-stays
+returns-in_err-changed-clause-stays g c = stays_then _ _ _ (stays_copies _ _ _ c.frames.invariant.copies) c.copy_all.ensures.stays
+
+pub returns-in_err-push-3-clause-stays : goal.returns-in_err-push-3-clause-stays
+returns-in_err-push-3-clause-stays g c = stays_then _ _ _ (stays_copies _ _ _ c.frames.invariant.copies) c.copy_all.ensures.stays
+
+pub returns-clause-stays : goal.returns-clause-stays
+returns-clause-stays g c = stays_copies _ _ _ c.frames.invariant.copies
