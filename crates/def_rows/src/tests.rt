@@ -7,6 +7,7 @@ mod glob_imports;
 mod globs;
 mod prelude_imports;
 mod proc_macros;
+mod rows;
 mod shown_order;
 mod tables;
 mod trees;

@@ -7,4 +7,5 @@ mod glob_kinds;
 mod kinds;
 mod paths;
 mod program;
+mod rows;
 mod second_visit;

@@ -173,22 +173,29 @@ fn meanings_in_block(alloc: Global) -> Result<(Option<PerNs>, Option<PerNs>), Al
     meanings(&mut workspace)
 }
 
+/// This binding in types and in values.
+fn in_types_and_values(binding: Binding<Visibility>) -> Option<PerNs> {
+    Some(PerNs {
+        types: Some(binding),
+        values: Some(binding),
+        macros: None,
+    })
+}
+
 #[test]
 fn a_block_sees_the_module_that_it_stands_in(rt: HostRuntime) -> Result<(), Fail> {
-    let binding = Some(Binding {
+    let binding = Binding {
         def: Def::Struct(StructId(0)),
         vis: Visibility::Module(BLOCK_ROOT),
         import: Some(ImportOrExternCrate::Import(ImportId {
             use_id: UseId(0),
             idx: 0,
         })),
-    });
-    let (once, twice) = meanings_in_block(rt.alloc())?;
-    let found = once.ok_or("no root")?;
-    assert!(rt; found.types == binding);
-    assert!(rt; found.values == binding);
-    assert!(rt; found.macros.is_none());
-    assert!(rt; twice.is_none());
+    };
+    assert_eq!(rt;
+        meanings_in_block(rt.alloc())?,
+        (in_types_and_values(binding), None)
+    );
     Ok(())
 }
 
@@ -201,19 +208,19 @@ fn meaning_by_glob(workspace: &mut Workspace) -> Result<Option<PerNs>, AllocErro
 
 #[test]
 fn a_block_may_take_all_names_of_a_module_around_it(rt: HostRuntime) -> Result<(), Fail> {
-    let binding = Some(Binding {
+    let binding = Binding {
         def: Def::Struct(StructId(0)),
         vis: Visibility::Module(BLOCK_ROOT),
         import: Some(ImportOrExternCrate::Glob(GlobId {
             use_id: UseId(0),
             idx: 0,
         })),
-    });
+    };
     let mut workspace = Workspace::new(rt.alloc(), &CRATE)?;
-    let found = meaning_by_glob(&mut workspace)?.ok_or("no root")?;
-    assert!(rt; found.types == binding);
-    assert!(rt; found.values == binding);
-    assert!(rt; found.macros.is_none());
+    assert_eq!(rt;
+        meaning_by_glob(&mut workspace)?,
+        in_types_and_values(binding)
+    );
     Ok(())
 }
 

@@ -1,17 +1,18 @@
 //! Crates that others depend on, and preludes.
 #![tactic(auto)]
 
+use crate::tests::rows::{Row, expect_rows};
 use def_ids::Edition;
 use def_map::LangCrate;
 use def_workspace::{
     AttrText, CrateText, CtorText, DependencyText, Fault, ImportText, ItemText, Line, PathText,
-    Vector, VisText, Workspace, print, show,
+    Vector, VisText, Workspace, print,
 };
 use item_tree::{Crate, ImportKind, PathKind};
 use std::alloc::Global;
 
 /// Crate 1 on its own, and crate 0 over it under the name `d`.
-static OVER_D: [CrateText; 2] = [
+const OVER_D: &[CrateText] = &[
     CrateText {
         krate: 1,
         edition: Edition::Edition2021,
@@ -31,26 +32,8 @@ static OVER_D: [CrateText; 2] = [
     },
 ];
 
-/// The lines of the last of some crates.
-fn lines_of(
-    alloc: Global,
-    files: &'static [&'static [Line]],
-    crates: &'static [CrateText],
-) -> Result<Vec<u8>, Fault> {
-    let mut lines = Vec::new(alloc);
-    let vector = Vector {
-        name: "a test's",
-        files,
-        crates,
-        builtin_types: &[],
-        enums: &[],
-    };
-    show(alloc, &vector, &mut lines)?;
-    Ok(lines)
-}
-
 /// use d::P; use d::Q; over pub struct P; struct Q;
-static PUBLIC_AND_PRIVATE: [&[Line]; 2] = [
+const PUBLIC_AND_PRIVATE: &[&[Line]] = &[
     &[
         Line {
             depth: 0,
@@ -101,22 +84,8 @@ static PUBLIC_AND_PRIVATE: [&[Line]; 2] = [
     ],
 ];
 
-#[test]
-fn what_is_public_is_taken_from_another_crate(rt: HostRuntime) -> Result<(), Fault> {
-    let lines = lines_of(rt.alloc(), &PUBLIC_AND_PRIVATE, &OVER_D)?;
-    assert_eq!(rt;
-        lines.as_slice(),
-        "module 0 - crate
-binding 0 P types struct:0 in:0 import:0.0
-binding 0 P values struct:0 in:0 import:0.0
-"
-            .as_bytes()
-    );
-    Ok(())
-}
-
 /// Two crates of one name, of which the second is not in the prelude.
-static TWICE_D: [CrateText; 2] = [
+const TWICE_D: &[CrateText] = &[
     CrateText {
         krate: 1,
         edition: Edition::Edition2021,
@@ -143,22 +112,6 @@ static TWICE_D: [CrateText; 2] = [
         ],
     },
 ];
-
-#[test]
-fn a_later_dependency_takes_the_place_of_an_earlier_one(rt: HostRuntime) -> Result<(), Fault> {
-    let lines = lines_of(rt.alloc(), &PUBLIC_AND_PRIVATE, &TWICE_D)?;
-    assert_eq!(rt;
-        lines.as_slice(),
-        "module 0 - crate
-diag unresolved-import 0 0:0 0
-diag unresolved-import 0 0:1 0
-left import 0 d::P
-left import 0 d::Q
-"
-            .as_bytes()
-    );
-    Ok(())
-}
 
 /// use O as P;
 const USE_OF_O: Line = Line {
@@ -243,30 +196,30 @@ const NO_STD: Line = Line {
 };
 
 /// A crate that uses the prelude, and the crate of the prelude.
-static USES_O: [&[Line]; 2] = [&[USE_OF_O], &[PRELUDE, RUST_2021, STRUCT_O]];
+const USES_O: &[&[Line]] = &[&[USE_OF_O], &[PRELUDE, RUST_2021, STRUCT_O]];
 
-static USES_O_WITHOUT_CORE: [&[Line]; 2] = [&[NO_CORE, USE_OF_O], &[PRELUDE, RUST_2021, STRUCT_O]];
+const USES_O_WITHOUT_CORE: &[&[Line]] = &[&[NO_CORE, USE_OF_O], &[PRELUDE, RUST_2021, STRUCT_O]];
 
 /// An empty crate, and that of the prelude of an edition.
-static OVER_2015: [&[Line]; 2] = [&[], &[PRELUDE, RUST_2015, STRUCT_O]];
+const OVER_2015: &[&[Line]] = &[&[], &[PRELUDE, RUST_2015, STRUCT_O]];
 
-static OVER_2021: [&[Line]; 2] = [&[], &[PRELUDE, RUST_2021, STRUCT_O]];
+const OVER_2021: &[&[Line]] = &[&[], &[PRELUDE, RUST_2021, STRUCT_O]];
 
 /// A crate that uses the prelude and `std`, and the file of `std` and `core`.
-static USES_BOTH: [&[Line]; 2] = [&[USE_OF_O, USE_OF_STD], &[PRELUDE, RUST_2021, STRUCT_O]];
+const USES_BOTH: &[&[Line]] = &[&[USE_OF_O, USE_OF_STD], &[PRELUDE, RUST_2021, STRUCT_O]];
 
-static USES_BOTH_WITHOUT_STD: [&[Line]; 2] = [
+const USES_BOTH_WITHOUT_STD: &[&[Line]] = &[
     &[NO_STD, USE_OF_O, USE_OF_STD],
     &[PRELUDE, RUST_2021, STRUCT_O],
 ];
 
-static USES_BOTH_WITHOUT_CORE: [&[Line]; 2] = [
+const USES_BOTH_WITHOUT_CORE: &[&[Line]] = &[
     &[NO_CORE, USE_OF_O, USE_OF_STD],
     &[PRELUDE, RUST_2021, STRUCT_O],
 ];
 
 /// `std` on its own, and a crate over it in edition 2021.
-static OVER_STD: [CrateText; 2] = [
+const OVER_STD: &[CrateText] = &[
     CrateText {
         krate: 1,
         edition: Edition::Edition2021,
@@ -287,7 +240,7 @@ static OVER_STD: [CrateText; 2] = [
 ];
 
 /// The same in edition 2015.
-static OVER_STD_IN_2015: [CrateText; 2] = [
+const OVER_STD_IN_2015: &[CrateText] = &[
     CrateText {
         krate: 1,
         edition: Edition::Edition2021,
@@ -307,41 +260,78 @@ static OVER_STD_IN_2015: [CrateText; 2] = [
     },
 ];
 
-#[test]
-fn the_prelude_is_seen_everywhere(rt: HostRuntime) -> Result<(), Fault> {
-    let lines = lines_of(rt.alloc(), &USES_O, &OVER_STD)?;
-    assert_eq!(rt;
-        lines.as_slice(),
+static ROWS: [Row; 4] = [
+    (
+        Vector {
+            name: "what is public is taken from another crate",
+            files: PUBLIC_AND_PRIVATE,
+            crates: OVER_D,
+            builtin_types: &[],
+            enums: &[],
+        },
         "module 0 - crate
 binding 0 P types struct:0 in:0 import:0.0
 binding 0 P values struct:0 in:0 import:0.0
-"
-            .as_bytes()
-    );
-    Ok(())
-}
-
-#[test]
-fn a_crate_without_core_has_no_prelude(rt: HostRuntime) -> Result<(), Fault> {
-    let lines = lines_of(rt.alloc(), &USES_O_WITHOUT_CORE, &OVER_STD)?;
-    assert_eq!(rt;
-        lines.as_slice(),
+",
+    ),
+    (
+        Vector {
+            name: "a later dependency takes the place of an earlier one",
+            files: PUBLIC_AND_PRIVATE,
+            crates: TWICE_D,
+            builtin_types: &[],
+            enums: &[],
+        },
+        "module 0 - crate
+diag unresolved-import 0 0:0 0
+diag unresolved-import 0 0:1 0
+left import 0 d::P
+left import 0 d::Q
+",
+    ),
+    (
+        Vector {
+            name: "the prelude is seen everywhere",
+            files: USES_O,
+            crates: OVER_STD,
+            builtin_types: &[],
+            enums: &[],
+        },
+        "module 0 - crate
+binding 0 P types struct:0 in:0 import:0.0
+binding 0 P values struct:0 in:0 import:0.0
+",
+    ),
+    (
+        Vector {
+            name: "a crate without core has no prelude",
+            files: USES_O_WITHOUT_CORE,
+            crates: OVER_STD,
+            builtin_types: &[],
+            enums: &[],
+        },
         "module 0 - crate
 diag unresolved-import 0 0:0 0
 left import 0 O
-"
-            .as_bytes()
-    );
-    Ok(())
+",
+    ),
+];
+
+#[test]
+fn names_and_preludes_of_other_crates_are_seen(rt: HostRuntime) -> Result<(), Fault> {
+    expect_rows(&rt, rt.alloc(), &ROWS)
 }
 
 /// The prelude of the second of two crates, the first of which it depends on.
 fn collected_prelude(
     workspace: &mut Workspace,
-    crates: &'static [CrateText; 2],
+    crates: &'static [CrateText],
 ) -> Result<Option<(usize, usize)>, Fault> {
-    workspace.collect_dependency(&crates[0])?;
-    let collected = workspace.collect(&crates[1])?;
+    let [dependency, krate] = crates else {
+        return Ok(None);
+    };
+    workspace.collect_dependency(dependency)?;
+    let collected = workspace.collect(krate)?;
     match collected.def_map.prelude() {
         Some(module) => Ok(Some((module.map.krate.0, module.index))),
         None => Ok(None),
@@ -352,7 +342,7 @@ fn collected_prelude(
 fn prelude_of(
     alloc: Global,
     files: &'static [&'static [Line]],
-    crates: &'static [CrateText; 2],
+    crates: &'static [CrateText],
 ) -> Result<Option<(usize, usize)>, Fault> {
     let vector = Vector {
         name: "a test's",
@@ -365,13 +355,19 @@ fn prelude_of(
     collected_prelude(&mut workspace, crates)
 }
 
+/// Files, crates, and the prelude of the last one.
+static PRELUDES: [(&[&[Line]], &[CrateText], Option<(usize, usize)>); 4] = [
+    (OVER_2021, OVER_STD, Some((1, 2))),
+    (OVER_2015, OVER_STD, None),
+    (OVER_2015, OVER_STD_IN_2015, Some((1, 2))),
+    (OVER_2021, OVER_STD_IN_2015, None),
+];
+
 #[test]
 fn each_edition_has_a_prelude_of_its_own(rt: HostRuntime) -> Result<(), Fault> {
-    let alloc = rt.alloc();
-    assert!(rt; prelude_of(alloc, &OVER_2021, &OVER_STD)? == Some((1, 2)));
-    assert!(rt; prelude_of(alloc, &OVER_2015, &OVER_STD)? == None);
-    assert!(rt; prelude_of(alloc, &OVER_2015, &OVER_STD_IN_2015)? == Some((1, 2)));
-    assert!(rt; prelude_of(alloc, &OVER_2021, &OVER_STD_IN_2015)? == None);
+    for (files, crates, want) in &PRELUDES {
+        assert_eq!(rt; prelude_of(rt.alloc(), files, crates)?, *want);
+    }
     Ok(())
 }
 
@@ -448,47 +444,43 @@ fn print_files(
     print_over_sysroot(alloc, &mut workspace, lines)
 }
 
-/// The lines of a crate over `std` and `core` of the compiler.
-fn lines_over_sysroot(alloc: Global, files: &'static [&'static [Line]]) -> Result<Vec<u8>, Fault> {
-    let mut lines = Vec::new(alloc);
-    print_files(alloc, files, &mut lines)?;
-    Ok(lines)
-}
-
-#[test]
-fn flags_leave_out_what_comes_with_the_compiler(rt: HostRuntime) -> Result<(), Fault> {
-    let alloc = rt.alloc();
-    let with_std = lines_over_sysroot(alloc, &USES_BOTH)?;
-    assert_eq!(rt;
-        with_std.as_slice(),
+/// Files, and the lines of their crate over `std` and `core` of the compiler.
+static WITH_SYSROOT: [(&[&[Line]], &str); 3] = [
+    (
+        USES_BOTH,
         "module 0 - crate
 binding 0 P types struct:0 in:0 import:0.0
 binding 0 P values struct:0 in:0 import:0.0
 binding 0 prelude types mod:1/1 in:0 import:1.0
-"
-            .as_bytes()
-    );
-    let without_std = lines_over_sysroot(alloc, &USES_BOTH_WITHOUT_STD)?;
-    assert_eq!(rt;
-        without_std.as_slice(),
+",
+    ),
+    (
+        USES_BOTH_WITHOUT_STD,
         "module 0 - crate
 binding 0 P types struct:1 in:0 import:0.0
 binding 0 P values struct:1 in:0 import:0.0
 diag unresolved-import 0 0:1 0
 left import 0 std::prelude
-"
-            .as_bytes()
-    );
-    let without_core = lines_over_sysroot(alloc, &USES_BOTH_WITHOUT_CORE)?;
-    assert_eq!(rt;
-        without_core.as_slice(),
+",
+    ),
+    (
+        USES_BOTH_WITHOUT_CORE,
         "module 0 - crate
 diag unresolved-import 0 0:0 0
 diag unresolved-import 0 0:1 0
 left import 0 O
 left import 0 std::prelude
-"
-            .as_bytes()
-    );
+",
+    ),
+];
+
+#[test]
+fn flags_leave_out_what_comes_with_the_compiler(rt: HostRuntime) -> Result<(), Fault> {
+    let alloc = rt.alloc();
+    for (files, want) in &WITH_SYSROOT {
+        let mut lines: Vec<u8> = Vec::new(alloc);
+        print_files(alloc, files, &mut lines)?;
+        assert_eq!(rt; lines.as_slice(), want.as_bytes());
+    }
     Ok(())
 }

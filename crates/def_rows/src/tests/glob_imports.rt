@@ -1,17 +1,17 @@
 //! Glob imports of scripted crates, as lines.
 #![tactic(auto)]
 
+use crate::tests::rows::{Row, expect_rows};
 use def_ids::Edition;
 use def_workspace::{
     CrateText, CtorText, Fault, ImportText, ItemText, Line, PathText, PlainKind, Vector, VisText,
-    run, show,
+    run,
 };
 use item_tree::{ImportKind, PathKind};
-use std::alloc::Global;
 use std::process::Abort;
-use std::test::Fail;
 
-static CRATES: [CrateText; 1] = [CrateText {
+/// One crate on its own.
+const ALONE: &[CrateText] = &[CrateText {
     krate: 0,
     edition: Edition::Edition2021,
     root_file: 0,
@@ -19,497 +19,517 @@ static CRATES: [CrateText; 1] = [CrateText {
 }];
 
 /// mod a { pub use crate::b::*; pub struct X; } mod b { pub use crate::c::*; } mod c { pub use crate::a::*; }
-static AROUND_THREE: [&[Line]; 1] = [&[
-    Line {
-        depth: 0,
-        item: ItemText::Mod {
-            vis: VisText::PubSelf,
-            name: "a",
+const AROUND_THREE: Vector = Vector {
+    name: "a name goes round a cycle",
+    files: &[&[
+        Line {
+            depth: 0,
+            item: ItemText::Mod {
+                vis: VisText::PubSelf,
+                name: "a",
+            },
         },
-    },
-    Line {
-        depth: 1,
-        item: ItemText::Use {
-            vis: VisText::Public,
-            imports: &[ImportText {
-                path: PathText {
-                    kind: PathKind::Crate,
-                    segments: &["b"],
-                },
-                kind: ImportKind::Glob,
-                alias: None,
-            }],
+        Line {
+            depth: 1,
+            item: ItemText::Use {
+                vis: VisText::Public,
+                imports: &[ImportText {
+                    path: PathText {
+                        kind: PathKind::Crate,
+                        segments: &["b"],
+                    },
+                    kind: ImportKind::Glob,
+                    alias: None,
+                }],
+            },
         },
-    },
-    Line {
-        depth: 1,
-        item: ItemText::Struct {
-            vis: VisText::Public,
-            name: "X",
-            ctor: CtorText::Vis(VisText::Public),
+        Line {
+            depth: 1,
+            item: ItemText::Struct {
+                vis: VisText::Public,
+                name: "X",
+                ctor: CtorText::Vis(VisText::Public),
+            },
         },
-    },
-    Line {
-        depth: 0,
-        item: ItemText::Mod {
-            vis: VisText::PubSelf,
-            name: "b",
+        Line {
+            depth: 0,
+            item: ItemText::Mod {
+                vis: VisText::PubSelf,
+                name: "b",
+            },
         },
-    },
-    Line {
-        depth: 1,
-        item: ItemText::Use {
-            vis: VisText::Public,
-            imports: &[ImportText {
-                path: PathText {
-                    kind: PathKind::Crate,
-                    segments: &["c"],
-                },
-                kind: ImportKind::Glob,
-                alias: None,
-            }],
+        Line {
+            depth: 1,
+            item: ItemText::Use {
+                vis: VisText::Public,
+                imports: &[ImportText {
+                    path: PathText {
+                        kind: PathKind::Crate,
+                        segments: &["c"],
+                    },
+                    kind: ImportKind::Glob,
+                    alias: None,
+                }],
+            },
         },
-    },
-    Line {
-        depth: 0,
-        item: ItemText::Mod {
-            vis: VisText::PubSelf,
-            name: "c",
+        Line {
+            depth: 0,
+            item: ItemText::Mod {
+                vis: VisText::PubSelf,
+                name: "c",
+            },
         },
-    },
-    Line {
-        depth: 1,
-        item: ItemText::Use {
-            vis: VisText::Public,
-            imports: &[ImportText {
-                path: PathText {
-                    kind: PathKind::Crate,
-                    segments: &["a"],
-                },
-                kind: ImportKind::Glob,
-                alias: None,
-            }],
+        Line {
+            depth: 1,
+            item: ItemText::Use {
+                vis: VisText::Public,
+                imports: &[ImportText {
+                    path: PathText {
+                        kind: PathKind::Crate,
+                        segments: &["a"],
+                    },
+                    kind: ImportKind::Glob,
+                    alias: None,
+                }],
+            },
         },
-    },
-]];
+    ]],
+    crates: ALONE,
+    builtin_types: &[],
+    enums: &[],
+};
 
 /// mod a { pub struct S; } mod b { use crate::a::*; pub use crate::a::*; }
-static TWICE: [&[Line]; 1] = [&[
-    Line {
-        depth: 0,
-        item: ItemText::Mod {
-            vis: VisText::PubSelf,
-            name: "a",
+const TWICE: Vector = Vector {
+    name: "two globs of one module share an edge",
+    files: &[&[
+        Line {
+            depth: 0,
+            item: ItemText::Mod {
+                vis: VisText::PubSelf,
+                name: "a",
+            },
         },
-    },
-    Line {
-        depth: 1,
-        item: ItemText::Struct {
-            vis: VisText::Public,
-            name: "S",
-            ctor: CtorText::Vis(VisText::Public),
+        Line {
+            depth: 1,
+            item: ItemText::Struct {
+                vis: VisText::Public,
+                name: "S",
+                ctor: CtorText::Vis(VisText::Public),
+            },
         },
-    },
-    Line {
-        depth: 0,
-        item: ItemText::Mod {
-            vis: VisText::PubSelf,
-            name: "b",
+        Line {
+            depth: 0,
+            item: ItemText::Mod {
+                vis: VisText::PubSelf,
+                name: "b",
+            },
         },
-    },
-    Line {
-        depth: 1,
-        item: ItemText::Use {
-            vis: VisText::PubSelf,
-            imports: &[ImportText {
-                path: PathText {
-                    kind: PathKind::Crate,
-                    segments: &["a"],
-                },
-                kind: ImportKind::Glob,
-                alias: None,
-            }],
+        Line {
+            depth: 1,
+            item: ItemText::Use {
+                vis: VisText::PubSelf,
+                imports: &[ImportText {
+                    path: PathText {
+                        kind: PathKind::Crate,
+                        segments: &["a"],
+                    },
+                    kind: ImportKind::Glob,
+                    alias: None,
+                }],
+            },
         },
-    },
-    Line {
-        depth: 1,
-        item: ItemText::Use {
-            vis: VisText::Public,
-            imports: &[ImportText {
-                path: PathText {
-                    kind: PathKind::Crate,
-                    segments: &["a"],
-                },
-                kind: ImportKind::Glob,
-                alias: None,
-            }],
+        Line {
+            depth: 1,
+            item: ItemText::Use {
+                vis: VisText::Public,
+                imports: &[ImportText {
+                    path: PathText {
+                        kind: PathKind::Crate,
+                        segments: &["a"],
+                    },
+                    kind: ImportKind::Glob,
+                    alias: None,
+                }],
+            },
         },
-    },
-]];
+    ]],
+    crates: ALONE,
+    builtin_types: &[],
+    enums: &[],
+};
 
 /// mod a { pub struct S; } mod b { pub struct S; } use b::*; use a::*;
-static OF_TWO_MODULES: [&[Line]; 1] = [&[
-    Line {
-        depth: 0,
-        item: ItemText::Mod {
-            vis: VisText::PubSelf,
-            name: "a",
+const OF_TWO_MODULES: Vector = Vector {
+    name: "the first of two globs binds a name",
+    files: &[&[
+        Line {
+            depth: 0,
+            item: ItemText::Mod {
+                vis: VisText::PubSelf,
+                name: "a",
+            },
         },
-    },
-    Line {
-        depth: 1,
-        item: ItemText::Struct {
-            vis: VisText::Public,
-            name: "S",
-            ctor: CtorText::Vis(VisText::Public),
+        Line {
+            depth: 1,
+            item: ItemText::Struct {
+                vis: VisText::Public,
+                name: "S",
+                ctor: CtorText::Vis(VisText::Public),
+            },
         },
-    },
-    Line {
-        depth: 0,
-        item: ItemText::Mod {
-            vis: VisText::PubSelf,
-            name: "b",
+        Line {
+            depth: 0,
+            item: ItemText::Mod {
+                vis: VisText::PubSelf,
+                name: "b",
+            },
         },
-    },
-    Line {
-        depth: 1,
-        item: ItemText::Struct {
-            vis: VisText::Public,
-            name: "S",
-            ctor: CtorText::Vis(VisText::Public),
+        Line {
+            depth: 1,
+            item: ItemText::Struct {
+                vis: VisText::Public,
+                name: "S",
+                ctor: CtorText::Vis(VisText::Public),
+            },
         },
-    },
-    Line {
-        depth: 0,
-        item: ItemText::Use {
-            vis: VisText::PubSelf,
-            imports: &[ImportText {
-                path: PathText {
-                    kind: PathKind::Plain,
-                    segments: &["b"],
-                },
-                kind: ImportKind::Glob,
-                alias: None,
-            }],
+        Line {
+            depth: 0,
+            item: ItemText::Use {
+                vis: VisText::PubSelf,
+                imports: &[ImportText {
+                    path: PathText {
+                        kind: PathKind::Plain,
+                        segments: &["b"],
+                    },
+                    kind: ImportKind::Glob,
+                    alias: None,
+                }],
+            },
         },
-    },
-    Line {
-        depth: 0,
-        item: ItemText::Use {
-            vis: VisText::PubSelf,
-            imports: &[ImportText {
-                path: PathText {
-                    kind: PathKind::Plain,
-                    segments: &["a"],
-                },
-                kind: ImportKind::Glob,
-                alias: None,
-            }],
+        Line {
+            depth: 0,
+            item: ItemText::Use {
+                vis: VisText::PubSelf,
+                imports: &[ImportText {
+                    path: PathText {
+                        kind: PathKind::Plain,
+                        segments: &["a"],
+                    },
+                    kind: ImportKind::Glob,
+                    alias: None,
+                }],
+            },
         },
-    },
-]];
+    ]],
+    crates: ALONE,
+    builtin_types: &[],
+    enums: &[],
+};
 
 /// pub struct S; use self::*;
-static OF_ITSELF: [&[Line]; 1] = [&[
-    Line {
-        depth: 0,
-        item: ItemText::Struct {
-            vis: VisText::Public,
-            name: "S",
-            ctor: CtorText::Vis(VisText::Public),
+const OF_ITSELF: Vector = Vector {
+    name: "a module may import itself",
+    files: &[&[
+        Line {
+            depth: 0,
+            item: ItemText::Struct {
+                vis: VisText::Public,
+                name: "S",
+                ctor: CtorText::Vis(VisText::Public),
+            },
         },
-    },
-    Line {
-        depth: 0,
-        item: ItemText::Use {
-            vis: VisText::PubSelf,
-            imports: &[ImportText {
-                path: PathText {
-                    kind: PathKind::Super(0),
-                    segments: &[],
-                },
-                kind: ImportKind::Glob,
-                alias: None,
-            }],
+        Line {
+            depth: 0,
+            item: ItemText::Use {
+                vis: VisText::PubSelf,
+                imports: &[ImportText {
+                    path: PathText {
+                        kind: PathKind::Super(0),
+                        segments: &[],
+                    },
+                    kind: ImportKind::Glob,
+                    alias: None,
+                }],
+            },
         },
-    },
-]];
+    ]],
+    crates: ALONE,
+    builtin_types: &[],
+    enums: &[],
+};
 
 /// use gone::*;
-static OF_NOTHING: [&[Line]; 1] = [&[Line {
-    depth: 0,
-    item: ItemText::Use {
-        vis: VisText::PubSelf,
-        imports: &[ImportText {
-            path: PathText {
-                kind: PathKind::Plain,
-                segments: &["gone"],
-            },
-            kind: ImportKind::Glob,
-            alias: None,
-        }],
-    },
-}]];
-
-/// pub struct S; use self::S::*;
-static OF_A_STRUCT: [&[Line]; 1] = [&[
-    Line {
-        depth: 0,
-        item: ItemText::Struct {
-            vis: VisText::Public,
-            name: "S",
-            ctor: CtorText::Vis(VisText::Public),
-        },
-    },
-    Line {
-        depth: 0,
-        item: ItemText::Use {
-            vis: VisText::PubSelf,
-            imports: &[ImportText {
-                path: PathText {
-                    kind: PathKind::Super(0),
-                    segments: &["S"],
-                },
-                kind: ImportKind::Glob,
-                alias: None,
-            }],
-        },
-    },
-]];
-
-/// mod d { pub(crate) use crate::s::*; pub use crate::x::*; } mod e { pub use crate::d::*; } mod x { pub use crate::s::*; } mod s { pub use crate::o::T; } mod o { pub struct T; }
-static RAISED: [&[Line]; 1] = [&[
-    Line {
-        depth: 0,
-        item: ItemText::Mod {
-            vis: VisText::PubSelf,
-            name: "d",
-        },
-    },
-    Line {
-        depth: 1,
-        item: ItemText::Use {
-            vis: VisText::PubCrate,
-            imports: &[ImportText {
-                path: PathText {
-                    kind: PathKind::Crate,
-                    segments: &["s"],
-                },
-                kind: ImportKind::Glob,
-                alias: None,
-            }],
-        },
-    },
-    Line {
-        depth: 1,
-        item: ItemText::Use {
-            vis: VisText::Public,
-            imports: &[ImportText {
-                path: PathText {
-                    kind: PathKind::Crate,
-                    segments: &["x"],
-                },
-                kind: ImportKind::Glob,
-                alias: None,
-            }],
-        },
-    },
-    Line {
-        depth: 0,
-        item: ItemText::Mod {
-            vis: VisText::PubSelf,
-            name: "e",
-        },
-    },
-    Line {
-        depth: 1,
-        item: ItemText::Use {
-            vis: VisText::Public,
-            imports: &[ImportText {
-                path: PathText {
-                    kind: PathKind::Crate,
-                    segments: &["d"],
-                },
-                kind: ImportKind::Glob,
-                alias: None,
-            }],
-        },
-    },
-    Line {
-        depth: 0,
-        item: ItemText::Mod {
-            vis: VisText::PubSelf,
-            name: "x",
-        },
-    },
-    Line {
-        depth: 1,
-        item: ItemText::Use {
-            vis: VisText::Public,
-            imports: &[ImportText {
-                path: PathText {
-                    kind: PathKind::Crate,
-                    segments: &["s"],
-                },
-                kind: ImportKind::Glob,
-                alias: None,
-            }],
-        },
-    },
-    Line {
-        depth: 0,
-        item: ItemText::Mod {
-            vis: VisText::PubSelf,
-            name: "s",
-        },
-    },
-    Line {
-        depth: 1,
-        item: ItemText::Use {
-            vis: VisText::Public,
-            imports: &[ImportText {
-                path: PathText {
-                    kind: PathKind::Crate,
-                    segments: &["o", "T"],
-                },
-                kind: ImportKind::Plain,
-                alias: None,
-            }],
-        },
-    },
-    Line {
-        depth: 0,
-        item: ItemText::Mod {
-            vis: VisText::PubSelf,
-            name: "o",
-        },
-    },
-    Line {
-        depth: 1,
-        item: ItemText::Struct {
-            vis: VisText::Public,
-            name: "T",
-            ctor: CtorText::Vis(VisText::Public),
-        },
-    },
-]];
-
-/// use m::n::*; mod t { pub trait N {} } mod m { use crate::t::*; pub mod n { pub use crate::m::*; } pub use crate::t::*; }
-static RAISED_BEHIND: [&[Line]; 1] = [&[
-    Line {
+const OF_NOTHING: Vector = Vector {
+    name: "a glob of nothing is left over",
+    files: &[&[Line {
         depth: 0,
         item: ItemText::Use {
             vis: VisText::PubSelf,
             imports: &[ImportText {
                 path: PathText {
                     kind: PathKind::Plain,
-                    segments: &["m", "n"],
+                    segments: &["gone"],
                 },
                 kind: ImportKind::Glob,
                 alias: None,
             }],
         },
-    },
-    Line {
-        depth: 0,
-        item: ItemText::Mod {
-            vis: VisText::PubSelf,
-            name: "t",
-        },
-    },
-    Line {
-        depth: 1,
-        item: ItemText::Plain {
-            kind: PlainKind::Trait,
-            vis: VisText::Public,
-            name: "N",
-        },
-    },
-    Line {
-        depth: 0,
-        item: ItemText::Mod {
-            vis: VisText::PubSelf,
-            name: "m",
-        },
-    },
-    Line {
-        depth: 1,
-        item: ItemText::Use {
-            vis: VisText::PubSelf,
-            imports: &[ImportText {
-                path: PathText {
-                    kind: PathKind::Crate,
-                    segments: &["t"],
-                },
-                kind: ImportKind::Glob,
-                alias: None,
-            }],
-        },
-    },
-    Line {
-        depth: 1,
-        item: ItemText::Mod {
-            vis: VisText::Public,
-            name: "n",
-        },
-    },
-    Line {
-        depth: 2,
-        item: ItemText::Use {
-            vis: VisText::Public,
-            imports: &[ImportText {
-                path: PathText {
-                    kind: PathKind::Crate,
-                    segments: &["m"],
-                },
-                kind: ImportKind::Glob,
-                alias: None,
-            }],
-        },
-    },
-    Line {
-        depth: 1,
-        item: ItemText::Use {
-            vis: VisText::Public,
-            imports: &[ImportText {
-                path: PathText {
-                    kind: PathKind::Crate,
-                    segments: &["t"],
-                },
-                kind: ImportKind::Glob,
-                alias: None,
-            }],
-        },
-    },
-]];
+    }]],
+    crates: ALONE,
+    builtin_types: &[],
+    enums: &[],
+};
 
-/// Looks at the lines of a scripted crate.
-fn expect_lines(
-    rt: &impl Abort,
-    alloc: Global,
-    files: &'static [&'static [Line]],
-    want: &str,
-) -> Result<(), Fault> {
-    let mut lines: Vec<u8> = Vec::new(alloc);
-    let vector = Vector {
-        name: "a test's",
-        files,
-        crates: &CRATES,
-        builtin_types: &[],
-        enums: &[],
-    };
-    show(alloc, &vector, &mut lines)?;
-    assert_eq!(rt; lines.as_slice(), want.as_bytes());
-    Ok(())
-}
+/// pub struct S; use self::S::*;
+const OF_A_STRUCT: Vector = Vector {
+    name: "a glob of a struct brings nothing",
+    files: &[&[
+        Line {
+            depth: 0,
+            item: ItemText::Struct {
+                vis: VisText::Public,
+                name: "S",
+                ctor: CtorText::Vis(VisText::Public),
+            },
+        },
+        Line {
+            depth: 0,
+            item: ItemText::Use {
+                vis: VisText::PubSelf,
+                imports: &[ImportText {
+                    path: PathText {
+                        kind: PathKind::Super(0),
+                        segments: &["S"],
+                    },
+                    kind: ImportKind::Glob,
+                    alias: None,
+                }],
+            },
+        },
+    ]],
+    crates: ALONE,
+    builtin_types: &[],
+    enums: &[],
+};
 
-/// Looks at the lines of a vector.
-fn expect_shown(rt: &impl Abort, alloc: Global, name: &str, want: &str) {
-    let mut lines: Vec<u8> = Vec::new(alloc);
-    let mut said: Vec<u8> = Vec::new(alloc);
-    assert_eq!(rt; run(alloc, &["show", name], &mut lines, &mut said), 0);
-    assert_eq!(rt; lines.as_slice(), want.as_bytes());
-}
+/// mod d { pub(crate) use crate::s::*; pub use crate::x::*; } mod e { pub use crate::d::*; } mod x { pub use crate::s::*; } mod s { pub use crate::o::T; } mod o { pub struct T; }
+const RAISED: Vector = Vector {
+    name: "a name that is raised travels on",
+    files: &[&[
+        Line {
+            depth: 0,
+            item: ItemText::Mod {
+                vis: VisText::PubSelf,
+                name: "d",
+            },
+        },
+        Line {
+            depth: 1,
+            item: ItemText::Use {
+                vis: VisText::PubCrate,
+                imports: &[ImportText {
+                    path: PathText {
+                        kind: PathKind::Crate,
+                        segments: &["s"],
+                    },
+                    kind: ImportKind::Glob,
+                    alias: None,
+                }],
+            },
+        },
+        Line {
+            depth: 1,
+            item: ItemText::Use {
+                vis: VisText::Public,
+                imports: &[ImportText {
+                    path: PathText {
+                        kind: PathKind::Crate,
+                        segments: &["x"],
+                    },
+                    kind: ImportKind::Glob,
+                    alias: None,
+                }],
+            },
+        },
+        Line {
+            depth: 0,
+            item: ItemText::Mod {
+                vis: VisText::PubSelf,
+                name: "e",
+            },
+        },
+        Line {
+            depth: 1,
+            item: ItemText::Use {
+                vis: VisText::Public,
+                imports: &[ImportText {
+                    path: PathText {
+                        kind: PathKind::Crate,
+                        segments: &["d"],
+                    },
+                    kind: ImportKind::Glob,
+                    alias: None,
+                }],
+            },
+        },
+        Line {
+            depth: 0,
+            item: ItemText::Mod {
+                vis: VisText::PubSelf,
+                name: "x",
+            },
+        },
+        Line {
+            depth: 1,
+            item: ItemText::Use {
+                vis: VisText::Public,
+                imports: &[ImportText {
+                    path: PathText {
+                        kind: PathKind::Crate,
+                        segments: &["s"],
+                    },
+                    kind: ImportKind::Glob,
+                    alias: None,
+                }],
+            },
+        },
+        Line {
+            depth: 0,
+            item: ItemText::Mod {
+                vis: VisText::PubSelf,
+                name: "s",
+            },
+        },
+        Line {
+            depth: 1,
+            item: ItemText::Use {
+                vis: VisText::Public,
+                imports: &[ImportText {
+                    path: PathText {
+                        kind: PathKind::Crate,
+                        segments: &["o", "T"],
+                    },
+                    kind: ImportKind::Plain,
+                    alias: None,
+                }],
+            },
+        },
+        Line {
+            depth: 0,
+            item: ItemText::Mod {
+                vis: VisText::PubSelf,
+                name: "o",
+            },
+        },
+        Line {
+            depth: 1,
+            item: ItemText::Struct {
+                vis: VisText::Public,
+                name: "T",
+                ctor: CtorText::Vis(VisText::Public),
+            },
+        },
+    ]],
+    crates: ALONE,
+    builtin_types: &[],
+    enums: &[],
+};
+
+/// use m::n::*; mod t { pub trait N {} } mod m { use crate::t::*; pub mod n { pub use crate::m::*; } pub use crate::t::*; }
+const RAISED_BEHIND: Vector = Vector {
+    name: "a name that is raised is seen further on",
+    files: &[&[
+        Line {
+            depth: 0,
+            item: ItemText::Use {
+                vis: VisText::PubSelf,
+                imports: &[ImportText {
+                    path: PathText {
+                        kind: PathKind::Plain,
+                        segments: &["m", "n"],
+                    },
+                    kind: ImportKind::Glob,
+                    alias: None,
+                }],
+            },
+        },
+        Line {
+            depth: 0,
+            item: ItemText::Mod {
+                vis: VisText::PubSelf,
+                name: "t",
+            },
+        },
+        Line {
+            depth: 1,
+            item: ItemText::Plain {
+                kind: PlainKind::Trait,
+                vis: VisText::Public,
+                name: "N",
+            },
+        },
+        Line {
+            depth: 0,
+            item: ItemText::Mod {
+                vis: VisText::PubSelf,
+                name: "m",
+            },
+        },
+        Line {
+            depth: 1,
+            item: ItemText::Use {
+                vis: VisText::PubSelf,
+                imports: &[ImportText {
+                    path: PathText {
+                        kind: PathKind::Crate,
+                        segments: &["t"],
+                    },
+                    kind: ImportKind::Glob,
+                    alias: None,
+                }],
+            },
+        },
+        Line {
+            depth: 1,
+            item: ItemText::Mod {
+                vis: VisText::Public,
+                name: "n",
+            },
+        },
+        Line {
+            depth: 2,
+            item: ItemText::Use {
+                vis: VisText::Public,
+                imports: &[ImportText {
+                    path: PathText {
+                        kind: PathKind::Crate,
+                        segments: &["m"],
+                    },
+                    kind: ImportKind::Glob,
+                    alias: None,
+                }],
+            },
+        },
+        Line {
+            depth: 1,
+            item: ItemText::Use {
+                vis: VisText::Public,
+                imports: &[ImportText {
+                    path: PathText {
+                        kind: PathKind::Crate,
+                        segments: &["t"],
+                    },
+                    kind: ImportKind::Glob,
+                    alias: None,
+                }],
+            },
+        },
+    ]],
+    crates: ALONE,
+    builtin_types: &[],
+    enums: &[],
+};
 
 const GLOB: &str = "module 0 - crate
 module 1 0 a
@@ -570,13 +590,27 @@ binding 1 T values struct:0 in:1 decl
 edge 1 0 in:0 0.0
 ";
 
+/// Vectors, by name, and their lines.
+static VECTORS: [(&str, &str); 4] = [
+    ("glob", GLOB),
+    ("cycle", CYCLE),
+    ("list", LIST),
+    ("private", PRIVATE),
+];
+
 #[test]
 fn vectors_of_globs_are_shown(rt: HostRuntime) {
     let alloc = rt.alloc();
-    expect_shown(&rt, alloc, "glob", GLOB);
-    expect_shown(&rt, alloc, "cycle", CYCLE);
-    expect_shown(&rt, alloc, "list", LIST);
-    expect_shown(&rt, alloc, "private", PRIVATE);
+    for (name, want) in &VECTORS {
+        let mut lines: Vec<u8> = Vec::new(alloc);
+        let mut said: Vec<u8> = Vec::new(alloc);
+        assert_eq!(rt;
+            run(alloc, &["show", name], &mut lines, &mut said),
+            0,
+            "{name}"
+        );
+        assert_eq!(rt; lines.as_slice(), want.as_bytes(), "{name}");
+    }
 }
 
 const AROUND_THREE_LINES: &str = "module 0 - crate
@@ -597,11 +631,6 @@ edge 2 1 pub 0.0
 edge 3 2 pub 1.0
 ";
 
-#[test]
-fn a_name_goes_round_a_cycle(rt: HostRuntime) -> Result<(), Fault> {
-    expect_lines(&rt, rt.alloc(), &AROUND_THREE, AROUND_THREE_LINES)
-}
-
 const TWICE_LINES: &str = "module 0 - crate
 module 1 0 a
 module 2 0 b
@@ -613,11 +642,6 @@ binding 2 S types struct:0 pub glob:0.0
 binding 2 S values struct:0 pub glob:0.0
 edge 1 2 pub 0.0
 ";
-
-#[test]
-fn two_globs_of_one_module_share_an_edge(rt: HostRuntime) -> Result<(), Fault> {
-    expect_lines(&rt, rt.alloc(), &TWICE, TWICE_LINES)
-}
 
 const OF_TWO_MODULES_LINES: &str = "module 0 - crate
 module 1 0 a
@@ -634,41 +658,21 @@ edge 1 0 in:0 1.0
 edge 2 0 in:0 0.0
 ";
 
-#[test]
-fn the_first_of_two_globs_binds_a_name(rt: HostRuntime) -> Result<(), Fault> {
-    expect_lines(&rt, rt.alloc(), &OF_TWO_MODULES, OF_TWO_MODULES_LINES)
-}
-
 const OF_ITSELF_LINES: &str = "module 0 - crate
 binding 0 S types struct:0 pub decl
 binding 0 S values struct:0 pub decl
 edge 0 0 in:0 0.0
 ";
 
-#[test]
-fn a_module_may_import_itself(rt: HostRuntime) -> Result<(), Fault> {
-    expect_lines(&rt, rt.alloc(), &OF_ITSELF, OF_ITSELF_LINES)
-}
-
 const OF_NOTHING_LINES: &str = "module 0 - crate
 diag unresolved-import 0 0:0 0
 left import 0 gone
 ";
 
-#[test]
-fn a_glob_of_nothing_is_left_over(rt: HostRuntime) -> Result<(), Fault> {
-    expect_lines(&rt, rt.alloc(), &OF_NOTHING, OF_NOTHING_LINES)
-}
-
 const OF_A_STRUCT_LINES: &str = "module 0 - crate
 binding 0 S types struct:0 pub decl
 binding 0 S values struct:0 pub decl
 ";
-
-#[test]
-fn a_glob_of_a_struct_brings_nothing(rt: HostRuntime) -> Result<(), Fault> {
-    expect_lines(&rt, rt.alloc(), &OF_A_STRUCT, OF_A_STRUCT_LINES)
-}
 
 const RAISED_LINES: &str = "module 0 - crate
 module 1 0 d
@@ -697,11 +701,6 @@ edge 4 1 crate 0.0
 edge 4 3 pub 3.0
 ";
 
-#[test]
-fn a_name_that_is_raised_travels_on(rt: HostRuntime) -> Result<(), Fault> {
-    expect_lines(&rt, rt.alloc(), &RAISED, RAISED_LINES)
-}
-
 const RAISED_BEHIND_LINES: &str = "module 0 - crate
 module 1 0 t
 module 2 0 m
@@ -720,7 +719,18 @@ edge 2 3 pub 2.0
 edge 3 0 in:0 0.0
 ";
 
+static ROWS: [Row; 8] = [
+    (AROUND_THREE, AROUND_THREE_LINES),
+    (TWICE, TWICE_LINES),
+    (OF_TWO_MODULES, OF_TWO_MODULES_LINES),
+    (OF_ITSELF, OF_ITSELF_LINES),
+    (OF_NOTHING, OF_NOTHING_LINES),
+    (OF_A_STRUCT, OF_A_STRUCT_LINES),
+    (RAISED, RAISED_LINES),
+    (RAISED_BEHIND, RAISED_BEHIND_LINES),
+];
+
 #[test]
-fn a_name_that_is_raised_is_seen_further_on(rt: HostRuntime) -> Result<(), Fault> {
-    expect_lines(&rt, rt.alloc(), &RAISED_BEHIND, RAISED_BEHIND_LINES)
+fn globs_bring_what_is_seen(rt: HostRuntime) -> Result<(), Fault> {
+    expect_rows(&rt, rt.alloc(), &ROWS)
 }

@@ -65,7 +65,7 @@ const STRUCT_O: Line = Line {
 };
 
 /// use d::p::*; over pub mod p { pub struct O; struct Q; }
-static WITHOUT_ATTR: [&[Line]; 2] = [
+const WITHOUT_ATTR: &[&[Line]] = &[
     &[Line {
         depth: 0,
         item: ItemText::Use {
@@ -95,7 +95,7 @@ static WITHOUT_ATTR: [&[Line]; 2] = [
 ];
 
 /// #[prelude_import] use d::p::*; use O as P; over pub mod p { pub struct O; }
-static OF_ANOTHER: [&[Line]; 2] = [
+const OF_ANOTHER: &[&[Line]] = &[
     &[
         Line {
             depth: 0,
@@ -121,7 +121,7 @@ static OF_ANOTHER: [&[Line]; 2] = [
 ];
 
 /// use O as P; #[prelude_import] use crate::p::*; pub mod p { pub struct O; }
-static OF_ITS_OWN: [&[Line]; 2] = [
+const OF_ITS_OWN: &[&[Line]] = &[
     &[
         USE_OF_O,
         Line {
@@ -165,36 +165,29 @@ fn collected(alloc: Global, files: &'static [&'static [Line]]) -> Result<(Vec<u8
     Ok((lines, collected.outcome.targets.len()))
 }
 
-#[test]
-fn a_glob_takes_what_is_public_of_another_crate(rt: HostRuntime) -> Result<(), Fault> {
-    let (lines, targets) = collected(rt.alloc(), &WITHOUT_ATTR)?;
-    assert_eq!(rt;
-        lines.as_slice(),
+/// What a row shows, its files, the lines of crate 0, and of how many globs it has targets.
+static ROWS: [(&str, &[&[Line]], &str, usize); 3] = [
+    (
+        "a glob takes what is public of another crate",
+        WITHOUT_ATTR,
         "module 0 - crate
 binding 0 O types struct:0 in:0 glob:0.0
 binding 0 O values struct:0 in:0 glob:0.0
-"
-            .as_bytes()
-    );
-    assert!(rt; targets == 1);
-    Ok(())
-}
-
-#[test]
-fn a_prelude_import_adds_no_edge_and_no_target(rt: HostRuntime) -> Result<(), Fault> {
-    let (lines, targets) = collected(rt.alloc(), &OF_ANOTHER)?;
-    assert_eq!(rt;
-        lines.as_slice(),
+",
+        1,
+    ),
+    (
+        "a prelude import adds no edge and no target",
+        OF_ANOTHER,
         "module 0 - crate
 binding 0 P types struct:0 in:0 import:1.0
 binding 0 P values struct:0 in:0 import:1.0
-"
-            .as_bytes()
-    );
-    assert!(rt; targets == 0);
-    let (lines, targets) = collected(rt.alloc(), &OF_ITS_OWN)?;
-    assert_eq!(rt;
-        lines.as_slice(),
+",
+        0,
+    ),
+    (
+        "nor does one of the crate itself",
+        OF_ITS_OWN,
         "module 0 - crate
 module 1 0 p
 binding 0 P types struct:0 in:0 import:0.0
@@ -202,9 +195,17 @@ binding 0 P values struct:0 in:0 import:0.0
 binding 0 p types mod:1 pub decl
 binding 1 O types struct:0 pub decl
 binding 1 O values struct:0 pub decl
-"
-            .as_bytes()
-    );
-    assert!(rt; targets == 0);
+",
+        0,
+    ),
+];
+
+#[test]
+fn globs_of_other_crates_and_prelude_imports_bring_names(rt: HostRuntime) -> Result<(), Fault> {
+    for (rule, files, want, count) in &ROWS {
+        let (lines, targets) = collected(rt.alloc(), files)?;
+        assert_eq!(rt; lines.as_slice(), want.as_bytes(), "{rule}");
+        assert_eq!(rt; targets, *count, "{rule}");
+    }
     Ok(())
 }

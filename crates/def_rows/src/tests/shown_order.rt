@@ -1,8 +1,14 @@
 //! The order of the maps that are shown: that in which their keys were first given.
 
-use def_ids::Edition;
+use def_ids::{Edition, MacroId, MacroRulesId};
+use def_map::{
+    DefMap, DeriveKey, DeriveMacroInvocation, MapData, ModuleData, ModuleOrigin, Position,
+    Visibility,
+};
 use def_workspace::{CrateText, DependencyText, Fault, Line, Vector, Workspace};
-use std::alloc::Global;
+use item_tree::{AttrId, Crate, FileAstId, FileId, HirFileId, MacroCallId, Name, Seq};
+use std::alloc::{AllocError, Global};
+use std::test::Fail;
 
 const STD: DependencyText = DependencyText {
     name: "std",
@@ -103,6 +109,109 @@ fn a_later_dependency_stands_where_the_first_of_its_name_stood(
 ) -> Result<(), Fault> {
     for (crates, names) in &PRELUDES {
         assert_eq!(rt; extern_names(rt.alloc(), crates)?.as_str(), *names);
+    }
+    Ok(())
+}
+
+/// A map of a crate with nothing in it.
+fn empty_map(alloc: Global) -> Result<MapData, AllocError> {
+    let (map, _) = DefMap::seed(alloc, Crate(0), Edition::Edition2021, None)?.into_parts();
+    Ok(map)
+}
+
+fn macro_of(key: usize) -> MacroId {
+    MacroId::MacroRules(MacroRulesId(key))
+}
+
+fn derive_of(key: usize) -> DeriveKey {
+    DeriveKey {
+        position: Position {
+            file: HirFileId::File(FileId(0)),
+            value: FileAstId(key),
+        },
+        attr: AttrId(0),
+    }
+}
+
+/// Writes this key into each map that is shown: for a name its number as a child, a macro of the
+/// name, and the name itself.
+fn write(alloc: Global, map: &mut MapData, key: usize) -> Result<(), AllocError> {
+    map.set_child(0, Name(key), key)?;
+    map.define_legacy_macro(0, Name(key), macro_of(key))?;
+    map.enable_feature(Name(key))?;
+    map.export_derive(macro_of(key), Seq::from_vec(Vec::new(alloc)))?;
+    map.add_macro_use(Name(key), macro_of(key))?;
+    let derive = DeriveMacroInvocation {
+        call: MacroCallId(key),
+        calls: Vec::new(alloc),
+    };
+    let DeriveKey { position, attr } = derive_of(key);
+    map.set_derive(0, position, attr, derive)
+}
+
+/// Whether there is an entry, and it has this key.
+fn has_key<K: PartialEq + Copy, V>(entry: Option<(&K, &V)>, key: K) -> bool {
+    match entry {
+        Some((found, _)) => *found == key,
+        None => false,
+    }
+}
+
+/// Whether the maps of a module have this key at a place.
+fn module_has_at(module: &ModuleData, place: usize, key: usize) -> bool {
+    has_key(module.children.get_index(place), Name(key))
+        && has_key(module.scope.legacy_macros.get_index(place), Name(key))
+        && has_key(module.scope.derives.get_index(place), derive_of(key))
+}
+
+/// Whether the maps of a crate have this key at a place.
+fn crate_has_at(map: &MapData, place: usize, key: usize) -> bool {
+    map.features.names.get_index(place) == Some(&Name(key))
+        && has_key(map.exported_derives.get_index(place), macro_of(key))
+        && has_key(map.macro_use_prelude.get_index(place), Name(key))
+}
+
+#[test]
+fn a_key_that_is_set_again_keeps_its_place(rt: HostRuntime) -> Result<(), Fail> {
+    let mut map = empty_map(rt.alloc())?;
+    for key in [50, 30, 40, 50, 30] {
+        write(rt.alloc(), &mut map, key)?;
+    }
+    let root = map.modules.as_slice().first().ok_or("no root")?;
+    for (place, key) in [50, 30, 40].into_iter().enumerate() {
+        assert!(rt; module_has_at(root, place, key), "{key} in the root");
+        assert!(rt; crate_has_at(&map, place, key), "{key} in the crate");
+    }
+    Ok(())
+}
+
+/// Defines a macro of each of these names in a module.
+fn define(map: &mut MapData, module: usize, names: &[usize]) -> Result<(), AllocError> {
+    for name in names {
+        map.define_legacy_macro(module, Name(*name), macro_of(*name))?;
+    }
+    Ok(())
+}
+
+/// Two modules, of which the second takes over the textual macros of the first.
+fn with_imported_macros(alloc: Global, map: &mut MapData) -> Result<(), AllocError> {
+    let module = ModuleData::new(alloc, None, ModuleOrigin::CrateRoot, Visibility::Public);
+    map.push_module(0, module)?;
+    define(map, 0, &[50, 30, 40, 50])?;
+    define(map, 1, &[40])?;
+    map.import_all_legacy_macros(alloc, 0, 1)
+}
+
+#[test]
+fn macros_that_are_taken_over_stand_behind_those_of_the_module(
+    rt: HostRuntime,
+) -> Result<(), Fail> {
+    let mut map = empty_map(rt.alloc())?;
+    with_imported_macros(rt.alloc(), &mut map)?;
+    let module = map.modules.as_slice().last().ok_or("no module")?;
+    for (place, key) in [40, 50, 30].into_iter().enumerate() {
+        let entry = module.scope.legacy_macros.get_index(place);
+        assert!(rt; has_key(entry, Name(key)), "{key}");
     }
     Ok(())
 }

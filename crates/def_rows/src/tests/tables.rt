@@ -1,4 +1,5 @@
-//! One list of calls over both tables.
+//! One list of calls over both tables, and over one that finds a name's bindings, an unnamed trait
+//! and an edge by the calls that each table has.
 #![tactic(auto)]
 
 use def_bindings::{
@@ -8,6 +9,72 @@ use def_ids::{Def, GlobId, ModuleId, StructId, TraitId, UseId};
 use item_tree::{Crate, Name};
 use std::alloc::AllocError;
 use std::test::Fail;
+
+/// A table with no more than the calls that each table has.
+struct Plain<T> {
+    table: T,
+}
+
+impl<T: Drop> Drop for Plain<T> {
+    fn drop(self) {
+        let Plain { table: _ } = self;
+    }
+}
+
+impl<T: BindingTable> BindingTable for Plain<T> {
+    type Vis = T::Vis;
+
+    ghost content = { λ t. T.content t.table };
+
+    ghost sources = { λ t. T.sources t.table };
+
+    fn binding(&self, module: ModuleId, name: Name, ns: Namespace) -> Option<Binding<T::Vis>> {
+        self.table.binding(module, name, ns)
+    }
+
+    fn name_at(&self, module: ModuleId, index: usize) -> Option<Name> {
+        self.table.name_at(module, index)
+    }
+
+    fn unnamed_at(&self, module: ModuleId, index: usize) -> Option<(TraitId, T::Vis)> {
+        self.table.unnamed_at(module, index)
+    }
+
+    fn edge_at(&self, module: ModuleId, index: usize) -> Option<EdgeTo<T::Vis>> {
+        self.table.edge_at(module, index)
+    }
+
+    fn set(
+        &mut self,
+        module: ModuleId,
+        name: Name,
+        ns: Namespace,
+        binding: Binding<T::Vis>,
+    ) -> Result<(), AllocError> {
+        self.table.set(module, name, ns, binding)
+    }
+
+    fn remove(&mut self, module: ModuleId, name: Name, ns: Namespace) {
+        self.table.remove(module, name, ns)
+    }
+
+    fn set_unnamed(
+        &mut self,
+        module: ModuleId,
+        item: TraitId,
+        vis: T::Vis,
+    ) -> Result<(), AllocError> {
+        self.table.set_unnamed(module, item, vis)
+    }
+
+    fn set_edge(&mut self, module: ModuleId, edge: EdgeTo<T::Vis>) -> Result<(), AllocError> {
+        self.table.set_edge(module, edge)
+    }
+
+    ghost finite = { λ t. T.finite t.table };
+
+    ghost tied = { λ t. T.tied t.table };
+}
 
 fn module(index: usize) -> ModuleId {
     ModuleId {
@@ -70,7 +137,9 @@ fn are_alike_at<A: BindingTable<Vis = usize>, B: BindingTable<Vis = usize>>(
 ) -> bool {
     for k in 0..3 {
         let ns = namespace(k);
-        if a.binding(place, Name(i), ns) != b.binding(place, Name(i), ns) {
+        if a.binding(place, Name(i), ns) != b.binding(place, Name(i), ns)
+            || a.bindings(place, Name(i)).get(ns) != b.bindings(place, Name(i)).get(ns)
+        {
             return false;
         }
     }
@@ -78,6 +147,7 @@ fn are_alike_at<A: BindingTable<Vis = usize>, B: BindingTable<Vis = usize>>(
         && a.unnamed_at(place, i) == b.unnamed_at(place, i)
         && a.unnamed_vis(place, TraitId(i)) == b.unnamed_vis(place, TraitId(i))
         && a.edge_at(place, i) == b.edge_at(place, i)
+        && a.edge_to(place, module(i)) == b.edge_to(place, module(i))
 }
 
 /// Whether both tables answer alike at the first places of the first modules.
@@ -93,13 +163,18 @@ fn are_alike<A: BindingTable<Vis = usize>, B: BindingTable<Vis = usize>>(a: &A, 
 }
 
 #[test]
-fn both_tables_answer_alike(rt: HostRuntime) -> Result<(), Fail> {
+fn tables_answer_alike(rt: HostRuntime) -> Result<(), Fail> {
     let mut scopes: ScopeTable<usize> = ScopeTable::new(rt.alloc())?;
     let mut numbers: NumberedTable<usize> = NumberedTable::new(rt.alloc())?;
+    let mut plain: Plain<ScopeTable<usize>> = Plain {
+        table: ScopeTable::new(rt.alloc())?,
+    };
     for k in 0..200 {
         call(&mut scopes, k)?;
         call(&mut numbers, k)?;
+        call(&mut plain, k)?;
         assert!(rt; are_alike(&scopes, &numbers), "after call {k}");
+        assert!(rt; are_alike(&scopes, &plain), "after call {k}");
     }
     assert!(rt; numbers.name_at(module(0), 0).is_some());
     assert!(rt; numbers.edge_at(module(0), 0).is_some());

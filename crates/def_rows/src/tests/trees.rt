@@ -50,25 +50,19 @@ fn fault(
     Ok(ItemTree::new(items, ids(alloc, top)?, no_attrs(alloc)).err())
 }
 
+/// The children of each module, the modules at the top, and the first fault of their tree.
+static FAULTS: [(&[&[usize]], &[usize], Option<TreeFault>); 5] = [
+    (&[&[5]], &[0], Some(TreeFault::ChildOutOfRange(0))),
+    (&[&[0]], &[0], Some(TreeFault::ChildNotAfterParent(0))),
+    (&[&[2], &[2], &[]], &[0, 1], Some(TreeFault::TwoParents(2))),
+    (&[&[]], &[1], Some(TreeFault::ChildOutOfRange(1))),
+    (&[&[1, 2], &[], &[]], &[0], None),
+];
+
 #[test]
 fn the_first_fault_is_named(rt: HostRuntime) -> Result<(), Fail> {
-    let alloc = rt.alloc();
-    assert_eq!(rt;
-        fault(alloc, &[&[5]], &[0])?,
-        Some(TreeFault::ChildOutOfRange(0))
-    );
-    assert_eq!(rt;
-        fault(alloc, &[&[0]], &[0])?,
-        Some(TreeFault::ChildNotAfterParent(0))
-    );
-    assert_eq!(rt;
-        fault(alloc, &[&[2], &[2], &[]], &[0, 1])?,
-        Some(TreeFault::TwoParents(2))
-    );
-    assert_eq!(rt;
-        fault(alloc, &[&[]], &[1])?,
-        Some(TreeFault::ChildOutOfRange(1))
-    );
-    assert_eq!(rt; fault(alloc, &[&[1, 2], &[], &[]], &[0])?, None);
+    for (children, top, want) in &FAULTS {
+        assert_eq!(rt; fault(rt.alloc(), children, top)?, *want);
+    }
     Ok(())
 }

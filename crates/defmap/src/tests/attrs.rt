@@ -1,7 +1,7 @@
 //! What the attributes of a root file say of a crate.
 #![tactic(auto)]
 
-use crate::tests::kinds::shows;
+use crate::tests::rows::expect_lines;
 use def_ids::Edition;
 use def_map::DefMap;
 use def_workspace::{AttrText, CrateText, Fault, ItemText, Line, Vector, Workspace, find};
@@ -53,12 +53,11 @@ fn a_root_file_says_what_its_crate_is(rt: HostRuntime) -> Result<(), Fault> {
     };
     let mut workspace = Workspace::new(rt.alloc(), vector)?;
     assert!(rt; is_as_said(&mut workspace)?);
-    assert!(rt; shows(rt.alloc(), vector, "module 0 - crate\n")?);
-    Ok(())
+    expect_lines(&rt, rt.alloc(), vector, "module 0 - crate\n")
 }
 
 /// #![recursion_limit = ".."], of which the last two are no numbers of 32 bits
-static LIMITS: [&[Line]; 1] = [&[
+const LIMITS: &[&[Line]] = &[&[
     Line {
         depth: 0,
         item: ItemText::FileAttr {
@@ -90,7 +89,7 @@ static LIMITS: [&[Line]; 1] = [&[
 ]];
 
 /// #![recursion_limit = ""] #![register_tool(a, b)]
-static NOTHING_SAID: [&[Line]; 1] = [&[
+const NOTHING_SAID: &[&[Line]] = &[&[
     Line {
         depth: 0,
         item: ItemText::FileAttr {
@@ -123,10 +122,17 @@ fn limit_and_tools(
     collected_limit(&mut workspace)
 }
 
+/// Root files, and the limit and the number of tools of their crates.
+static SAID: [(&[&[Line]], (u32, usize)); 2] = [
+    (LIMITS, (4294967295, 5)),
+    (NOTHING_SAID, (128, 5)),
+];
+
 #[test]
 fn the_last_limit_that_is_a_number_counts(rt: HostRuntime) -> Result<(), Fault> {
-    assert_eq!(rt; limit_and_tools(rt.alloc(), &LIMITS)?, (4294967295, 5));
-    assert_eq!(rt; limit_and_tools(rt.alloc(), &NOTHING_SAID)?, (128, 5));
+    for (files, want) in &SAID {
+        assert_eq!(rt; limit_and_tools(rt.alloc(), files)?, *want);
+    }
     Ok(())
 }
 
@@ -181,6 +187,5 @@ fn a_disabled_root_file_is_read_too(rt: HostRuntime) -> Result<(), Fault> {
     let mut workspace = Workspace::new(rt.alloc(), &vector)?;
     assert!(rt; is_read(&mut workspace)?);
     let text = "module 0 - crate\ndiag unconfigured 0 0:0 7\n";
-    assert!(rt; shows(rt.alloc(), &vector, text)?);
-    Ok(())
+    expect_lines(&rt, rt.alloc(), &vector, text)
 }

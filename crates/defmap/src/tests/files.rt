@@ -1,38 +1,19 @@
 //! Modules in files of their own, and what cfg disables.
 #![tactic(auto)]
 
+use crate::tests::rows::{Row, expect_rows};
 use def_ids::Edition;
-use def_workspace::{CrateText, CtorText, Fault, ItemText, Line, Vector, VisText, run, show};
-use std::alloc::Global;
+use def_workspace::{CrateText, CtorText, Fault, ItemText, Line, Vector, VisText, run};
 use std::io::Write;
 use std::process::Abort;
 
-static CRATES: [CrateText; 1] = [CrateText {
+/// One crate on its own.
+const ALONE: &[CrateText] = &[CrateText {
     krate: 0,
     edition: Edition::Edition2021,
     root_file: 0,
     deps: &[],
 }];
-
-/// Looks at the lines of files, the first of which is the root of a crate.
-fn expect_lines(
-    rt: &impl Abort,
-    alloc: Global,
-    files: &'static [&'static [Line]],
-    lines: &str,
-) -> Result<(), Fault> {
-    let mut written: Vec<u8> = Vec::new(alloc);
-    let vector = Vector {
-        name: "a test's",
-        files,
-        crates: &CRATES,
-        builtin_types: &[],
-        enums: &[],
-    };
-    show(alloc, &vector, &mut written)?;
-    assert_eq!(rt; written.as_slice(), lines.as_bytes());
-    Ok(())
-}
 
 #[test]
 fn files_that_include_each_other_end(rt: HostRuntime) -> Result<(), Fault> {
@@ -63,59 +44,65 @@ fn files_that_include_each_other_end(rt: HostRuntime) -> Result<(), Fault> {
 }
 
 /// mod a; where a.rs holds mod b; mod c { mod d; } and a/b.rs holds pub struct S;
-static NESTED: [&[Line]; 3] = [
-    &[Line {
-        depth: 0,
-        item: ItemText::ModFile {
-            vis: VisText::PubSelf,
-            name: "a",
-            path: None,
-        },
-    }],
-    &[
-        Line {
-            depth: 0,
-            item: ItemText::FilePath { path: "a.rs" },
-        },
-        Line {
+const NESTED: Vector = Vector {
+    name: "files lie below those that declare them",
+    files: &[
+        &[Line {
             depth: 0,
             item: ItemText::ModFile {
                 vis: VisText::PubSelf,
-                name: "b",
+                name: "a",
                 path: None,
             },
-        },
-        Line {
-            depth: 0,
-            item: ItemText::Mod {
-                vis: VisText::PubSelf,
-                name: "c",
+        }],
+        &[
+            Line {
+                depth: 0,
+                item: ItemText::FilePath { path: "a.rs" },
             },
-        },
-        Line {
-            depth: 1,
-            item: ItemText::ModFile {
-                vis: VisText::PubSelf,
-                name: "d",
-                path: None,
+            Line {
+                depth: 0,
+                item: ItemText::ModFile {
+                    vis: VisText::PubSelf,
+                    name: "b",
+                    path: None,
+                },
             },
-        },
+            Line {
+                depth: 0,
+                item: ItemText::Mod {
+                    vis: VisText::PubSelf,
+                    name: "c",
+                },
+            },
+            Line {
+                depth: 1,
+                item: ItemText::ModFile {
+                    vis: VisText::PubSelf,
+                    name: "d",
+                    path: None,
+                },
+            },
+        ],
+        &[
+            Line {
+                depth: 0,
+                item: ItemText::FilePath { path: "a/b.rs" },
+            },
+            Line {
+                depth: 0,
+                item: ItemText::Struct {
+                    vis: VisText::Public,
+                    name: "S",
+                    ctor: CtorText::None,
+                },
+            },
+        ],
     ],
-    &[
-        Line {
-            depth: 0,
-            item: ItemText::FilePath { path: "a/b.rs" },
-        },
-        Line {
-            depth: 0,
-            item: ItemText::Struct {
-                vis: VisText::Public,
-                name: "S",
-                ctor: CtorText::None,
-            },
-        },
-    ],
-];
+    crates: ALONE,
+    builtin_types: &[],
+    enums: &[],
+};
 
 const NESTED_LINES: &str = "module 0 - crate
 module 1 0 a
@@ -130,90 +117,102 @@ binding 3 d types mod:4 in:3 decl
 diag unresolved-module 3 1:2 a/c/d.rs,a/c/d/mod.rs
 ";
 
-#[test]
-fn files_lie_below_those_that_declare_them(rt: HostRuntime) -> Result<(), Fault> {
-    expect_lines(&rt, rt.alloc(), &NESTED, NESTED_LINES)
-}
-
 /// mod a; where cfg disables a.rs
-static DISABLED_FILE: [&[Line]; 2] = [
-    &[Line {
-        depth: 0,
-        item: ItemText::ModFile {
-            vis: VisText::PubSelf,
-            name: "a",
-            path: None,
-        },
-    }],
-    &[
-        Line {
+const DISABLED_FILE: Vector = Vector {
+    name: "a file that cfg disables is reported and left out",
+    files: &[
+        &[Line {
             depth: 0,
-            item: ItemText::FilePath { path: "a.rs" },
-        },
-        Line {
-            depth: 0,
-            item: ItemText::FileDisabled { cfg: 7 },
-        },
+            item: ItemText::ModFile {
+                vis: VisText::PubSelf,
+                name: "a",
+                path: None,
+            },
+        }],
+        &[
+            Line {
+                depth: 0,
+                item: ItemText::FilePath { path: "a.rs" },
+            },
+            Line {
+                depth: 0,
+                item: ItemText::FileDisabled { cfg: 7 },
+            },
+        ],
     ],
-];
+    crates: ALONE,
+    builtin_types: &[],
+    enums: &[],
+};
 
 /// A root file that cfg disables.
-static DISABLED_ROOT: [&[Line]; 1] = [&[
-    Line {
-        depth: 0,
-        item: ItemText::FileDisabled { cfg: 5 },
-    },
-    Line {
-        depth: 0,
-        item: ItemText::Struct {
-            vis: VisText::Public,
-            name: "S",
-            ctor: CtorText::None,
+const DISABLED_ROOT: Vector = Vector {
+    name: "and a root file",
+    files: &[&[
+        Line {
+            depth: 0,
+            item: ItemText::FileDisabled { cfg: 5 },
         },
-    },
-]];
-
-/// A struct that cfg disables, and one that it does not.
-static DISABLED_ITEM: [&[Line]; 1] = [&[
-    Line {
-        depth: 0,
-        item: ItemText::Disabled {
-            cfg: 3,
-            item: &ItemText::Struct {
+        Line {
+            depth: 0,
+            item: ItemText::Struct {
                 vis: VisText::Public,
                 name: "S",
                 ctor: CtorText::None,
             },
         },
-    },
-    Line {
-        depth: 0,
-        item: ItemText::Struct {
-            vis: VisText::Public,
-            name: "T",
-            ctor: CtorText::None,
+    ]],
+    crates: ALONE,
+    builtin_types: &[],
+    enums: &[],
+};
+
+/// A struct that cfg disables, and one that it does not.
+const DISABLED_ITEM: Vector = Vector {
+    name: "and an item",
+    files: &[&[
+        Line {
+            depth: 0,
+            item: ItemText::Disabled {
+                cfg: 3,
+                item: &ItemText::Struct {
+                    vis: VisText::Public,
+                    name: "S",
+                    ctor: CtorText::None,
+                },
+            },
         },
-    },
-]];
+        Line {
+            depth: 0,
+            item: ItemText::Struct {
+                vis: VisText::Public,
+                name: "T",
+                ctor: CtorText::None,
+            },
+        },
+    ]],
+    crates: ALONE,
+    builtin_types: &[],
+    enums: &[],
+};
+
+static ROWS: [Row; 4] = [
+    (NESTED, NESTED_LINES),
+    (
+        DISABLED_FILE,
+        "module 0 - crate\ndiag unconfigured 0 0:0 7\n",
+    ),
+    (
+        DISABLED_ROOT,
+        "module 0 - crate\ndiag unconfigured 0 0:0 5\n",
+    ),
+    (
+        DISABLED_ITEM,
+        "module 0 - crate\nbinding 0 T types struct:0 pub decl\ndiag unconfigured 0 0:0 3\n",
+    ),
+];
 
 #[test]
-fn what_cfg_disables_is_reported_and_left_out(rt: HostRuntime) -> Result<(), Fault> {
-    let cases: [(&'static [&'static [Line]], &str); 3] = [
-        (
-            &DISABLED_FILE,
-            "module 0 - crate\ndiag unconfigured 0 0:0 7\n",
-        ),
-        (
-            &DISABLED_ROOT,
-            "module 0 - crate\ndiag unconfigured 0 0:0 5\n",
-        ),
-        (
-            &DISABLED_ITEM,
-            "module 0 - crate\nbinding 0 T types struct:0 pub decl\ndiag unconfigured 0 0:0 3\n",
-        ),
-    ];
-    for (files, lines) in cases {
-        expect_lines(&rt, rt.alloc(), files, lines)?;
-    }
-    Ok(())
+fn files_are_found_and_what_cfg_disables_is_left_out(rt: HostRuntime) -> Result<(), Fault> {
+    expect_rows(&rt, rt.alloc(), &ROWS)
 }

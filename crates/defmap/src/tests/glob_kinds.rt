@@ -1,7 +1,7 @@
 //! Globs of what is no module: the variants of an enum are brought, and of a trait nothing.
 #![tactic(auto)]
 
-use crate::tests::kinds::shows;
+use crate::tests::rows::{Row, expect_rows};
 use def_ids::Edition;
 use def_workspace::{
     CrateText, Fault, ImportText, ItemText, Line, PathText, PlainKind, VariantsText, Vector,
@@ -10,8 +10,8 @@ use def_workspace::{
 use item_tree::{ImportKind, PathKind};
 
 /// pub enum E {} use E::*; where E has V with a constructor and W without one
-static ENUM: Vector = Vector {
-    name: "a test's",
+const ENUM: Vector = Vector {
+    name: "a glob of an enum brings its variants",
     files: &[&[
         Line {
             depth: 0,
@@ -51,8 +51,8 @@ static ENUM: Vector = Vector {
 };
 
 /// pub trait T {} use T::*;
-static TRAIT: Vector = Vector {
-    name: "a test's",
+const TRAIT: Vector = Vector {
+    name: "a glob of a trait brings nothing",
     files: &[&[
         Line {
             depth: 0,
@@ -87,17 +87,18 @@ static TRAIT: Vector = Vector {
     enums: &[],
 };
 
-#[test]
-fn a_glob_of_an_enum_brings_its_variants(rt: HostRuntime) -> Result<(), Fault> {
-    let text =
-        "module 0 - crate\nbinding 0 E types enum:0 pub decl\nbinding 0 V types variant:0 in:0 glob:0.0\nbinding 0 V values variant:0 in:0 glob:0.0\nbinding 0 W types variant:1 in:0 glob:0.0\n";
-    assert!(rt; shows(rt.alloc(), &ENUM, text)?);
-    Ok(())
-}
+static ROWS: [Row; 2] = [
+    (
+        ENUM,
+        "module 0 - crate\nbinding 0 E types enum:0 pub decl\nbinding 0 V types variant:0 in:0 glob:0.0\nbinding 0 V values variant:0 in:0 glob:0.0\nbinding 0 W types variant:1 in:0 glob:0.0\n",
+    ),
+    (
+        TRAIT,
+        "module 0 - crate\nbinding 0 T types trait:0 pub decl\n",
+    ),
+];
 
 #[test]
-fn a_glob_of_a_trait_brings_nothing(rt: HostRuntime) -> Result<(), Fault> {
-    let text = "module 0 - crate\nbinding 0 T types trait:0 pub decl\n";
-    assert!(rt; shows(rt.alloc(), &TRAIT, text)?);
-    Ok(())
+fn globs_of_what_is_no_module_bring_variants(rt: HostRuntime) -> Result<(), Fault> {
+    expect_rows(&rt, rt.alloc(), &ROWS)
 }

@@ -1,17 +1,17 @@
 //! Items of all kinds over scripted crates.
 #![tactic(auto)]
 
+use crate::tests::rows::{Row, expect_rows, expect_vectors};
 use def_ids::Edition;
 use def_workspace::{
     CrateText, CtorText, Fault, ImportText, ItemText, Line, PathText, PlainKind, VariantsText,
-    Vector, VisText, find, show,
+    Vector, VisText,
 };
 use item_tree::{ImportKind, PathKind};
-use std::alloc::Global;
 
 /// fn f() {} type A = u8; static Z: u8 = 0;
-static NAMES: Vector = Vector {
-    name: "a test's",
+const NAMES: Vector = Vector {
+    name: "a name is bound where its kind stands",
     files: &[&[
         Line {
             depth: 0,
@@ -49,8 +49,8 @@ static NAMES: Vector = Vector {
 };
 
 /// union U { .. } const C: u8 = 0; const _: u8 = 0; impl Clone for U {} extern { fn g(); static T: u8; type O; }
-static OTHERS: Vector = Vector {
-    name: "a test's",
+const OTHERS: Vector = Vector {
+    name: "a name is bound where its kind stands, in extern blocks too",
     files: &[&[
         Line {
             depth: 0,
@@ -120,8 +120,8 @@ static OTHERS: Vector = Vector {
 };
 
 /// pub struct Q(), with no field that has a visibility.
-static NO_FIELDS: Vector = Vector {
-    name: "a test's",
+const NO_FIELDS: Vector = Vector {
+    name: "without a visible field there is no constructor",
     files: &[&[Line {
         depth: 0,
         item: ItemText::Struct {
@@ -141,8 +141,8 @@ static NO_FIELDS: Vector = Vector {
 };
 
 /// mod a {} mod b {} pub struct Q(pub(in crate::a) u8, pub(in crate::b) u8);
-static UNRELATED: Vector = Vector {
-    name: "a test's",
+const UNRELATED: Vector = Vector {
+    name: "nor with fields of two modules",
     files: &[&[
         Line {
             depth: 0,
@@ -187,8 +187,8 @@ static UNRELATED: Vector = Vector {
 };
 
 /// pub enum E { V() } use E::V;
-static VARIANT: Vector = Vector {
-    name: "a test's",
+const VARIANT: Vector = Vector {
+    name: "an import may take a variant",
     files: &[&[
         Line {
             depth: 0,
@@ -228,8 +228,8 @@ static VARIANT: Vector = Vector {
 };
 
 /// mod s { pub trait Q {} pub fn Q() {} } use s::Q::{self as t};
-static TYPES_ALONE: Vector = Vector {
-    name: "a test's",
+const TYPES_ALONE: Vector = Vector {
+    name: "an import may take types alone",
     files: &[&[
         Line {
             depth: 0,
@@ -279,66 +279,51 @@ static TYPES_ALONE: Vector = Vector {
     enums: &[],
 };
 
-/// The lines of a scripted crate.
-fn lines_of(alloc: Global, vector: &Vector) -> Result<Vec<u8>, Fault> {
-    let mut lines = Vec::new(alloc);
-    show(alloc, vector, &mut lines)?;
-    Ok(lines)
-}
-
-/// Whether a scripted crate has these lines.
-pub fn shows(alloc: Global, vector: &Vector, text: &str) -> Result<bool, Fault> {
-    let lines = lines_of(alloc, vector)?;
-    Ok(lines.as_slice() == text.as_bytes())
-}
-
-/// Whether the vector of this name has these lines.
-fn shows_named(alloc: Global, name: &str, text: &str) -> Result<bool, Fault> {
-    match find(name) {
-        Some(vector) => shows(alloc, vector, text),
-        None => Ok(false),
-    }
-}
-
-#[test]
-fn a_name_is_bound_where_its_kind_stands(rt: HostRuntime) -> Result<(), Fault> {
-    let text =
-        "module 0 - crate\nbinding 0 A types type:0 in:0 decl\nbinding 0 Z values static:0 in:0 decl\nbinding 0 f values fn:0 in:0 decl\n";
-    assert!(rt; shows(rt.alloc(), &NAMES, text)?);
-    let text =
-        "module 0 - crate\nbinding 0 C values const:0 in:0 decl\nbinding 0 O types type:0 in:0 decl\nbinding 0 T values static:0 in:0 decl\nbinding 0 U types union:0 in:0 decl\nbinding 0 g values fn:0 in:0 decl\n";
-    assert!(rt; shows(rt.alloc(), &OTHERS, text)?);
-    Ok(())
-}
+static ROWS: [Row; 6] = [
+    (
+        NAMES,
+        "module 0 - crate\nbinding 0 A types type:0 in:0 decl\nbinding 0 Z values static:0 in:0 decl\nbinding 0 f values fn:0 in:0 decl\n",
+    ),
+    (
+        OTHERS,
+        "module 0 - crate\nbinding 0 C values const:0 in:0 decl\nbinding 0 O types type:0 in:0 decl\nbinding 0 T values static:0 in:0 decl\nbinding 0 U types union:0 in:0 decl\nbinding 0 g values fn:0 in:0 decl\n",
+    ),
+    (
+        NO_FIELDS,
+        "module 0 - crate\nbinding 0 Q types struct:0 pub decl\n",
+    ),
+    (
+        UNRELATED,
+        "module 0 - crate\nmodule 1 0 a\nmodule 2 0 b\nbinding 0 Q types struct:0 pub decl\nbinding 0 a types mod:1 in:0 decl\nbinding 0 b types mod:2 in:0 decl\n",
+    ),
+    (
+        VARIANT,
+        "module 0 - crate\nbinding 0 E types enum:0 pub decl\nbinding 0 V types variant:0 in:0 import:0.0\nbinding 0 V values variant:0 in:0 import:0.0\n",
+    ),
+    (
+        TYPES_ALONE,
+        "module 0 - crate\nmodule 1 0 s\nbinding 0 s types mod:1 in:0 decl\nbinding 0 t types trait:0 in:0 import:0.0\nbinding 1 Q types trait:0 pub decl\nbinding 1 Q values fn:0 pub decl\n",
+    ),
+];
 
 #[test]
-fn a_constructor_is_as_visible_as_its_fields(rt: HostRuntime) -> Result<(), Fault> {
-    let text =
-        "module 0 - crate\nbinding 0 Q types struct:0 pub decl\nbinding 0 Q values struct:0 crate decl\n";
-    assert!(rt; shows_named(rt.alloc(), "fields", text)?);
-    let text = "module 0 - crate\nbinding 0 Q types struct:0 pub decl\n";
-    assert!(rt; shows(rt.alloc(), &NO_FIELDS, text)?);
-    let text =
-        "module 0 - crate\nmodule 1 0 a\nmodule 2 0 b\nbinding 0 Q types struct:0 pub decl\nbinding 0 a types mod:1 in:0 decl\nbinding 0 b types mod:2 in:0 decl\n";
-    assert!(rt; shows(rt.alloc(), &UNRELATED, text)?);
-    Ok(())
+fn items_of_all_kinds_are_bound(rt: HostRuntime) -> Result<(), Fault> {
+    expect_rows(&rt, rt.alloc(), &ROWS)
 }
 
-#[test]
-fn a_trait_may_be_in_scope_without_a_name(rt: HostRuntime) -> Result<(), Fault> {
-    let text =
-        "module 0 - crate\nmodule 1 0 a\nmodule 2 0 b\nbinding 0 Tr types trait:0 pub decl\nbinding 0 a types mod:1 in:0 decl\nbinding 0 b types mod:2 in:0 decl\ntrait 0 trait:0 in:1\n";
-    assert!(rt; shows_named(rt.alloc(), "underscore", text)?);
-    Ok(())
-}
+/// Vectors, by name, and their lines.
+static VECTORS: [(&str, &str); 2] = [
+    (
+        "fields",
+        "module 0 - crate\nbinding 0 Q types struct:0 pub decl\nbinding 0 Q values struct:0 crate decl\n",
+    ),
+    (
+        "underscore",
+        "module 0 - crate\nmodule 1 0 a\nmodule 2 0 b\nbinding 0 Tr types trait:0 pub decl\nbinding 0 a types mod:1 in:0 decl\nbinding 0 b types mod:2 in:0 decl\ntrait 0 trait:0 in:1\n",
+    ),
+];
 
 #[test]
-fn an_import_may_take_a_variant_or_types_alone(rt: HostRuntime) -> Result<(), Fault> {
-    let text =
-        "module 0 - crate\nbinding 0 E types enum:0 pub decl\nbinding 0 V types variant:0 in:0 import:0.0\nbinding 0 V values variant:0 in:0 import:0.0\n";
-    assert!(rt; shows(rt.alloc(), &VARIANT, text)?);
-    let text =
-        "module 0 - crate\nmodule 1 0 s\nbinding 0 s types mod:1 in:0 decl\nbinding 0 t types trait:0 in:0 import:0.0\nbinding 1 Q types trait:0 pub decl\nbinding 1 Q values fn:0 pub decl\n";
-    assert!(rt; shows(rt.alloc(), &TYPES_ALONE, text)?);
-    Ok(())
+fn vectors_of_kinds_are_shown(rt: HostRuntime) -> Result<(), Fault> {
+    expect_vectors(&rt, rt.alloc(), &VECTORS)
 }

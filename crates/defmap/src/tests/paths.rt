@@ -1,22 +1,21 @@
 //! Paths over scripted crates.
 #![tactic(auto)]
 
-use crate::tests::kinds::shows;
+use crate::tests::rows::{Row, expect_rows};
 use def_ids::Edition;
 use def_workspace::{
     BuiltinText, CrateText, CtorText, Fault, ImportText, ItemText, Line, PathText, Vector, VisText,
 };
 use item_tree::{ImportKind, PathKind};
-use std::alloc::Global;
 
-static IN_2015: [CrateText; 1] = [CrateText {
+const IN_2015: &[CrateText] = &[CrateText {
     krate: 0,
     edition: Edition::Edition2015,
     root_file: 0,
     deps: &[],
 }];
 
-static IN_2021: [CrateText; 1] = [CrateText {
+const IN_2021: &[CrateText] = &[CrateText {
     krate: 0,
     edition: Edition::Edition2021,
     root_file: 0,
@@ -24,7 +23,7 @@ static IN_2021: [CrateText; 1] = [CrateText {
 }];
 
 /// mod a { use b::X; } mod b { pub struct X; }
-static TWO_MODULES: [&[Line]; 1] = [&[
+const TWO_MODULES: &[&[Line]] = &[&[
     Line {
         depth: 0,
         item: ItemText::Mod {
@@ -64,7 +63,7 @@ static TWO_MODULES: [&[Line]; 1] = [&[
 ]];
 
 /// mod u8 {} use u8 as m; use u16 as n;
-static USES_OF_TYPES: [&[Line]; 1] = [&[
+const USES_OF_TYPES: &[&[Line]] = &[&[
     Line {
         depth: 0,
         item: ItemText::Mod {
@@ -102,7 +101,7 @@ static USES_OF_TYPES: [&[Line]; 1] = [&[
     },
 ]];
 
-static BUILTIN_TYPES: [BuiltinText; 2] = [
+const BUILTIN_TYPES: &[BuiltinText] = &[
     BuiltinText {
         name: "u8",
         number: 0,
@@ -142,32 +141,40 @@ binding 0 n types builtin:1 in:0 import:1.0
 binding 0 u8 types mod:1 in:0 decl
 ";
 
-/// Whether a scripted crate of some edition has these lines.
-fn shows_in(
-    alloc: Global,
-    files: &'static [&'static [Line]],
-    crates: &'static [CrateText],
-    text: &str,
-) -> Result<bool, Fault> {
-    let vector = Vector {
-        name: "a test's",
-        files,
-        crates,
-        builtin_types: &BUILTIN_TYPES,
-        enums: &[],
-    };
-    shows(alloc, &vector, text)
-}
+static ROWS: [Row; 3] = [
+    (
+        Vector {
+            name: "in edition 2015 an import begins at the root",
+            files: TWO_MODULES,
+            crates: IN_2015,
+            builtin_types: BUILTIN_TYPES,
+            enums: &[],
+        },
+        OLD_LINES,
+    ),
+    (
+        Vector {
+            name: "and later where it stands",
+            files: TWO_MODULES,
+            crates: IN_2021,
+            builtin_types: BUILTIN_TYPES,
+            enums: &[],
+        },
+        NEW_LINES,
+    ),
+    (
+        Vector {
+            name: "a module goes before a builtin type in an import",
+            files: USES_OF_TYPES,
+            crates: IN_2021,
+            builtin_types: BUILTIN_TYPES,
+            enums: &[],
+        },
+        TYPES_LINES,
+    ),
+];
 
 #[test]
-fn an_edition_says_where_an_import_begins(rt: HostRuntime) -> Result<(), Fault> {
-    assert!(rt; shows_in(rt.alloc(), &TWO_MODULES, &IN_2015, OLD_LINES)?);
-    assert!(rt; shows_in(rt.alloc(), &TWO_MODULES, &IN_2021, NEW_LINES)?);
-    Ok(())
-}
-
-#[test]
-fn a_module_goes_before_a_builtin_type_in_an_import(rt: HostRuntime) -> Result<(), Fault> {
-    assert!(rt; shows_in(rt.alloc(), &USES_OF_TYPES, &IN_2021, TYPES_LINES)?);
-    Ok(())
+fn paths_begin_where_their_edition_says(rt: HostRuntime) -> Result<(), Fault> {
+    expect_rows(&rt, rt.alloc(), &ROWS)
 }

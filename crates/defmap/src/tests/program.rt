@@ -5,8 +5,6 @@ use crate::run_args;
 use def_workspace::run;
 use std::alloc::Global;
 use std::io;
-use std::process::Abort;
-use std::test::Fail;
 
 const PLAIN: &str = "module 0 - crate
 module 1 0 a
@@ -41,47 +39,36 @@ impl io::Write for Narrow {
     }
 }
 
-/// Runs the program, and looks at the status and both texts.
-fn expect_run(rt: &impl Abort, alloc: Global, words: &[&str], status: u8, out: &str, err: &str) {
-    let mut written: Vec<u8> = Vec::new(alloc);
-    let mut said: Vec<u8> = Vec::new(alloc);
-    assert_eq!(rt; run(alloc, words, &mut written, &mut said), status);
-    assert_eq!(rt; written.as_slice(), out.as_bytes());
-    assert_eq!(rt; said.as_slice(), err.as_bytes());
-}
-
-#[test]
-fn shows_what_there_is(rt: HostRuntime) {
-    let alloc = rt.alloc();
-    expect_run(
-        &rt,
-        alloc,
+/// Words, the status of a run over them, and what it writes and says.
+static RUNS: [(&[&str], u8, &str, &str); 12] = [
+    (
         &["list"],
         0,
         "attrs\ncircular\ncycle\nempty\nexcused\nfields\nglob\nlist\nplain\nprivate\nunderscore\n",
         "",
-    );
-    expect_run(&rt, alloc, &["show", "plain"], 0, PLAIN, "");
-    expect_run(&rt, alloc, &["show", "empty"], 0, "module 0 - crate\n", "");
-}
+    ),
+    (&["show", "plain"], 0, PLAIN, ""),
+    (&["show", "empty"], 0, "module 0 - crate\n", ""),
+    (&["show", "nothing"], 2, "", "unknown vector: nothing\n"),
+    (&["show", ""], 2, "", "unknown vector: \n"),
+    (&[], 2, "", USAGE),
+    (&["plain"], 2, "", USAGE),
+    (&["show"], 2, "", USAGE),
+    (&["List"], 2, "", USAGE),
+    (&["list", "plain"], 2, "", USAGE),
+    (&["print", "plain"], 2, "", USAGE),
+    (&["show", "plain", "empty"], 2, "", USAGE),
+];
 
 #[test]
-fn says_what_words_there_are(rt: HostRuntime) {
+fn shows_what_there_is_and_says_what_words_there_are(rt: HostRuntime) {
     let alloc = rt.alloc();
-    let unknown = "unknown vector: nothing\n";
-    expect_run(&rt, alloc, &["show", "nothing"], 2, "", unknown);
-    expect_run(&rt, alloc, &["show", ""], 2, "", "unknown vector: \n");
-    let wrong: [&[&str]; 7] = [
-        &[],
-        &["plain"],
-        &["show"],
-        &["List"],
-        &["list", "plain"],
-        &["print", "plain"],
-        &["show", "plain", "empty"],
-    ];
-    for words in wrong {
-        expect_run(&rt, alloc, words, 2, "", USAGE);
+    for (words, status, out, err) in &RUNS {
+        let mut written: Vec<u8> = Vec::new(alloc);
+        let mut said: Vec<u8> = Vec::new(alloc);
+        assert_eq!(rt; run(alloc, words, &mut written, &mut said), *status);
+        assert_eq!(rt; written.as_slice(), out.as_bytes());
+        assert_eq!(rt; said.as_slice(), err.as_bytes());
     }
 }
 
@@ -104,10 +91,19 @@ fn a_refused_write_ends_a_run(rt: HostRuntime) {
         assert_eq!(rt; run(alloc, &["show", "plain"], &mut out, &mut said), 1);
     }
     assert_eq!(rt; said.len(), 0);
-    assert_eq!(rt; narrow_status(alloc, &["show", "plain"], PLAIN.len(), 0), 0);
-    assert_eq!(rt; narrow_status(alloc, &["list"], 62, 0), 1);
-    assert_eq!(rt; narrow_status(alloc, &["show", "nothing"], 0, 0), 2);
-    assert_eq!(rt; narrow_status(alloc, &[], 0, 0), 2);
+}
+
+#[test]
+fn only_a_refused_write_to_the_output_changes_the_status(rt: HostRuntime) {
+    let rows: [(&[&str], usize, u8); 4] = [
+        (&["show", "plain"], PLAIN.len(), 0),
+        (&["list"], 62, 1),
+        (&["show", "nothing"], 0, 2),
+        (&[], 0, 2),
+    ];
+    for (words, room, status) in rows {
+        assert_eq!(rt; narrow_status(rt.alloc(), words, room, 0), status);
+    }
 }
 
 #[test]

@@ -1,16 +1,17 @@
 //! Globs: a module that a wave meets a second time.
 #![tactic(auto)]
 
+use crate::tests::rows::{Row, expect_rows};
 use def_ids::Edition;
 use def_workspace::{
-    CrateText, CtorText, Fault, ImportText, ItemText, Line, PathText, Vector, VisText, show,
+    CrateText, CtorText, Fault, ImportText, ItemText, Line, PathText, Vector, VisText,
 };
 use item_tree::{ImportKind, PathKind};
 
 /// mod b { use crate::s::*; pub use crate::a::*; } mod c { pub use crate::b::*; }
 /// mod a { pub use crate::s::*; } mod s { pub use crate::t::N; } mod t { pub struct N; }
-static TWICE: Vector = Vector {
-    name: "a test's",
+const TWICE: Vector = Vector {
+    name: "a module is raised at its second visit",
     files: &[&[
         Line {
             depth: 0,
@@ -138,13 +139,9 @@ static TWICE: Vector = Vector {
 
 /// `s` gets the name when all edges stand. It comes to `b` by its own edge, too private for `c`,
 /// and then by way of `a`, as visible as it is.
-#[test]
-fn a_module_is_raised_at_its_second_visit(rt: HostRuntime) -> Result<(), Fault> {
-    let mut lines = Vec::new(rt.alloc());
-    show(rt.alloc(), &TWICE, &mut lines)?;
-    assert_eq!(rt;
-        lines.as_slice(),
-        "module 0 - crate
+static ROWS: [Row; 1] = [(
+    TWICE,
+    "module 0 - crate
 module 1 0 b
 module 2 0 c
 module 3 0 a
@@ -169,8 +166,10 @@ edge 1 2 pub 2.0
 edge 3 1 pub 1.0
 edge 4 1 in:1 0.0
 edge 4 3 pub 3.0
-"
-            .as_bytes()
-    );
-    Ok(())
+",
+)];
+
+#[test]
+fn a_module_is_raised_at_its_second_visit(rt: HostRuntime) -> Result<(), Fault> {
+    expect_rows(&rt, rt.alloc(), &ROWS)
 }
