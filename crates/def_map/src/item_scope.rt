@@ -10,8 +10,8 @@ use def_ids::{
     TraitId,
 };
 use def_modules::{DeriveKey, DeriveMacroInvocation, Invocation, ModuleData};
-use indexmap::{IndexMap, IndexSet};
 use def_paths::{PerNs, Table, bound};
+use indexmap::{IndexMap, IndexSet};
 use item_tree::{Name, Seq};
 use std::marker::Model;
 

@@ -2,8 +2,8 @@
 
 use def_ids::{ImplId, MacroDefId, TraitId, VariantId};
 use item_tree::{
-    AttrId, AttrInput, AttrsOrCfg, Crate, ExpandTo, FileAstId, FileId, InFile, MacroCallId, ModPath,
-    Name, Seq, SyntaxContext,
+    AttrId, AttrInput, AttrsOrCfg, Crate, ExpandTo, FileAstId, FileId, InFile, MacroCallId,
+    ModPath, Name, Seq, SyntaxContext,
 };
 
 /// A crate of the language itself.

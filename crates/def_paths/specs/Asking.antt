@@ -15,9 +15,5 @@ abbrev pub map_with : MapData → Content Visibility → MapView
 map_with all content = record { facts = facts_of all; content = content }
 
 -- the question that is asked of this oracle
-abbrev pub question_in : {D T : Type 0} → Oracle → Asking D T → Question
+abbrev pub question_in : {D : Type 0} → Oracle → Asking D → Question
 question_in oracle a = question_of oracle (session_of a.session.now) (local_view a.local.now) a.asked
-
--- the map that is asked, with this content
-abbrev pub map_in : {D T : Type 0} → Content Visibility → Asking D T → MapView
-map_in content a = map_with a.own.now content

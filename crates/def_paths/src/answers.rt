@@ -8,19 +8,22 @@ ghost use Rattle.def_paths.specs.Answers.{variants_of, variant_named as first_na
 ghost use Rattle.def_paths.specs.Answers.{step as step_of, is_elsewhere as elsewhere, walk as walk_of};
 ghost use Rattle.def_paths.specs.Answers.{HasSameTypes, answer_after, answer_from, joined};
 ghost use Rattle.def_paths.specs.declared.per_ns.PerNs.{PerNs};
-ghost use Rattle.def_paths.specs.Asking.{question_in, map_in};
+ghost use Rattle.def_paths.specs.Asking.{question_in, map_with};
 ghost use Rattle.def_paths.specs.Items.{is_fitting};
 ghost use Rattle.def_paths.specs.OuterMaps.{is_alone as stands_alone, is_plain as has_no_word};
 ghost use Rattle.def_paths.specs.OuterMaps.{answer_in as answer_in_map, answer_outside as answer_outside_of};
 ghost use Rattle.def_paths.specs.OuterMaps.{answers_outside, answer_of};
+ghost use Rattle.def_paths.specs.PerNs.{is_nothing};
 ghost use Rattle.def_paths.specs.Sources.{at_module, by_sources, absolute_sources, relative_sources};
 
 use crate::asked::{PrefixInfo, ReachedFixedPoint, ResolvePathResult};
-use crate::sources::{Asking, Segment};
-use crate::per_ns::{Item, PerNs, public_item};
 use crate::path_database::PathDatabase;
+use crate::per_ns::{Item, PerNs, public_item};
+use crate::prefixes::{absolute_type, relative_type};
+use crate::sources::{Asking, Segment, absolute, relative, scope, scope_type};
 use def_bindings::{BindingTable, Visibility};
 use def_ids::{Def, EnumId, LocationId, ModuleId};
+use def_modules::MapData;
 use def_oracle::EnumVariant;
 use item_tree::{ModPath, Name, PathKind};
 
@@ -140,258 +143,319 @@ impl ResolvePathResult {
     }
 }
 
-impl<'a, D: PathDatabase, T: BindingTable<Vis = Visibility>> Asking<'a, D, T> {
-    /// The variant of a name of an enum.
-    fn variant(&self, id: EnumId, name: Name) -> Option<EnumVariant>
-        ensures { let q = question_in (D.oracle self.now.db.now) self.now in
-            result ≡ first_named (variants_of q id.0) name }
-    {
-        match id.lookup(self.session) {
-            Some(loc) => match self.db.enum_variants(loc) {
-                Some(variants) => variant_named(variants, name),
-                None => None,
-            },
+/// The variant of a name of an enum.
+fn variant<D: PathDatabase>(asking: &Asking<'_, D>, id: EnumId, name: Name) -> Option<EnumVariant>
+    ensures { let q = question_in (D.oracle asking.now.db.now) asking.now in
+        result ≡ first_named (variants_of q id.0) name }
+{
+    match id.lookup(asking.session) {
+        Some(loc) => match asking.db.enum_variants(loc) {
+            Some(variants) => variant_named(variants, name),
             None => None,
-        }
+        },
+        None => None,
     }
+}
 
-    /// What a definition has of the next segment, where it can have names: in all namespaces where
-    /// that is the last, and else in types at least.
-    fn step(&self, def: Def, name: Name, is_last: bool) -> Option<PerNs>
-        ensures types { let q = question_in (D.oracle self.now.db.now) self.now in
-            let own = map_in (T.content self.now.table.now) self.now in
-            HasSameTypes result (step_of q own def name) }
-        ensures last { let q = question_in (D.oracle self.now.db.now) self.now in
-            let own = map_in (T.content self.now.table.now) self.now in
-            is_last ≡ true → result ≡ step_of q own def name }
-    {
-        match def {
-            Def::Module(place) if is_last => Some(self.scope(place, name)),
-            Def::Module(place) => Some(PerNs::types_alone(self.scope_type(place, name))),
-            Def::Enum(id) => match self.variant(id, name) {
-                Some(variant) => Some(variant_found(variant)),
-                None => None,
-            },
-            _ => None,
-        }
+/// What a definition has of the next segment, where it can have names: in all namespaces where
+/// that is the last, and else in types at least.
+fn step<D: PathDatabase, T: BindingTable<Vis = Visibility>>(
+    asking: &Asking<'_, D>,
+    map: &MapData,
+    table: &T,
+    def: Def,
+    name: Name,
+    is_last: bool,
+) -> Option<PerNs>
+    ensures types { let q = question_in (D.oracle asking.now.db.now) asking.now in
+        let own = map_with map.now (T.content table.now) in
+        HasSameTypes result (step_of q own def name) }
+    ensures last { let q = question_in (D.oracle asking.now.db.now) asking.now in
+        let own = map_with map.now (T.content table.now) in
+        is_last ≡ true → result ≡ step_of q own def name }
+{
+    match def {
+        Def::Module(place) if is_last => Some(scope(asking, map, table, place, name)),
+        Def::Module(place) => Some(PerNs::types_alone(scope_type(asking, map, table, place, name))),
+        Def::Enum(id) => match variant(asking, id, name) {
+            Some(variant) => Some(variant_found(variant)),
+            None => None,
+        },
+        _ => None,
     }
+}
 
-    /// Whether a segment is looked up in a module of another crate.
-    fn is_elsewhere(&self, def: Def) -> bool
-        ensures { let own = map_in (T.content self.now.table.now) self.now in
-            result ≡ elsewhere own def }
-    {
-        match def {
-            Def::Module(place) => place.map.krate != self.own.tree.map.krate,
-            _ => false,
-        }
+/// Whether a segment is looked up in a module of another crate.
+fn is_elsewhere(map: &MapData, def: Def) -> bool
+    ensures { (content : _) → result ≡ elsewhere (map_with map.now content) def }
+{
+    match def {
+        Def::Module(place) => place.map.krate != map.tree.map.krate,
+        _ => false,
     }
+}
 
-    /// The segments from `begin` on, after what was found.
-    fn walk(&self, first: PerNs, begin: usize, segments: &[Name]) -> ResolvePathResult
-        requires { begin ≤ length segments.now }
-        ensures { let q = question_in (D.oracle self.now.db.now) self.now in
-            let own = map_in (T.content self.now.table.now) self.now in
-            result ≡ walk_of q own false first begin (drop begin segments.now) }
-    {
-        let mut found = first;
-        let mut crossed = false;
-        'segments: for i in begin..segments.len() {
-            let name = segments[i];
-            let item = match found.types {
-                Some(item) => item,
-                None => return missing(crossed),
-            };
-            let is_last = i + 1 == segments.len();
-            let Some(next) = self.step(item.def, name, is_last) else {
-                return reached(PerNs::of_type(item), Some(i), crossed);
-            };
-            crossed = crossed || self.is_elsewhere(item.def);
-            found = next;
-        }
-        reached(found, None, crossed)
+/// The segments from `begin` on, after what was found.
+fn walk<D: PathDatabase, T: BindingTable<Vis = Visibility>>(
+    asking: &Asking<'_, D>,
+    map: &MapData,
+    table: &T,
+    first: PerNs,
+    begin: usize,
+    segments: &[Name],
+) -> ResolvePathResult
+    requires { begin ≤ length segments.now }
+    ensures { let q = question_in (D.oracle asking.now.db.now) asking.now in
+        let own = map_with map.now (T.content table.now) in
+        result ≡ walk_of q own false first begin (drop begin segments.now) }
+{
+    let mut found = first;
+    let mut crossed = false;
+    'segments: for i in begin..segments.len() {
+        let name = segments[i];
+        let item = match found.types {
+            Some(item) => item,
+            None => return missing(crossed),
+        };
+        let is_last = i + 1 == segments.len();
+        let Some(next) = step(asking, map, table, item.def, name, is_last) else {
+            return reached(PerNs::of_type(item), Some(i), crossed);
+        };
+        crossed = crossed || is_elsewhere(map, item.def);
+        found = next;
     }
+    reached(found, None, crossed)
+}
 
-    /// A path from a module on, if that is there.
-    fn from_module(&self, place: Option<ModuleId>, path: &ModPath) -> ResolvePathResult
-        ensures { let q = question_in (D.oracle self.now.db.now) self.now in
-            let own = map_in (T.content self.now.table.now) self.now in
-            (keep : _) → result ≡ answer_from q own keep (at_module place) path.now.segments }
-    {
-        match place {
-            Some(found) => {
-                let first = PerNs::of_type(public_item(Def::Module(found)));
-                self.walk(first, 0, path.segments.as_slice())
-            }
-            None => missing(false),
+/// A path from a module on, if that is there.
+fn from_module<D: PathDatabase, T: BindingTable<Vis = Visibility>>(
+    asking: &Asking<'_, D>,
+    map: &MapData,
+    table: &T,
+    place: Option<ModuleId>,
+    path: &ModPath,
+) -> ResolvePathResult
+    ensures { let q = question_in (D.oracle asking.now.db.now) asking.now in
+        let own = map_with map.now (T.content table.now) in
+        (keep : _) → result ≡ answer_from q own keep (at_module place) path.now.segments }
+{
+    match place {
+        Some(found) => {
+            let first = PerNs::of_type(public_item(Def::Module(found)));
+            walk(asking, map, table, first, 0, path.segments.as_slice())
         }
+        None => missing(false),
     }
+}
 
-    /// A path of one segment, after what it means.
-    fn from_name(&self, found: PerNs) -> ResolvePathResult
-        ensures { let q = question_in (D.oracle self.now.db.now) self.now in
-            let own = map_in (T.content self.now.table.now) self.now in
-            result ≡ answer_after q own found [] }
-    {
-        if found.is_none() {
-            missing(false)
-        } else {
-            reached(found, None, false)
-        }
+/// A path of one segment, after what it means.
+fn from_name(found: PerNs) -> ResolvePathResult
+    ensures { result ≡ (if is_nothing found then missing_after false else reached_with found None false) }
+{
+    if found.is_none() {
+        missing(false)
+    } else {
+        reached(found, None, false)
     }
+}
 
-    /// A path of more segments, after what the first means in types.
-    fn from_prefix(&self, found: Option<Item>, segments: &[Name]) -> ResolvePathResult
-        requires { 1 < length segments.now }
-        ensures { let q = question_in (D.oracle self.now.db.now) self.now in
-            let own = map_in (T.content self.now.table.now) self.now in
-            (all : PerNs) → all.types ≡ found → result ≡ answer_after q own all (drop 1 segments.now) }
-    {
-        match found {
-            Some(item) => self.walk(PerNs::of_type(item), 1, segments),
-            None => missing(false),
-        }
+/// A path of more segments, after what the first means in types.
+fn from_prefix<D: PathDatabase, T: BindingTable<Vis = Visibility>>(
+    asking: &Asking<'_, D>,
+    map: &MapData,
+    table: &T,
+    found: Option<Item>,
+    segments: &[Name],
+) -> ResolvePathResult
+    requires { 1 < length segments.now }
+    ensures { let q = question_in (D.oracle asking.now.db.now) asking.now in
+        let own = map_with map.now (T.content table.now) in
+        (all : PerNs) → all.types ≡ found → result ≡ answer_after q own all (drop 1 segments.now) }
+{
+    match found {
+        Some(item) => walk(asking, map, table, PerNs::of_type(item), 1, segments),
+        None => missing(false),
     }
+}
 
-    /// An absolute path.
-    fn absolute_path(&self, place: ModuleId, path: &ModPath) -> ResolvePathResult
-        ensures { let q = question_in (D.oracle self.now.db.now) self.now in
-            let own = map_in (T.content self.now.table.now) self.now in
-            let keep = is_fitting q.kind_of None in
-            result ≡ answer_from q own keep (by_sources (absolute_sources q own)) path.now.segments }
-    {
-        let segments = path.segments.as_slice();
-        match segments {
-            [] => missing(false),
-            [name] => {
-                let found = self.absolute(Segment {
+/// An absolute path.
+fn absolute_path<D: PathDatabase, T: BindingTable<Vis = Visibility>>(
+    asking: &Asking<'_, D>,
+    map: &MapData,
+    table: &T,
+    place: ModuleId,
+    path: &ModPath,
+) -> ResolvePathResult
+    ensures { let q = question_in (D.oracle asking.now.db.now) asking.now in
+        let own = map_with map.now (T.content table.now) in
+        let keep = is_fitting q.kind_of None in
+        result ≡ answer_from q own keep (by_sources (absolute_sources q own)) path.now.segments }
+{
+    let segments = path.segments.as_slice();
+    match segments {
+        [] => missing(false),
+        [name] => {
+            let found = absolute(
+                asking,
+                map,
+                table,
+                Segment {
                     place,
                     name: *name,
                     sub: None,
-                });
-                self.from_name(found)
-            }
-            [name, ..] => self.from_prefix(self.absolute_type(*name), segments),
+                },
+            );
+            from_name(found)
         }
+        [name, ..] => from_prefix(
+            asking,
+            map,
+            table,
+            absolute_type(asking, map, table, *name),
+            segments,
+        ),
     }
+}
 
-    /// A plain path.
-    fn plain_path(&self, place: ModuleId, path: &ModPath) -> ResolvePathResult
-        ensures { let q = question_in (D.oracle self.now.db.now) self.now in
-            let own = map_in (T.content self.now.table.now) self.now in
-            let alone = stands_alone path.now.segments in
-            let keep = is_fitting q.kind_of (if alone then self.now.asked.sub else None) in
-            result ≡ answer_from q own keep (by_sources (relative_sources q own place alone)) path.now.segments }
-    {
-        let segments = path.segments.as_slice();
-        match segments {
-            [] => missing(false),
-            [name] => {
-                let found = self.relative(Segment {
+/// A plain path.
+fn plain_path<D: PathDatabase, T: BindingTable<Vis = Visibility>>(
+    asking: &Asking<'_, D>,
+    map: &MapData,
+    table: &T,
+    place: ModuleId,
+    path: &ModPath,
+) -> ResolvePathResult
+    ensures { let q = question_in (D.oracle asking.now.db.now) asking.now in
+        let own = map_with map.now (T.content table.now) in
+        let alone = stands_alone path.now.segments in
+        let keep = is_fitting q.kind_of (if alone then asking.now.asked.sub else None) in
+        result ≡ answer_from q own keep (by_sources (relative_sources q own place alone)) path.now.segments }
+{
+    let segments = path.segments.as_slice();
+    match segments {
+        [] => missing(false),
+        [name] => {
+            let found = relative(
+                asking,
+                map,
+                table,
+                Segment {
                     place,
                     name: *name,
-                    sub: self.asked.sub,
-                });
-                self.from_name(found)
-            }
-            [name, ..] => self.from_prefix(self.relative_type(place, *name), segments),
+                    sub: asking.asked.sub,
+                },
+            );
+            from_name(found)
         }
+        [name, ..] => from_prefix(
+            asking,
+            map,
+            table,
+            relative_type(asking, map, table, place, *name),
+            segments,
+        ),
     }
+}
 
-    /// What a path means in the map that is asked.
-    fn answer_in(&self, place: ModuleId, path: &ModPath) -> ResolvePathResult
-        ensures { let q = question_in (D.oracle self.now.db.now) self.now in
-            let own = map_in (T.content self.now.table.now) self.now in
-            result ≡ answer_in_map q place path.now own }
-    {
-        match path.kind {
-            PathKind::Crate => {
-                let root = ModuleId::crate_root(self.own.tree.map.krate);
-                self.from_module(Some(root), path)
-            }
-            PathKind::DollarCrate(krate) => {
-                self.from_module(Some(ModuleId::crate_root(krate)), path)
-            }
-            PathKind::Super(n) => {
-                let ancestor = self.own.tree.ancestor(place, n as usize);
-                self.from_module(ancestor, path)
-            }
-            PathKind::Abs => self.absolute_path(place, path),
-            PathKind::Plain => self.plain_path(place, path),
+/// What a path means in the map that is asked.
+fn answer_in<D: PathDatabase, T: BindingTable<Vis = Visibility>>(
+    asking: &Asking<'_, D>,
+    map: &MapData,
+    table: &T,
+    place: ModuleId,
+    path: &ModPath,
+) -> ResolvePathResult
+    ensures { let q = question_in (D.oracle asking.now.db.now) asking.now in
+        let own = map_with map.now (T.content table.now) in
+        result ≡ answer_in_map q place path.now own }
+{
+    match path.kind {
+        PathKind::Crate => {
+            let root = ModuleId::crate_root(map.tree.map.krate);
+            from_module(asking, map, table, Some(root), path)
         }
+        PathKind::DollarCrate(krate) => {
+            from_module(asking, map, table, Some(ModuleId::crate_root(krate)), path)
+        }
+        PathKind::Super(n) => {
+            let ancestor = map.tree.ancestor(place, n as usize);
+            from_module(asking, map, table, ancestor, path)
+        }
+        PathKind::Abs => absolute_path(asking, map, table, place, path),
+        PathKind::Plain => plain_path(asking, map, table, place, path),
     }
+}
 
-    /// What a path means in the map of a module, asked from there, if that map is there.
-    fn answer_outside(&self, place: ModuleId, path: &ModPath) -> Option<ResolvePathResult>
-        ensures { let q = question_in (D.oracle self.now.db.now) self.now in
-            result ≡ answer_outside_of q path.now place }
-    {
-        match self.db.finished_map(place.map) {
-            Some((own, table)) => {
-                let asking = Asking {
-                    db: self.db,
-                    session: self.session,
-                    local: self.local,
-                    asked: self.asked,
-                    own,
-                    table,
-                };
-                Some(asking.answer_in(place, path))
-            }
-            None => None,
-        }
+/// What a path means in the map of a module, asked from there, if that map is there.
+fn answer_outside<D: PathDatabase>(
+    asking: &Asking<'_, D>,
+    place: ModuleId,
+    path: &ModPath,
+) -> Option<ResolvePathResult>
+    ensures { let q = question_in (D.oracle asking.now.db.now) asking.now in
+        result ≡ answer_outside_of q path.now place }
+{
+    match asking.db.finished_map(place.map) {
+        Some((map, table)) => Some(answer_in(asking, map, table, place, path)),
+        None => None,
     }
+}
 
-    /// An answer joined with that of one more map, if it is none of those before.
-    fn with_map(
-        &self,
-        path: &ModPath,
-        answer: ResolvePathResult,
-        before: &[ModuleId],
-        place: ModuleId,
-    ) -> ResolvePathResult
-        ensures { let q = question_in (D.oracle self.now.db.now) self.now in
-            (rest : _) → joined result (answers_outside q path.now (before.now ++ place ∷ []) rest)
-            ≡ joined answer (answers_outside q path.now before.now (place ∷ rest)) }
-    {
-        if is_map_among(before, place) {
-            return answer;
-        }
-        match self.answer_outside(place, path) {
-            Some(other) => answer.join(other),
-            None => answer,
-        }
+/// An answer joined with that of one more map, if it is none of those before.
+fn with_map<D: PathDatabase>(
+    asking: &Asking<'_, D>,
+    path: &ModPath,
+    answer: ResolvePathResult,
+    before: &[ModuleId],
+    place: ModuleId,
+) -> ResolvePathResult
+    ensures { let q = question_in (D.oracle asking.now.db.now) asking.now in
+        (rest : _) → joined result (answers_outside q path.now (before.now ++ place ∷ []) rest)
+        ≡ joined answer (answers_outside q path.now before.now (place ∷ rest)) }
+{
+    if is_map_among(before, place) {
+        return answer;
     }
+    match answer_outside(asking, place, path) {
+        Some(other) => answer.join(other),
+        None => answer,
+    }
+}
 
-    /// What a path means, with what it means in the maps around a block.
-    fn with_outside(
-        &self,
-        path: &ModPath,
-        first: ResolvePathResult,
-        containing: &[ModuleId],
-    ) -> ResolvePathResult
-        ensures { let q = question_in (D.oracle self.now.db.now) self.now in
-            result ≡ joined first (answers_outside q path.now [] containing.now) }
-    {
-        let mut answer = first;
-        'maps: for i in 0..containing.len() {
-            let place = containing[i];
-            answer = self.with_map(path, answer, &containing[..i], place);
-        }
+/// What a path means, with what it means in the maps around a block.
+fn with_outside<D: PathDatabase>(
+    asking: &Asking<'_, D>,
+    path: &ModPath,
+    first: ResolvePathResult,
+    containing: &[ModuleId],
+) -> ResolvePathResult
+    ensures { let q = question_in (D.oracle asking.now.db.now) asking.now in
+        result ≡ joined first (answers_outside q path.now [] containing.now) }
+{
+    let mut answer = first;
+    'maps: for i in 0..containing.len() {
+        let place = containing[i];
+        answer = with_map(asking, path, answer, &containing[..i], place);
+    }
+    answer
+}
+
+/// What a path means: in the map that is asked, and from a block's root in those around it too.
+pub(crate) fn resolve<D: PathDatabase, T: BindingTable<Vis = Visibility>>(
+    asking: &Asking<'_, D>,
+    map: &MapData,
+    table: &T,
+    place: ModuleId,
+    path: &ModPath,
+) -> ResolvePathResult
+    ensures { let q = question_in (D.oracle asking.now.db.now) asking.now in
+        let own = map_with map.now (T.content table.now) in
+        result ≡ answer_of q own place path.now }
+{
+    let answer = answer_in(asking, map, table, place, path);
+    if is_plain(path.kind) && place.is_block_root() {
+        with_outside(asking, path, answer, map.tree.containing.as_slice())
+    } else {
         answer
-    }
-
-    /// What a path means: in the map that is asked, and from a block's root in those around it too.
-    pub fn resolve(&self, place: ModuleId, path: &ModPath) -> ResolvePathResult
-        ensures { let q = question_in (D.oracle self.now.db.now) self.now in
-            let own = map_in (T.content self.now.table.now) self.now in
-            result ≡ answer_of q own place path.now }
-    {
-        let answer = self.answer_in(place, path);
-        if is_plain(path.kind) && place.is_block_root() {
-            self.with_outside(path, answer, self.own.tree.containing.as_slice())
-        } else {
-            answer
-        }
     }
 }

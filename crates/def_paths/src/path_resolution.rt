@@ -5,10 +5,11 @@ ghost use Rattle.def_paths.specs.declared.asked.ResolveMode.TheVariants.{Other};
 ghost use Rattle.def_paths.specs.Asking.{map_with};
 ghost use Rattle.def_modules.specs.Locals.{local_view};
 ghost use Rattle.def_paths.specs.Modes.{asked_by};
-ghost use Rattle.def_paths.specs.Paths.{resolve, resolve_visibility as visibility_of};
+ghost use Rattle.def_paths.specs.Paths.{resolve as meaning_of, resolve_visibility as visibility_of};
 ghost use Rattle.def_paths.specs.Paths.{module_reached as module_reached_by};
 ghost use Rattle.def_paths.specs.Sources.{world_of};
 
+use crate::answers::resolve;
 use crate::asked::{Asked, BuiltinShadowMode, ResolveMode, ResolvePathResult};
 use crate::path_database::PathDatabase;
 use crate::per_ns::{MacroSubNs, PerNs};
@@ -36,7 +37,7 @@ pub fn resolve_path_fp_with_macro<D: PathDatabase, T: BindingTable<Vis = Visibil
     ensures { let oracle = D.oracle db.now in
         let m = map_with map.now (T.content table.now) in
         let w = world_of oracle (session_of session.now) m (local_view local_def_map.now) in
-        result ≡ resolve w (asked_by mode shadow expected_macro_subns) original_module path.now }
+        result ≡ meaning_of w (asked_by mode shadow expected_macro_subns) original_module path.now }
 {
     let asking = Asking {
         db,
@@ -47,10 +48,8 @@ pub fn resolve_path_fp_with_macro<D: PathDatabase, T: BindingTable<Vis = Visibil
             shadow,
             sub: expected_macro_subns,
         },
-        own: map,
-        table,
     };
-    asking.resolve(original_module, path)
+    resolve(&asking, map, table, original_module, path)
 }
 
 /// What a path that is no import's means, and the first segment that is left where it ends at a
@@ -70,7 +69,7 @@ pub fn resolve_path<D: PathDatabase, T: BindingTable<Vis = Visibility>>(
         let m = map_with map.now (T.content table.now) in
         let w = world_of oracle (session_of session.now) m (local_view local_def_map.now) in
         let asked = asked_by Other shadow expected_macro_subns in
-        let answer = resolve w asked original_module path.now in
+        let answer = meaning_of w asked original_module path.now in
         result ≡ (answer.resolved_def, answer.segment_index) }
 {
     let answer = resolve_path_fp_with_macro(
