@@ -6,7 +6,7 @@ use Rattle.std.proofs.lemmas.List.Sorted.{IsPermutation-middle}
 use Rattle.std.proofs.lemmas.Option.{none-some, same_Some, slice_get_read}
 use Rattle.std.specs.declared.alloc.Global.{Global}
 use Rattle.def_ids.specs.declared.interner.Interner.{Interner}
-use Rattle.def_map.specs.declared.path_resolution.asked.ResolvePathResult.{ResolvePathResult}
+use Rattle.def_paths.specs.declared.asked.ResolvePathResult.{ResolvePathResult}
 use Rattle.def_map.specs.Oracle.{Oracle}
 use Rattle.def_walk.specs.declared.collector.DefCollector.{DefCollector}
 use Rattle.def_steps.specs.declared.directive.ImportDirective.{ImportDirective}

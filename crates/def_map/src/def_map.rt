@@ -12,10 +12,10 @@ ghost use Rattle.def_modules.specs.declared.module_data.ModuleOrigin.TheVariants
 ghost use Rattle.def_bindings.specs.Content.{empty as none_bound};
 
 use crate::block::BlockInfo;
-use crate::table::Table;
 use def_bindings::{ModuleTree, Visibility};
 use def_ids::{Edition, MapId, ModuleId};
 use def_modules::{MapData, ModuleData, ModuleOrigin, UnstableFeatures};
+use def_paths::Table;
 use indexmap::{IndexMap, IndexSet};
 use item_tree::{Crate, Name, Seq};
 use std::alloc::{AllocError, Global};

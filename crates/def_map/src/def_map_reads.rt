@@ -10,10 +10,10 @@ ghost use Rattle.def_modules.specs.Tables.{bound_by};
 
 use crate::def_map::DefMap;
 use crate::item_scope::ItemScope;
-use crate::table::Table;
 use def_bindings::{BindingTable, EdgeTo, Visibility};
 use def_ids::{FunctionId, MacroId, MapId, ModuleId, ProcMacroId};
 use def_modules::{DeriveHelper, ModuleData, Position, UnstableFeatures};
+use def_paths::Table;
 use indexmap::IndexMap;
 use item_tree::{Name, Seq};
 

@@ -4,9 +4,6 @@ ghost use Rattle.indexmap.specs.IndexMap.{get};
 ghost use Rattle.def_map.specs.ItemScopes.{place_of, scope_content, scope_state, meaning, resolutions_from, unnamed_from};
 ghost use Rattle.def_modules.specs.ScopeMaps.{textual_of, derives_of, invoked_of};
 
-use crate::path_resolution::bound;
-use crate::per_ns::PerNs;
-use crate::table::Table;
 use def_bindings::{BindingTable, Visibility};
 use def_ids::{
     BuiltinDeriveImplId, ConstId, Def, ExternBlockId, ExternCrateId, ImplId, MacroId, ModuleId,
@@ -14,6 +11,7 @@ use def_ids::{
 };
 use def_modules::{DeriveKey, DeriveMacroInvocation, Invocation, ModuleData};
 use indexmap::{IndexMap, IndexSet};
+use def_paths::{PerNs, Table, bound};
 use item_tree::{Name, Seq};
 use std::marker::Model;
 
@@ -136,8 +134,8 @@ impl<'a> Model for Resolutions<'a> {
     ghost use Rattle.std.specs.Coded.{coded_list, coded×};
     ghost use Rattle.item_tree.specs.declared.name.Name.{Name};
     ghost use Rattle.item_tree.specs.contracts.name.Name as name;
-    ghost use Rattle.def_map.specs.declared.per_ns.PerNs.{PerNs};
-    ghost use Rattle.def_map.specs.contracts.per_ns.PerNs as per_ns;
+    ghost use Rattle.def_paths.specs.declared.per_ns.PerNs.{PerNs};
+    ghost use Rattle.def_paths.specs.contracts.per_ns.PerNs as per_ns;
 
     ghost Value = { List (Name × PerNs) };
 

@@ -8,9 +8,7 @@ mod fresh;
 mod item_scope;
 mod macro_resolver;
 mod path_resolution;
-mod per_ns;
 mod source_database;
-mod table;
 
 pub use block::BlockInfo;
 pub use def_map::DefMap;
@@ -21,16 +19,19 @@ pub use def_modules::{
 pub use item_scope::{ItemScope, Resolutions, UnnamedTraits};
 pub use macro_resolver::MacroResolver;
 pub use path_resolution::{
-    Asked, BuiltinShadowMode, PrefixInfo, ReachedFixedPoint, ResolveMode, ResolvePathResult,
     ResolvePaths, finished_map, resolve_path, resolve_path_fp_with_macro, resolve_visibility,
 };
-pub use per_ns::{Item, MacroSubNs, PerNs, public_item};
-pub use source_database::{
+pub use source_database::SourceDatabase;
+
+// What a database is asked and answers, and what paths mean.
+pub use def_oracle::{
     AssocItem, AssocItemKind, AssocItemsOwner, AssocList, AttrCallQuery, CallAnswer, CallQuery,
-    CrateData, Dependency, DeriveCallQuery, EnumVariant, LangCrate, SourceDatabase,
-    UnresolvedMacro,
+    CrateData, Dependency, DeriveCallQuery, EnumVariant, LangCrate, UnresolvedMacro,
 };
-pub use table::Table;
+pub use def_paths::{
+    Asked, BuiltinShadowMode, Item, MacroSubNs, PerNs, PrefixInfo, ReachedFixedPoint, ResolveMode,
+    ResolvePathResult, Table, public_item,
+};
 
 // The ids, visibilities and bindings that maps are made of.
 pub use def_bindings::{

@@ -1,33 +1,64 @@
 //! What paths mean, in finished maps and in the map that is being made.
-ghost use Rattle.std.specs.Prelude.{◌≡◌};
+ghost use Rattle.std.specs.Prelude.{◌≡◌, option_map};
 ghost use Rattle.def_ids.specs.Session.{session_of};
-ghost use Rattle.def_map.specs.declared.path_resolution.asked.ResolveMode.TheVariants.{Other};
-ghost use Rattle.def_map.specs.Asking.{map_with};
 ghost use Rattle.def_map.specs.DefMaps.{view_of};
 ghost use Rattle.def_modules.specs.Locals.{local_view};
-ghost use Rattle.def_map.specs.Modes.{asked_by};
-ghost use Rattle.def_map.specs.Paths.{resolve, resolve_visibility as visibility_of};
-ghost use Rattle.def_map.specs.Paths.{module_reached as module_reached_by};
-ghost use Rattle.def_map.specs.Sources.{world_of};
-
-mod answers;
-mod asked;
-mod prefixes;
-mod sources;
+ghost use Rattle.def_paths.specs.declared.asked.ResolveMode.TheVariants.{Other};
+ghost use Rattle.def_paths.specs.Asking.{map_with};
+ghost use Rattle.def_paths.specs.Modes.{asked_by};
+ghost use Rattle.def_paths.specs.Paths.{resolve, resolve_visibility as visibility_of};
+ghost use Rattle.def_paths.specs.Sources.{world_of, finished_map as finished_map_of};
 
 use crate::def_map::DefMap;
-use crate::per_ns::{MacroSubNs, PerNs};
 use crate::source_database::SourceDatabase;
-pub use asked::{
-    Asked, BuiltinShadowMode, PrefixInfo, ReachedFixedPoint, ResolveMode, ResolvePathResult,
-};
 use def_bindings::{BindingTable, Visibility};
-use def_ids::{Def, Interner, ModuleId};
+use def_ids::{EnumLoc, Interner, MapId, ModuleId};
 use def_modules::{LocalDefMap, MapData};
-use item_tree::{ModPath, RawVisibility};
-use sources::Asking;
-pub(crate) use sources::bound;
-pub use sources::finished_map;
+use def_oracle::EnumVariant;
+use def_paths::{
+    BuiltinShadowMode, MacroSubNs, PathDatabase, PerNs, ResolveMode, ResolvePathResult, Table,
+};
+use item_tree::{ModPath, Name, RawVisibility};
+
+/// The finished map of a block or a crate.
+pub fn finished_map<D: SourceDatabase>(db: &D, id: MapId) -> Option<&DefMap>
+    ensures { option_map (λ m. view_of m.now) result ≡ finished_map_of (D.oracle db.now) id }
+{
+    match id.block {
+        Some(block) => db.outer_map(block),
+        None => db.crate_def_map(id.krate),
+    }
+}
+
+/// A database, as paths ask it.
+struct AskedByPaths<'a, D> {
+    db: &'a D,
+}
+
+impl<'a, D> Drop for AskedByPaths<'a, D> {
+    fn drop(self) {
+        let AskedByPaths { db: _ } = self;
+    }
+}
+
+impl<'a, D: SourceDatabase> PathDatabase for AskedByPaths<'a, D> {
+    ghost oracle = { λ asked. D.oracle asked.db.now };
+
+    fn finished_map(&self, id: MapId) -> Option<(&MapData, &Table)> {
+        match finished_map(self.db, id) {
+            Some(map) => Some((&map.data, &map.table)),
+            None => None,
+        }
+    }
+
+    fn enum_variants(&self, loc: &EnumLoc) -> Option<&[EnumVariant]> {
+        self.db.enum_variants(loc)
+    }
+
+    fn builtin_type(&self, name: Name) -> Option<u32> {
+        self.db.builtin_type(name)
+    }
+}
 
 /// What a path means, asked from a module of a map whose bindings stand in `table`. Of a
 /// name that stands alone, `shadow` says whether a builtin type goes before a module, and only
@@ -49,19 +80,19 @@ pub fn resolve_path_fp_with_macro<D: SourceDatabase, T: BindingTable<Vis = Visib
         let w = world_of oracle (session_of session.now) m (local_view local_def_map.now) in
         result ≡ resolve w (asked_by mode shadow expected_macro_subns) original_module path.now }
 {
-    let asking = Asking {
-        db,
-        session,
-        local: local_def_map,
-        asked: Asked {
-            mode,
-            shadow,
-            sub: expected_macro_subns,
-        },
-        own: map,
+    let db = AskedByPaths { db };
+    def_paths::resolve_path_fp_with_macro(
+        map,
         table,
-    };
-    asking.resolve(original_module, path)
+        local_def_map,
+        &db,
+        session,
+        mode,
+        original_module,
+        path,
+        shadow,
+        expected_macro_subns,
+    )
 }
 
 /// What a path that is no import's means, and the first segment that is left where it ends at a
@@ -84,19 +115,18 @@ pub fn resolve_path<D: SourceDatabase, T: BindingTable<Vis = Visibility>>(
         let answer = resolve w asked original_module path.now in
         result ≡ (answer.resolved_def, answer.segment_index) }
 {
-    let answer = resolve_path_fp_with_macro(
+    let db = AskedByPaths { db };
+    def_paths::resolve_path(
         map,
         table,
         local_def_map,
-        db,
+        &db,
         session,
-        ResolveMode::Other,
         original_module,
         path,
         shadow,
         expected_macro_subns,
-    );
-    (answer.resolved_def, answer.segment_index)
+    )
 }
 
 /// What a visibility means that is written in a module. `None` where its path leads to no module.
@@ -114,41 +144,16 @@ pub fn resolve_visibility<D: SourceDatabase, T: BindingTable<Vis = Visibility>>(
         let w = world_of oracle (session_of session.now) m (local_view local_def_map.now) in
         result ≡ visibility_of w original_module visibility.now }
 {
-    match visibility {
-        RawVisibility::Public => Some(Visibility::Public),
-        RawVisibility::PubCrate => Some(Visibility::PubCrate),
-        RawVisibility::PubSelf => Some(Visibility::Module(original_module)),
-        RawVisibility::In(path) => {
-            let (found, left) = resolve_path(
-                map,
-                table,
-                local_def_map,
-                db,
-                session,
-                original_module,
-                path,
-                BuiltinShadowMode::Module,
-                None,
-            );
-            match module_reached(found, left) {
-                Some(limit) => Some(Visibility::Module(limit)),
-                None => None,
-            }
-        }
-    }
-}
-
-/// The module that a path reaches with no segment left.
-fn module_reached(found: PerNs, left: Option<usize>) -> Option<ModuleId>
-    ensures { result ≡ module_reached_by found left }
-{
-    match (found.types, left) {
-        (Some(item), None) => match item.def {
-            Def::Module(place) => Some(place),
-            _ => None,
-        },
-        _ => None,
-    }
+    let db = AskedByPaths { db };
+    def_paths::resolve_visibility(
+        map,
+        table,
+        local_def_map,
+        &db,
+        session,
+        original_module,
+        visibility,
+    )
 }
 
 /// A map without its bindings, which stand in a table that is handed in: what paths mean there.

@@ -18,10 +18,9 @@ use Rattle.def_bindings.specs.Puts.{held, fitted, glob_of, settled, settled_over
 use Rattle.def_bindings.specs.DefLaws.{def-eq, def-refl}
 use Rattle.def_bindings.specs.HeldLaws.{cases_place}
 use Rattle.def_parts.specs.Pending.{Pending, ClosedBut, changed_at, changed_by}
-use Rattle.def_parts.specs.Raised.{KeepsDef, HasOneDef, RaisedBut}
+use Rattle.def_parts.specs.Raised.{KeepsDef, KeepsDefs, RaisedBut}
 use Rattle.def_parts.specs.SettlingLaws.{Settled, raised, replaced, settled_cases, glob_of-some}
 use Rattle.def_parts.specs.PuttingLaws.{Placed, put_cases}
-use Rattle.def_parts.specs.ListLaws.{first_in, later_in}
 use Rattle.def_parts.proofs.RaisingLemmas.{rises_less}
 use Rattle.def_parts.proofs.PlacedLemmas.{closed_put, in_changed}
 
@@ -79,7 +78,7 @@ fitted_def (Unnamed t) e f h = refl
 module _ {V : Type 0} (o : Order V) (laws : IsPartialOrder o.at_most) (left_out : ModuleId → Bool) (old : Content V) (i : ModuleId) (y : Slot) (left : left_out i ≡ false) (P : Pending) (m : ModuleId) where
   module _ (x : Slot) (offer : Binding V) (c c' : Content V) (placed : Placed o m x offer c c') (pends : (j : ℕ) → P m j x)
       (closed : ClosedBut o left_out P c)
-      (since : m ≡ i → x ≡ y → (t : Binding V) → held c i y ≡ Some t → (held old i y ≡ Some t) ⊎ (t.def ≡ (fitted x offer).def))
+      (stays : m ≡ i → x ≡ y → KeepsDef c c' i y)
       (risen : RaisedBut o old P i y c) where
     -- the place that the put wrote
     placed_here : m ≡ i → x ≡ y → KeepsDef old c' i y
@@ -113,10 +112,7 @@ module _ {V : Type 0} (o : Order V) (laws : IsPartialOrder o.at_most) (left_out 
           | replaced d eq f ↦
               let there_def : there.def ≡ (fitted x offer).def = ap (λ (z : Binding _). z.def) f in
               let differ : t.def ≡ (fitted x offer).def → ⊥ = λ h. false≢true (sym d ∙ (ap (def_eq t.def) (sym h) ∙ def-refl t.def)) in
-              elim (since is_i is_y t was) [
-                | inl before ↦ absurd (differ (keeps t there before here ∙ there_def))
-                | inr is ↦ absurd (differ is)
-              ]
+              absurd (differ (stays is_i is_y t there was here ∙ there_def))
         ]
 
     raised_placed : RaisedBut o old P i y c'
@@ -139,31 +135,21 @@ module _ {V : Type 0} (o : Order V) (laws : IsPartialOrder o.at_most) (left_out 
 
   raised_put : (x : Option Slot) (offer : Binding V) (c : Content V) → ((z : Slot) → Contains (changed_at o m x offer c) z → (j : ℕ) → P m j z)
       → ClosedBut o left_out P c
-      → (m ≡ i → x ≡ Some y → (t : Binding V) → held c i y ≡ Some t → (held old i y ≡ Some t) ⊎ (t.def ≡ (fitted y offer).def))
+      → (m ≡ i → KeepsDef c (put_at o m x offer c) i y)
       → RaisedBut o old P i y c → RaisedBut o old P i y (put_at o m x offer c)
-  raised_put None offer c pends closed since risen = risen
-  raised_put (Some x) offer c pends closed since risen =
+  raised_put None offer c pends closed stays risen = risen
+  raised_put (Some x) offer c pends closed stays risen =
       elim (put_cases o m x offer c) [
         | inl still ↦ subst (λ d. RaisedBut o old P i y d) (sym still.1) risen
-        | inr placed ↦
-            raised_placed x offer c (put o c m x offer) placed.1 (pends x (in_changed _ x placed.0)) closed
-            (λ is_i is_y t h. elim (since is_i (ap Some is_y) t h) [ inl before ↦ inl before | inr is ↦ inr (is ∙ ap (λ z. (fitted z offer).def) (sym is_y)) ]) risen
+        | inr placed ↦ raised_placed x offer c (put o c m x offer) placed.1 (pends x (in_changed _ x placed.0)) closed (λ is_i is_y. stays is_i) risen
       ]
 
-  -- what this module holds there it held of old, or it has the definition of the entries to come
-  abbrev Since : List (Entry V) → Content V → Type 0
-  Since list c = m ≡ i → (f : Entry V) → Contains list f → slot_of f ≡ Some y → (t : Binding V) → held c i y ≡ Some t → (held old i y ≡ Some t) ⊎ (t.def ≡ (fitted y (offered f)).def)
-
   pub raised_puts : (list : List (Entry V)) (c : Content V) → ((z : Slot) → Contains (changed_by o m list c) z → (j : ℕ) → P m j z)
-      → (m ≡ i → HasOneDef list y) → Since list c → ClosedBut o left_out P c → RaisedBut o old P i y c → RaisedBut o old P i y (puts o m list c)
-  raised_puts [] c pends one since closed risen = risen
-  raised_puts (e ∷ es) c pends one since closed risen =
+      → (m ≡ i → KeepsDefs o m list c y) → ClosedBut o left_out P c → RaisedBut o old P i y c → RaisedBut o old P i y (puts o m list c)
+  raised_puts [] c pends stays closed risen = risen
+  raised_puts (e ∷ es) c pends stays closed risen =
       let now_pends : (z : Slot) → Contains (changed_at o m (slot_of e) (offered e) c) z → (j : ℕ) → P m j z = λ z h. pends z (Contains-append_left _ (changed_by o m es (put_entry o m e c)) z h) in
       raised_puts es (put_entry o m e c) (λ z h. pends z (Contains-append_right (changed_at o m (slot_of e) (offered e) c) _ z h))
-      (λ is_i f f' q q'. one is_i f f' (later_in e es f q) (later_in e es f' q'))
-      (λ is_i f q at t h. elim (held_after o m (slot_of e) (offered e) c i y t h) [
-        | inl was ↦ since is_i f (later_in e es f q) at t was
-        | inr new ↦ inr (new.1 ∙ fitted_def y e f (one is_i e f (first_in e es) (later_in e es f q) new.0 at))
-      ])
+      (λ is_i. (stays is_i).1)
       (closed_put o left_out P m (slot_of e) (offered e) c now_pends closed)
-      (raised_put (slot_of e) (offered e) c now_pends closed (λ is_i at t h. since is_i e (first_in e es) at t h) risen)
+      (raised_put (slot_of e) (offered e) c now_pends closed (λ is_i. subst (λ n. KeepsDef c (put_entry o m e c) n y) is_i (stays is_i).0) risen)

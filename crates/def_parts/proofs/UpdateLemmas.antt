@@ -24,7 +24,7 @@ use Rattle.def_parts.specs.RecordingLaws.{bound_copies, edges_updated, recorded_
 use Rattle.def_parts.specs.Pending.{changed_at, changed_by, carried_by, AllAt, ClosedBut, CoherentBut}
 use Rattle.def_parts.specs.ListLaws.{none_in}
 use Rattle.def_parts.specs.PuttingLaws.{edges_puts}
-use Rattle.def_parts.specs.Raised.{IsRaisedAt, KeepsDef, HasOneDef, KeepsRaised, RaisedBut, RaisesPending, RaisesTo}
+use Rattle.def_parts.specs.Raised.{IsRaisedAt, KeepsDef, KeepsDefs, KeepsRaised, RaisedBut, RaisesPending, RaisesTo}
 use Rattle.def_parts.proofs.RaisedEdgeLemmas.{raised_recorded}
 use Rattle.def_parts.proofs.WavingLemmas.{past_end}
 use Rattle.def_parts.proofs.RaisingLemmas.{held_or}
@@ -93,10 +93,10 @@ coherent_after o left_out target_of m list c follow led coherent =
 
 -- what a list leaves raised where a place was raised
 pub raised_after : {V : Type 0} (o : Order V) → IsPartialOrder o.at_most → (left_out : ModuleId → Bool) (m : ModuleId) (list : List (Entry V)) (c : Content V) → IsClosed o left_out c
-    → (i : ModuleId) (y : Slot) → left_out i ≡ false → (i ≡ m → HasOneDef list y) → IsRaisedAt o c i y → RaisedBut o c (AllAt m (carried_by o m list c)) i y (puts o m list c)
-raised_after o laws left_out m list c closed i y left one risen keeps s k e b there g at to own seen here by same =
+    → (i : ModuleId) (y : Slot) → left_out i ≡ false → (i ≡ m → KeepsDefs o m list c y) → IsRaisedAt o c i y → RaisedBut o c (AllAt m (carried_by o m list c)) i y (puts o m list c)
+raised_after o laws left_out m list c closed i y left stays risen keeps s k e b there g at to own seen here by same =
     let after : RaisedBut o c (AllAt m (changed_by o m list c)) i y (puts o m list c) =
-    raised_puts o laws left_out c i y left (AllAt m (changed_by o m list c)) m list c (λ z h j. (refl, h)) (λ is. one (sym is)) (λ is f q at t h. inl h)
+    raised_puts o laws left_out c i y left (AllAt m (changed_by o m list c)) m list c (λ z h j. (refl, h)) (λ is. stays (sym is))
     (λ s k e x b at left h seen. inl (closed s k e x b at left h seen))
     (λ _ s k e b there g at to own seen here by same.
     inl (risen s k e at to b there g own (ap (λ n. o.can_see n b.vis) to ∙ seen) (ap (λ n. held c n y) to ∙ here) by same)) in
@@ -140,9 +140,9 @@ module _ {V : Type 0} (o : Order V) (m : ModuleId) (list : List (Entry V)) (c c2
 pub raised_updated : {V : Type 0} (o : Order V) → IsPartialOrder o.at_most → (m : ModuleId) (list : List (Entry V)) (c c2 : Content V)
     → Copies o (carried_by o m list c) (def_at (puts o m list c) m) (puts o m list c) c2 → RaisesPending o m (carried_by o m list c) (puts o m list c) c2
     → KeepsRaised o m list c c2
-raised_updated o laws m list c c2 copies spread left_out closed i y left keeps one risen =
+raised_updated o laws m list c c2 copies spread left_out closed i y left keeps stays risen =
     spread left_out (closed_after o left_out m list c closed) i y left (keeps_wave o m list c c2 (carried_by o m list c) copies i y keeps)
-    (λ _. raised_after o laws left_out m list c closed i y left one risen (keeps_puts o m list c c2 (carried_by o m list c) copies i y keeps))
+    (λ _. raised_after o laws left_out m list c closed i y left stays risen (keeps_puts o m list c c2 (carried_by o m list c) copies i y keeps))
 
 pub begins_after_puts : {V : Type 0} (o : Order V) (target_of : GlobId → Option ModuleId) (m : ModuleId) (list : List (Entry V)) (c : Content V) → BeginsAt target_of c → BeginsAt target_of (puts o m list c)
 begins_after_puts o target_of m list c begins s k e t at known =

@@ -1,5 +1,5 @@
 -- Bindings are raised along globs: a visibility that rises, rises wherever the name was copied.
-use Rattle.std.specs.Prelude.{◌≡◌, ℕ, Bool, true, false, Some, List, slice_get, Contains, ◌⊎◌}
+use Rattle.std.specs.Prelude.{◌≡◌, ℕ, Bool, true, false, Some, List, [], ◌∷◌, slice_get, Contains, ◌⊎◌}
 use Rattle.def_ids.specs.declared.ids.ModuleId.{ModuleId}
 use Rattle.def_ids.specs.declared.ids.GlobId.{GlobId}
 use Rattle.def_bindings.specs.declared.bindings.ImportOrExternCrate.TheVariants.{Glob}
@@ -9,7 +9,7 @@ use Rattle.def_bindings.specs.declared.bindings.Entry.{Entry}
 use Rattle.def_bindings.specs.declared.bindings.Slot.{Slot}
 use Rattle.def_bindings.specs.Order.{Order, rises_to}
 use Rattle.def_bindings.specs.Content.{Content}
-use Rattle.def_bindings.specs.Puts.{held, fitted, carried, slot_of, offered}
+use Rattle.def_bindings.specs.Puts.{held, fitted, carried, put_entry, slot_of, offered}
 use Rattle.def_bindings.specs.Closure.{IsClosed}
 use Rattle.def_parts.specs.Pending.{Pending, AllAt, ClosedBut}
 
@@ -38,15 +38,20 @@ IsRaised o left_out c = (importer : ModuleId) (slot : Slot) → left_out importe
 abbrev pub KeepsDef : {V : Type 0} → Content V → Content V → ModuleId → Slot → Type 0
 KeepsDef old new m slot = (a b : Binding _) → held old m slot ≡ Some a → held new m slot ≡ Some b → a.def ≡ b.def
 
+-- a place of a list's module keeps its definition at each entry that is put
+abbrev pub KeepsDefs : {V : Type 0} → Order V → ModuleId → List (Entry V) → Content V → Slot → Type 0
+KeepsDefs o at [] c slot = Unit {0}
+KeepsDefs o at (e ∷ es) c slot = KeepsDef c (put_entry o at e c) at slot × KeepsDefs o at es (put_entry o at e c) slot
+
 -- a list has one definition for a slot
 abbrev pub HasOneDef : {V : Type 0} → List (Entry V) → Slot → Type 0
 HasOneDef list slot = (e f : Entry _) → Contains list e → Contains list f → slot_of e ≡ Some slot → slot_of f ≡ Some slot → e.def ≡ f.def
 
--- a place that is raised stays so, where it keeps its definition and names are closed at its module; in the list's module the list has one definition for it
+-- a place that is raised stays so, where it keeps its definition and names are closed at its module; in the list's module it keeps it at each entry
 abbrev pub KeepsRaised : {V : Type 0} → Order V → ModuleId → List (Entry V) → Content V → Content V → Type 0
 KeepsRaised o at list old new = (left_out : ModuleId → Bool) → IsClosed o left_out old
     → (importer : ModuleId) (slot : Slot) → left_out importer ≡ false
-    → KeepsDef old new importer slot → (importer ≡ at → HasOneDef list slot)
+    → KeepsDef old new importer slot → (importer ≡ at → KeepsDefs o at list old slot)
     → IsRaisedAt o old importer slot → IsRaisedAt o new importer slot
 
 -- a place that is raised stays so, where the new edge does not raise it as it is added

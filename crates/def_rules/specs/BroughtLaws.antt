@@ -22,12 +22,13 @@ use Rattle.def_bindings.specs.declared.visibility.Visibility.{Visibility}
 use Rattle.def_bindings.specs.Content.{Content, is_listed, is_name, is_trait, vis_of}
 use Rattle.def_bindings.specs.IdLaws.{name-eq, trait-eq}
 use Rattle.def_bindings.specs.Order.{Order}
-use Rattle.def_bindings.specs.Puts.{held, lessened, slot_of, unnamed_binding}
-use Rattle.def_map.specs.declared.source_database.EnumVariant.{EnumVariant}
+use Rattle.def_bindings.specs.Puts.{held, lessened, slot_for, slot_of, unnamed_binding, unnamed_slot}
+use Rattle.def_oracle.specs.declared.source_database.EnumVariant.{EnumVariant}
 use Rattle.def_map.specs.Answers.{variant_found}
 use Rattle.def_modules.specs.MapView.{MapView}
 use Rattle.def_map.specs.PerNs.{Item, kept}
 use Rattle.def_parts.specs.ListLaws.{first_in, none_in, only_in, in_cases}
+use Rattle.def_parts.specs.Raised.{HasOneDef, ListsCarried}
 use Rattle.def_parts.specs.Waves.{ListsAll, slots_of}
 use Rattle.def_rules.specs.Globs.{brought, module_entries, name_entries, scope_entries, seen, unnamed_entry, variant_entries}
 
@@ -179,13 +180,44 @@ module _ (o : Order Visibility) (glob : EdgeTo Visibility) where
     vis_is t None b h = cc
     vis_is t (Some v) b h = let same : unnamed_binding t v ≡ b = cc in ap (λ (x : Binding Visibility). Some x.vis) same
 
-    -- the entries of a scope have all that it binds and the importer sees
-    pub all_listed : ((name : Name) (ns : Namespace) (b : Binding Visibility) → c.binding source name ns ≡ Some b → is_listed (c.names source) name ≡ true) → ListsAll o (scope_entries o glob true c source) c source glob.importer
-    all_listed listed (Named name ns) b there sees =
-        slot_in (scope_entries o glob true c source) (entry_for name ns b) (Named name ns)
-        (Contains-append_left (flat_map (name_entries o glob true c source) (c.names source)) _ (entry_for name ns b) (listed_in (c.names source) name (entry_for name ns b) (listed name ns b there) (name_in name ns b there sees)))
-        refl
-    all_listed listed (Unnamed t) b there sees =
-        slot_in (scope_entries o glob true c source) (unnamed_for t b.vis) (Unnamed t)
-        (Contains-append_right (flat_map (name_entries o glob true c source) (c.names source)) _ (unnamed_for t b.vis) (unnamed_in (c.unnamed source) t b.vis (vis_is t (vis_of (c.unnamed source) t) b there) sees))
-        refl
+    -- the source binds each name in a module that lists it
+    abbrev pub AreListed : Type 0
+    AreListed = (name : Name) (ns : Namespace) (b : Binding Visibility) → c.binding source name ns ≡ Some b → is_listed (c.names source) name ≡ true
+
+    -- the entries of a scope have what an edge would carry of each slot
+    pub all_carried : AreListed → (slot : Slot) → ListsCarried o (scope_entries o glob true c source) c source glob slot
+    all_carried listed (Named name ns) b there sees = (
+      entry_for name ns b,
+      Contains-append_left (flat_map (name_entries o glob true c source) (c.names source)) _ (entry_for name ns b) (listed_in (c.names source) name (entry_for name ns b) (listed name ns b there) (name_in name ns b there sees)),
+      refl,
+      refl,
+    )
+    all_carried listed (Unnamed t) b there sees = (
+      unnamed_for t b.vis,
+      Contains-append_right (flat_map (name_entries o glob true c source) (c.names source)) _ (unnamed_for t b.vis) (unnamed_in (c.unnamed source) t b.vis (vis_is t (vis_of (c.unnamed source) t) b there) sees),
+      refl,
+      refl,
+    )
+
+    -- so they have all that it binds and the importer sees
+    pub all_listed : AreListed → ListsAll o (scope_entries o glob true c source) c source glob.importer
+    all_listed listed slot b there sees = let entry = all_carried listed slot b there sees in slot_in (scope_entries o glob true c source) entry.0 slot entry.1 entry.2
+
+    -- an entry without a name is of its trait
+    unnamed_def : (ns : Namespace) (d : Def) (t : TraitId) → unnamed_slot ns d ≡ Some (Unnamed t) → d ≡ Trait t
+    unnamed_def Types (Trait x) t h = let same : Unnamed x ≡ Unnamed t = cc in let one : x ≡ t = cc in ap Trait one
+    unnamed_def _ _ t h = cc
+
+    slot_def : (name : Option Name) (ns : Namespace) (d : Def) (t : TraitId) → slot_for name ns d ≡ Some (Unnamed t) → d ≡ Trait t
+    slot_def None ns d t h = unnamed_def ns d t h
+    slot_def (Some name) ns d t h = absurd (let wrong : Named name ns ≡ Unnamed t = cc in cc)
+
+    -- they have one definition for each slot
+    pub one_listed : (slot : Slot) → HasOneDef (scope_entries o glob true c source) slot
+    one_listed (Named name ns) e f in_e in_f at_e at_f =
+        let x = entry_shown e name ns in_e at_e in
+        let y = entry_shown f name ns in_f at_f in
+        let twice : Some x.0 ≡ Some y.0 = sym x.1 ∙ y.1 in
+        let one : x.0 ≡ y.0 = cc in
+        sym x.2 ∙ (ap (λ (b : Binding Visibility). b.def) one ∙ y.2)
+    one_listed (Unnamed t) e f in_e in_f at_e at_f = slot_def e.name e.ns e.def t at_e ∙ sym (slot_def f.name f.ns f.def t at_f)

@@ -20,6 +20,7 @@ use Rattle.def_bindings.specs.Tree.{AreParentsLower}
 use Rattle.def_bindings.specs.Visibility.{order_over}
 use Rattle.def_modules.specs.MapState.{MapState}
 use Rattle.def_modules.specs.Maps.{facts_in}
+use Rattle.def_parts.specs.Raised.{IsRaisedAt}
 use Rattle.def_parts.specs.Waves.{AreSingle, BeginsAt, HoldsBy, Led}
 use Rattle.def_rules.specs.Globs.{Targets}
 use Rattle.def_rules.specs.State.{State, PartialImport, PendingImport, Task, Enter, Visit, Put, AddEdge}
@@ -109,6 +110,18 @@ adds_edge (Enter at directory ∷ tasks) = adds_edge tasks
 adds_edge (Visit site id ∷ tasks) = adds_edge tasks
 adds_edge (Put at entry ∷ tasks) = adds_edge tasks
 
+-- whether an item is to be visited
+abbrev pub visits_item : List Task → Bool
+visits_item [] = false
+visits_item (Visit site id ∷ tasks) = true
+visits_item (Enter at directory ∷ tasks) = visits_item tasks
+visits_item (Put at entry ∷ tasks) = visits_item tasks
+visits_item (AddEdge source edge ∷ tasks) = visits_item tasks
+
+-- items are visited while no edge stands or is to be added
+abbrev pub AreApart : List Task → State → Type 0
+AreApart tasks s = (((source : ModuleId) → s.content.edges source ≡ []) × (adds_edge tasks ≡ false)) ⊎ (visits_item tasks ≡ false)
+
 -- where a glob leads to a module, its puts are followed by an edge, which begins there
 abbrev pub AreFollowed : (GlobId → Option ModuleId) → List Task → Type 0
 AreFollowed target_of [] = Unit {0}
@@ -121,6 +134,10 @@ AreFollowed target_of (Visit site id ∷ tasks) = AreFollowed target_of tasks
 -- the names of a state are sound
 abbrev pub IsSound : State → Type 0
 IsSound s = AreSound s.map s.targets s.content
+
+-- no edge would raise a place of a state
+abbrev pub IsRaisedIn : State → ModuleId → Slot → Type 0
+IsRaisedIn s importer slot = IsRaisedAt (order_in s.map) s.content importer slot
 
 -- names that are sound stay so, whatever is to be done first
 abbrev pub KeepsSound : List Task → State → State → Type 0

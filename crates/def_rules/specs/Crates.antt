@@ -21,9 +21,9 @@ use Rattle.def_ids.specs.declared.macro_def.Edition.{Edition}
 use Rattle.def_ids.specs.declared.macro_def.Edition.TheVariants.{Edition2015, Edition2018, Edition2021, Edition2024}
 use Rattle.def_ids.specs.Ids.{crate_root}
 use Rattle.def_bindings.specs.Content.{is_name}
-use Rattle.def_map.specs.declared.source_database.Dependency.{Dependency}
-use Rattle.def_map.specs.declared.source_database.LangCrate.{LangCrate}
-use Rattle.def_map.specs.declared.source_database.LangCrate.TheVariants.{Core, Std}
+use Rattle.def_oracle.specs.declared.source_database.Dependency.{Dependency}
+use Rattle.def_oracle.specs.declared.source_database.LangCrate.{LangCrate}
+use Rattle.def_oracle.specs.declared.source_database.LangCrate.TheVariants.{Core, Std}
 use Rattle.def_modules.specs.MapState.{CrateState}
 use Rattle.def_modules.specs.MapView.{ExternCrateEntry, LocalView, empty_local}
 use Rattle.def_map.specs.Oracle.{Oracle}

@@ -17,8 +17,8 @@ use Rattle.def_bindings.specs.Closure.{IsBound}
 use Rattle.def_bindings.specs.Content.{Content}
 use Rattle.def_bindings.specs.Puts.{glob_of, put_entry}
 use Rattle.def_bindings.specs.PutsLaws.{bound_stays-copied}
-use Rattle.def_map.specs.declared.path_resolution.asked.ResolvePathResult.{ResolvePathResult}
-use Rattle.def_map.specs.declared.per_ns.PerNs.{PerNs}
+use Rattle.def_paths.specs.declared.asked.ResolvePathResult.{ResolvePathResult}
+use Rattle.def_paths.specs.declared.per_ns.PerNs.{PerNs}
 use Rattle.def_map.specs.Oracle.{Oracle}
 use Rattle.def_map.specs.PerNs.{in_namespace}
 use Rattle.def_parts.specs.Globs.{with_recorded}

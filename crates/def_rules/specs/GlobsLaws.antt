@@ -17,7 +17,7 @@ use Rattle.def_ids.specs.declared.ids.ModuleId.{ModuleId}
 use Rattle.def_bindings.specs.declared.bindings.EdgeTo.{EdgeTo}
 use Rattle.def_bindings.specs.declared.bindings.Entry.{Entry}
 use Rattle.def_bindings.specs.declared.visibility.Visibility.{Visibility}
-use Rattle.def_map.specs.declared.path_resolution.asked.ResolvePathResult.{ResolvePathResult}
+use Rattle.def_paths.specs.declared.asked.ResolvePathResult.{ResolvePathResult}
 use Rattle.def_modules.specs.KeyedLists.{PushesUnder}
 use Rattle.def_map.specs.Oracle.{Oracle}
 use Rattle.def_ids.specs.Ids.{is_same_map}
@@ -29,9 +29,10 @@ use Rattle.def_parts.specs.Globs.{with_recorded}
 use Rattle.def_rules.specs.Performs.{Performs, Updated}
 use Rattle.def_rules.specs.Globs.{Targets, is_among, module_entries, scope_entries, with_def, with_target}
 use Rattle.def_rules.specs.Imports.{edge_tasks, glob_def, glob_edge, glob_id, glob_tasks, import_vis, is_own_crate, made_prelude, new_prelude, record_effect, record_tasks, target_state, targets_after, types_def, unless_prelude, with_new_prelude}
-use Rattle.def_rules.specs.State.{State, AddEdge, PendingImport, map_view, order, put_each, with_content, world}
-use Rattle.def_rules.specs.EdgeLaws.{glob_sound}
-use Rattle.def_rules.specs.StepsLaws.{performs_listed, performs_none, runs_edge}
+use Rattle.def_rules.specs.State.{State, AddEdge, PendingImport, map_view, only, order, put_each, with_content, world}
+use Rattle.def_rules.specs.EdgeLaws.{glob_raised, glob_sound}
+use Rattle.def_rules.specs.StepsLaws.{performs_listed, performs_none}
+use Rattle.def_rules.specs.WaveLaws.{runs_task, runs_trans, runs_wave}
 
 -- the list from an index on, at an element
 pub from_index : {X : Type 0} (xs : List X) (k : ℕ) (x : X) → Some x ≡ slice_get xs k → drop k xs ≡ x ∷ drop (suc k) xs
@@ -164,11 +165,23 @@ module _ (oracle : Oracle) (s t u : State) (glob : EdgeTo Visibility) (source : 
       → Performs oracle (glob_tasks (world oracle s) glob (Some (def.Module source))) s u
   performs_own own same updated added =
       subst (λ b. Performs oracle (put_each glob.importer Brought ++ edge_tasks b source glob) s u) (sym own)
-      (subst (λ x. Performs oracle (put_each glob.importer Brought ++ AddEdge source glob ∷ []) s x) (sym added)
-      (record { runs = runs_edge glob.importer Brought s t source glob brought; keeps = λ followed stands sound. glob_sound oracle s t glob source Brought brought own refl followed stands sound }))
+      (subst (λ x. Performs oracle (put_each glob.importer Brought ++ AddEdge source glob ∷ []) s x) (sym (added ∙ ap (λ x. with_content x (with_recorded (order x) x.content source glob)) updated.rest)) with_edge)
     where
       brought : Updated glob.importer Brought s t
       brought = subst (λ l. Updated glob.importer l s t) same updated
+
+      wave : State
+      wave = with_content s t.content
+
+      now : Updated glob.importer Brought s wave
+      now = record { travels = brought.travels; rest = refl }
+
+      with_edge : Performs oracle (put_each glob.importer Brought ++ AddEdge source glob ∷ []) s (with_content wave (with_recorded (order wave) wave.content source glob))
+      with_edge = record {
+        runs = λ rest. runs_trans (runs_wave glob.importer Brought s t.content brought.travels (AddEdge source glob ∷ []) rest) (runs_task (AddEdge source glob) rest wave (only (with_content wave (with_recorded (order wave) wave.content source glob))) refl);
+        keeps = λ followed stands sound. glob_sound oracle s wave glob source Brought now own refl stands sound followed;
+        raised = λ rest stands sound before importer slot kept. glob_raised oracle s wave glob source Brought now own refl stands sound rest before importer slot kept.0;
+      }
 
 module _ (oracle : Oracle) (s t : State) (p : PendingImport) (answer : ResolvePathResult) where
   -- a glob was recorded with a definition

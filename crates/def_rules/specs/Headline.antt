@@ -1,10 +1,13 @@
 -- The headline: what `collect_defs` answers ends a run of the machine.
 use Rattle.std.specs.Prelude.{◌≡◌, []}
 use Rattle.def_ids.specs.Session.{Session}
+use Rattle.def_ids.specs.declared.ids.ModuleId.{ModuleId}
+use Rattle.def_bindings.specs.declared.bindings.Slot.{Slot}
 use Rattle.def_bindings.specs.Closure.{IsClosed, IsCoherent}
+use Rattle.def_parts.specs.Raised.{IsRaisedAt}
 use Rattle.def_rules.specs.Closed.{none_left_out, target_of}
 use Rattle.def_rules.specs.State.{Setting, Moment, order}
-use Rattle.def_rules.specs.Steps.{Reaches}
+use Rattle.def_rules.specs.Steps.{IsKeptAlong, Reaches}
 use Rattle.def_rules.specs.Start.{start}
 use Rattle.def_rules.specs.Settled.{IsDeclared, WasPut, ExplicitStays, IsSettled, HasEveryNamespace}
 use Rattle.def_rules.specs.Report.{Answer, IsAnswerOf, report}
@@ -22,7 +25,7 @@ pub record IsOnRun (w : Setting) (before : Session) (end a b : Moment) : Type 0 
   pub goes_on : Reaches w.oracle a b
   pub ends : Reaches w.oracle b end
 
--- What is answered ends a run in which every reached item is handled, is closed and coherent along the recorded globs, and has no import left over that resolves;
+-- What is answered ends a run in which every reached item is handled, is closed, coherent and raised along the recorded globs, and has no import left over that resolves;
 -- its diagnostics are the run's and those of the leftovers.
 pub record Answers (w : Setting) (before after : Session) (answer : Answer) : Type 0 where
   pub run : Run w before
@@ -32,6 +35,9 @@ pub record Answers (w : Setting) (before after : Session) (answer : Answer) : Ty
   pub closed : IsClosed (order run.end.state) none_left_out answer.content
   -- what a glob bound that was recorded with one module of this map, that module binds too, to the same definition or unseen
   pub coherent : IsCoherent (order run.end.state) none_left_out (target_of run.end.state.map.id run.end.state.targets) answer.content
+  -- what a module binds and an importer of it sees would not raise what a glob, any, bound there to the same definition, along each recorded edge:
+  -- of each place that the run keeps throughout, with the sources of the edges to it while these are still to be added
+  pub raised : (importer : ModuleId) (slot : Slot) → IsKeptAlong run.runs importer slot → IsRaisedAt (order run.end.state) answer.content importer slot
   -- each explicit binding that was made stands at its place, or one made there before it does
   pub declared : IsDeclared run.end.events run.end.state.content
   -- and no explicit binding stands that was not made

@@ -2,6 +2,7 @@
 use Rattle.std.proofs.Common.{◌≡◌, [], None, refl, sym, subst}
 use Rattle.def_ids.specs.Session.{Session}
 use Rattle.def_bindings.specs.Closure.{IsClosed, IsCoherent}
+use Rattle.def_parts.specs.Raised.{IsRaisedAt}
 use Rattle.def_rules.specs.Closed.{IsSound, Stands, none_left_out, target_of}
 use Rattle.def_rules.specs.Headline.{Answers}
 use Rattle.def_rules.specs.Imports.{NoneReady}
@@ -9,7 +10,7 @@ use Rattle.def_rules.specs.Report.{Answer, NoneFailed, IsFinished}
 use Rattle.def_rules.specs.Start.{first_tasks, seeded_state, start, started}
 use Rattle.def_rules.specs.State.{Setting, State, Moment, order}
 use Rattle.def_rules.specs.Steps.{Leads, Reaches, at}
-use Rattle.def_rules.specs.BegunLaws.{sound_empty}
+use Rattle.def_rules.specs.BegunLaws.{begins_apart, sound_empty}
 use Rattle.def_rules.specs.DeclaredLaws.{declared_along, was_put_along}
 use Rattle.def_rules.specs.EveryNamespaceLaws.{every_namespace_along}
 use Rattle.def_rules.specs.RunsLaws.{none_failed_along}
@@ -26,6 +27,8 @@ answers w before after answer t leads settled session clean stands finished =
       answered = record { map = finished.map (none_failed_along runs clean); content = finished.content; local = finished.local; outcome = finished.outcome };
       closed = subst (IsClosed (order t) none_left_out) (sym finished.content) sound.closed;
       coherent = subst (IsCoherent (order t) none_left_out (target_of t.map.id t.targets)) (sym finished.content) sound.coherent;
+      raised = λ importer slot kept. subst (λ c. IsRaisedAt (order t) c importer slot) (sym finished.content)
+          (leads.raised (begins_apart w before) stands (sound_empty (started w.oracle w.tree (seeded_state w before)).map (λ glob. None)) [] importer slot kept (λ source index edge at. absurd cc));
       declared = declared_along runs refl refl;
       was_put = was_put_along runs refl refl;
       explicit_stays = λ a b run. explicit_stays_along run.goes_on;

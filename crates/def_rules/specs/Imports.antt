@@ -28,8 +28,8 @@ use Rattle.def_bindings.specs.Order.{Order}
 use Rattle.def_bindings.specs.Puts.{lessened}
 use Rattle.def_bindings.specs.Visibility.{order_over}
 use Rattle.def_modules.specs.MapState.{MapState}
-use Rattle.def_map.specs.declared.path_resolution.asked.ResolvePathResult.{ResolvePathResult}
-use Rattle.def_map.specs.declared.per_ns.PerNs.{PerNs}
+use Rattle.def_paths.specs.declared.asked.ResolvePathResult.{ResolvePathResult}
+use Rattle.def_paths.specs.declared.per_ns.PerNs.{PerNs}
 use Rattle.def_map.specs.Oracle.{Oracle}
 use Rattle.def_map.specs.Answers.{is_reached, variants_of}
 use Rattle.def_map.specs.Sources.{World}

@@ -4,7 +4,7 @@ use Rattle.std.proofs.lemmas.Bool.{or_cases}
 use Rattle.std.proofs.lemmas.Grind.{common_steps}
 use Rattle.std.proofs.lemmas.List.Sorted.{IsPermutation-middle, IsPermutation-refl, IsPermutation-append_comm, IsPermutation-append_right, length_permutation}
 use Rattle.std.proofs.lemmas.List.Sums.{sum_by-append, sum_by-cons}
-use Rattle.def_map.specs.declared.path_resolution.asked.ResolvePathResult.{ResolvePathResult}
+use Rattle.def_paths.specs.declared.asked.ResolvePathResult.{ResolvePathResult}
 use Rattle.def_map.specs.Oracle.{Oracle}
 use Rattle.def_rules.specs.Turns.{Moves, missing_from, turns_left}
 use Rattle.def_rules.specs.Performs.{Performs}

@@ -21,6 +21,8 @@ pub mod OwnLaws
 pub mod TargetsLaws
 pub mod TasksLaws
 pub mod StandsLaws
+pub mod ApartLaws
+pub mod WaveLaws
 pub mod EdgeLaws
 pub mod BegunLaws
 pub mod StepsLaws

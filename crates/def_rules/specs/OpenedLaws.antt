@@ -84,7 +84,7 @@ pub own_walk : (oracle : Oracle) (m : MapState) (targets : Targets) (site : Site
 own_walk oracle m targets site ids own = (tt, own_visits m targets site (ordered (oracle.item_tree site.tree) site.scope ids) own)
 
 -- and a plain one
-plain_walk : (oracle : Oracle) (site : Site) (ids : List ModItemId) → ArePlain (walk oracle site ids)
+pub plain_walk : (oracle : Oracle) (site : Site) (ids : List ModItemId) → ArePlain (walk oracle site ids)
 plain_walk oracle site ids = plain_visits site (ordered (oracle.item_tree site.tree) site.scope ids)
 
 -- What a visit opens

@@ -8,13 +8,14 @@ use Rattle.def_map.specs.Oracle.{Oracle}
 use Rattle.def_rules.specs.Globs.{Travels}
 use Rattle.def_rules.specs.Items.{HandlesInSession}
 use Rattle.def_rules.specs.State.{State, Site, Task, Effect, order, with_content}
-use Rattle.def_rules.specs.Closed.{AreFollowed, KeepsSound, target_of}
-use Rattle.def_rules.specs.Steps.{Runs}
+use Rattle.def_rules.specs.Closed.{AreFollowed, IsSound, KeepsSound, Stands, target_of}
+use Rattle.def_rules.specs.Steps.{Runs, StaysRaised}
 
 -- these tasks are performed, whatever is to be done behind them; names stay sound where the edges of globs are among the tasks
 pub record Performs (oracle : Oracle) (tasks : List Task) (s t : State) : Type 0 where
   pub runs : (rest : List Task) → Runs oracle (tasks ++ rest) s rest t
   pub keeps : AreFollowed (target_of s.map.id s.targets) tasks → KeepsSound tasks s t
+  pub raised : (rest : List Task) → Stands tasks s → IsSound s → StaysRaised (runs rest)
 
 -- a list was put in a module, what changed has travelled along the edges, and nothing else changed
 pub record Updated (at : ModuleId) (list : List (Entry Visibility)) (s t : State) : Type 0 where

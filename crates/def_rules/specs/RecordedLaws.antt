@@ -12,7 +12,7 @@ use Rattle.def_bindings.specs.declared.bindings.Namespace.TheVariants.{Types, Va
 use Rattle.def_bindings.specs.declared.visibility.Visibility.{Visibility}
 use Rattle.def_bindings.specs.Content.{Content}
 use Rattle.def_bindings.specs.Order.{Order}
-use Rattle.def_map.specs.declared.path_resolution.asked.ResolvePathResult.{ResolvePathResult}
+use Rattle.def_paths.specs.declared.asked.ResolvePathResult.{ResolvePathResult}
 use Rattle.def_map.specs.Oracle.{Oracle}
 use Rattle.def_map.specs.PerNs.{Item}
 use Rattle.def_rules.specs.Globs.{is_public}

@@ -3,7 +3,7 @@ use Rattle.std.proofs.Common.{◌≡◌, List, ◌∷◌, ◌++◌, Contains, Op
 use Rattle.std.proofs.lemmas.List.Elements.{Contains-append_cases}
 use Rattle.std.proofs.lemmas.List.Sorted.{Contains-permutation, IsPermutation-sym}
 use Rattle.def_modules.specs.MapState.{MapState}
-use Rattle.def_map.specs.declared.path_resolution.asked.ResolvePathResult.{ResolvePathResult}
+use Rattle.def_paths.specs.declared.asked.ResolvePathResult.{ResolvePathResult}
 use Rattle.def_map.specs.Oracle.{Oracle}
 use Rattle.def_parts.specs.ListLaws.{first_in, later_in, none_in, only_in}
 use Rattle.def_rules.specs.Closed.{AreOwn, IsOwn, IsRecorded, IsSound, Stands}

@@ -8,7 +8,7 @@ use Rattle.item_tree.specs.declared.name.Name.{Name}
 use Rattle.item_tree.specs.declared.tt.Leaf.TheVariants.{Ident}
 use Rattle.item_tree.specs.declared.tt.TtElement.{TtElement, Leaf as Token}
 use Rattle.item_tree.specs.KnownNames as known
-use Rattle.def_map.specs.declared.source_database.LangCrate.TheVariants.{Core, Std}
+use Rattle.def_oracle.specs.declared.source_database.LangCrate.TheVariants.{Core, Std}
 use Rattle.def_map.specs.Fresh.{fresh_crate, known_tools}
 use Rattle.def_modules.specs.Maps.{limit_of}
 use Rattle.def_rules.specs.Crates.{after_attrs, is_left_out, read_u32, says_proc_macro}

@@ -15,7 +15,7 @@ use Rattle.item_tree.specs.declared.mod_path.ModPath.{ModPath}
 use Rattle.item_tree.specs.declared.mod_path.PathKind.{PathKind}
 use Rattle.item_tree.specs.declared.name.Name.{Name}
 use Rattle.def_ids.specs.declared.ids.ModuleId.{ModuleId}
-use Rattle.def_map.specs.declared.per_ns.PerNs.{PerNs}
+use Rattle.def_paths.specs.declared.per_ns.PerNs.{PerNs}
 use Rattle.def_modules.specs.MapState.{MapState}
 use Rattle.def_modules.specs.MapView.{LocalView}
 use Rattle.def_map.specs.Oracle.{Oracle}

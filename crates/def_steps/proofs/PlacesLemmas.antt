@@ -5,7 +5,7 @@ use Rattle.std.proofs.lemmas.Bool.{cases_Bool}
 use Rattle.item_tree.specs.declared.name.Name.{Name}
 use Rattle.def_bindings.specs.Content.{is_name}
 use Rattle.def_bindings.specs.IdLaws.{cases_name}
-use Rattle.def_map.specs.declared.source_database.Dependency.{Dependency}
+use Rattle.def_oracle.specs.declared.source_database.Dependency.{Dependency}
 use Rattle.def_map.specs.Oracle.{Oracle}
 use Rattle.def_modules.specs.MapState.{CrateState}
 use Rattle.def_modules.specs.MapView.{ExternCrateEntry, LocalView}

@@ -1,7 +1,7 @@
 -- Names of crates that stand where the first of each name stood.
 use Rattle.std.specs.Prelude.{List, [], ◌∷◌}
 use Rattle.def_bindings.specs.Content.{is_name}
-use Rattle.def_map.specs.declared.source_database.Dependency.{Dependency}
+use Rattle.def_oracle.specs.declared.source_database.Dependency.{Dependency}
 use Rattle.def_modules.specs.MapView.{LocalView}
 use Rattle.def_modules.specs.Updates.{set_where}
 

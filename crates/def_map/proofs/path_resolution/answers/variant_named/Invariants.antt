@@ -1,7 +1,0 @@
-use Rattle.std.proofs.Common.{◌≡◌, drop}
-use Rattle.def_map.specs.Answers.{variant_named}
-use Rattle.def_map.proofs.path_resolution.answers.variant_named.Given as goal
-
--- the variant is not among those that were passed
-abbrev pub invariant-loop-variant : goal.invariant-loop-variant
-invariant-loop-variant l = variant_named (drop l.variant-index l.variants) l.name ≡ variant_named l.variants l.name

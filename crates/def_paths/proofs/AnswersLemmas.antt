@@ -1,0 +1,253 @@
+-- Answers of paths: what a prefix gives in types, or where it is missing, and answers joined one after the other.
+use Rattle.std.proofs.Common.{◌≡◌, ◌∙◌, ap, sym, refl, arith, ◌+◌, ◌<◌, ◌≤◌, ℕ, suc, Bool, true, false, not, ◌&&◌, ◌||◌, cond, if◌then◌else◌, List, [], ◌∷◌, ◌++◌, length, take, drop, get_or, drop-cons, add-one, Option, Some, None, is_none}
+use Rattle.std.proofs.lemmas.List.{take_more}
+use Rattle.std.specs.List.{list_any, find, cons_option}
+use Rattle.std.specs.Option.{option_or, unwrap_or}
+use Rattle.item_tree.specs.declared.mod_path.ModPath.{ModPath}
+use Rattle.item_tree.specs.declared.name.Name.{Name}
+use Rattle.def_ids.specs.declared.ids.ModuleId.{ModuleId}
+use Rattle.def_ids.specs.Ids.{is_same_map}
+use Rattle.def_paths.specs.declared.asked.PrefixInfo.{PrefixInfo}
+use Rattle.def_paths.specs.declared.asked.ReachedFixedPoint.{ReachedFixedPoint}
+use Rattle.def_paths.specs.declared.asked.ReachedFixedPoint.TheVariants.{Yes, No}
+use Rattle.def_paths.specs.declared.asked.ResolvePathResult.{ResolvePathResult}
+use Rattle.def_paths.specs.declared.per_ns.MacroSubNs.{MacroSubNs}
+use Rattle.def_paths.specs.declared.per_ns.PerNs.{PerNs}
+use Rattle.def_paths.specs.Answers.{HasSameTypes, missing, walk, step, is_elsewhere, answer_after, answer_from, leading, is_reached, joined, first_resolved}
+use Rattle.def_modules.specs.MapView.{MapView}
+use Rattle.def_paths.specs.Items.{is_fitting}
+use Rattle.def_paths.specs.OuterMaps.{is_alone, answer_outside, answers_outside}
+use Rattle.def_paths.specs.PerNs.{Item, in_types, otherwise, is_nothing}
+use Rattle.def_bindings.specs.declared.bindings.Namespace.TheVariants.{Types}
+use Rattle.def_paths.specs.Sources.{Question, first_found, found_in, by_sources, relative_sources}
+use Rattle.def_paths.proofs.SourcesLemmas.{option_or-none, option_or-or, per_namespace-equal}
+
+-- with nothing in types no later segment means anything
+pub walk-missing : (q : Question) (own : MapView) (crossed : Bool) (found : PerNs) (i : ℕ) (names : List Name) (result whole : ResolvePathResult)
+    → result ≡ missing crossed → found.types ≡ None → 0 < length names → walk q own crossed found i names ≡ whole → result ≡ whole
+walk-missing q own crossed found i [] result whole p e l w = let none : ⊥ = omega arith in absurd none
+walk-missing q own crossed found i (name ∷ names) result whole p e l w = p ∙ (rw e at w)
+
+-- what later segments mean depends on types alone
+walk-types : (q : Question) (own : MapView) (crossed : Bool) (a b : PerNs) (i : ℕ) (names : List Name)
+    → 0 < length names → a.types ≡ b.types → walk q own crossed a i names ≡ walk q own crossed b i names
+walk-types q own crossed a b i [] l e = let none : ⊥ = omega arith in absurd none
+walk-types q own crossed a b i (name ∷ names) l e = rw e
+
+-- a segment of a walk: in types at least what the definition has of it, and all of that where it is the last
+pub walk-step : (q : Question) (own : MapView) (crossed : Bool) (found next : PerNs) (i : ℕ) (names rest : List Name) (name : Name) (item : Item)
+    (stepped : Option PerNs) (is_last : Bool) (whole : ResolvePathResult)
+    → names ≡ name ∷ rest → found.types ≡ Some item → stepped ≡ Some next
+    → HasSameTypes stepped (step q own item.def name) → (is_last ≡ true → stepped ≡ step q own item.def name) → (is_last ≡ false → 0 < length rest)
+    → walk q own crossed found i names ≡ whole
+    → walk q own (crossed || is_elsewhere own item.def) next (i + 1) rest ≡ whole
+walk-step q own crossed found next i names rest name item stepped is_last whole split has gives same all more w =
+    ap (λ j. walk q own (crossed || is_elsewhere own item.def) next j rest) (add-one i) ∙ by_step (step q own item.def name) refl
+  where
+    go : PerNs → ResolvePathResult
+    go n = walk q own (crossed || is_elsewhere own item.def) n (suc i) rest
+
+    by_step : (s : Option PerNs) → step q own item.def name ≡ s → go next ≡ whole
+    by_step None e = let none : ⊥ = cc in absurd none
+    by_step (Some n) e = by_last is_last refl ∙ (rw (split, has, walk, e) at w)
+      where
+        by_last : (b : Bool) → is_last ≡ b → go next ≡ go n
+        by_last true t = let whole_step = all t in ap go cc
+        by_last false f = walk-types q own (crossed || is_elsewhere own item.def) next n (suc i) rest (more f) cc
+
+-- a path of more segments, after what its first means in types
+pub prefix-some : (q : Question) (own : MapView) (all : PerNs) (item : Item) (names : List Name)
+    → 0 < length names → all.types ≡ Some item → walk q own false (in_types item) 1 names ≡ answer_after q own all names
+prefix-some q own all item names l e = walk-types q own false (in_types item) all 1 names l (sym e) ∙ (rw e)
+
+-- and with nothing in types
+pub prefix-none : (q : Question) (own : MapView) (all : PerNs) (names : List Name)
+    → 0 < length names → all.types ≡ None → missing false ≡ answer_after q own all names
+prefix-none q own all [] l e = let none : ⊥ = omega arith in absurd none
+prefix-none q own all (name ∷ names) l e = by_test (is_nothing all)
+  where
+    by_test : (b : Bool) → missing false ≡ (if b then missing false else walk q own false all 1 (name ∷ names))
+    by_test true = refl
+    by_test false = rw e
+
+-- a plain path of one segment
+pub plain-alone : (q : Question) (own : MapView) (place : ModuleId) (asked : Option MacroSubNs) (segments names : List Name) (d : Name) (found : PerNs) (result : ResolvePathResult)
+    → segments ≡ names → 1 ≤ length segments → length segments < 2
+    → found ≡ found_in (is_fitting q.kind_of asked) (relative_sources q own place true) (get_or segments 0 d)
+    → result ≡ answer_after q own found []
+    → result ≡ answer_from q own (is_fitting q.kind_of (if is_alone names then asked else None)) (by_sources (relative_sources q own place (is_alone names))) names
+plain-alone q own place asked [] names d found result same some one first after = let none : ⊥ = omega arith in absurd none
+plain-alone q own place asked (name ∷ []) names d found result same some one first after =
+    rw (← same) (after ∙ ap (λ f. answer_after q own f []) first)
+plain-alone q own place asked (name ∷ other ∷ rest) names d found result same some one first after = let none : ⊥ = omega arith in absurd none
+
+-- one of more segments
+pub plain-longer : (q : Question) (own : MapView) (place : ModuleId) (asked : Option MacroSubNs) (segments names : List Name) (d : Name) (types : Option Item) (result : ResolvePathResult)
+    → segments ≡ names → 2 ≤ length segments
+    → types ≡ first_found (is_fitting q.kind_of None) (relative_sources q own place false) (get_or segments 0 d) Types
+    → ((all : PerNs) → all.types ≡ types → result ≡ answer_after q own all (drop 1 segments))
+    → result ≡ answer_from q own (is_fitting q.kind_of (if is_alone names then asked else None)) (by_sources (relative_sources q own place (is_alone names))) names
+plain-longer q own place asked [] names d types result same more first after = let none : ⊥ = omega arith in absurd none
+plain-longer q own place asked (name ∷ []) names d types result same more first after = let none : ⊥ = omega arith in absurd none
+plain-longer q own place asked (name ∷ other ∷ rest) names d types result same more first after =
+    rw (← same) (after (found_in (is_fitting q.kind_of None) (relative_sources q own place false) name) (sym first))
+
+abbrev pub answer_with : PerNs → Option ℕ → ReachedFixedPoint → PrefixInfo → ResolvePathResult
+answer_with found index fixed info = record { resolved_def = found; segment_index = index; reached_fixedpoint = fixed; prefix_info = info }
+
+-- equal in each field
+pub answer-equal : (a b : ResolvePathResult) → a.resolved_def ≡ b.resolved_def → a.segment_index ≡ b.segment_index
+    → a.reached_fixedpoint ≡ b.reached_fixedpoint → a.prefix_info ≡ b.prefix_info → a ≡ b
+answer-equal a b p q r s =
+    ap (λ x. answer_with x a.segment_index a.reached_fixedpoint a.prefix_info) p
+    ∙ ap (λ x. answer_with b.resolved_def x a.reached_fixedpoint a.prefix_info) q
+    ∙ ap (λ x. answer_with b.resolved_def b.segment_index x a.prefix_info) r
+    ∙ ap (answer_with b.resolved_def b.segment_index b.reached_fixedpoint) s
+
+-- reached where one of two is
+abbrev either_reached : ReachedFixedPoint → ReachedFixedPoint → ReachedFixedPoint
+either_reached Yes b = Yes
+either_reached No b = b
+
+-- two answers as one
+abbrev join_of : ResolvePathResult → ResolvePathResult → ResolvePathResult
+join_of a b = record {
+  resolved_def = otherwise a.resolved_def b.resolved_def;
+  segment_index = (leading a (b ∷ [])).segment_index;
+  reached_fixedpoint = either_reached a.reached_fixedpoint b.reached_fixedpoint;
+  prefix_info = (leading a (b ∷ [])).prefix_info;
+}
+
+reached-join : (a b : ReachedFixedPoint) (rest : Bool)
+    → (if is_reached a || (is_reached b || rest) then Yes else No) ≡ (if is_reached (either_reached a b) || rest then Yes else No)
+reached-join Yes b rest = refl
+reached-join No b rest = refl
+
+none-or : (a b : Option Item) → is_none (option_or a b) ≡ (is_none a && is_none b)
+none-or None b = refl
+none-or (Some x) b = refl
+
+is_nothing-otherwise : (a b : PerNs) → is_nothing (otherwise a b) ≡ (is_nothing a && is_nothing b)
+is_nothing-otherwise a b = by_options a.types a.values a.macros b
+  where
+    by_options : (t v m : Option Item) (b : PerNs)
+        → is_nothing (otherwise (record { types = t; values = v; macros = m }) b) ≡ (is_nothing (record { types = t; values = v; macros = m }) && is_nothing b)
+    by_options None None None b = refl
+    by_options None None (Some m) b = by_two (is_none b.types) (is_none b.values)
+      where
+        by_two : (x y : Bool) → ((x && y) && false) ≡ false
+        by_two true true = refl
+        by_two true false = refl
+        by_two false y = refl
+    by_options None (Some v) m b = by_one (is_none b.types)
+      where
+        by_one : (x : Bool) → ((x && false) && is_none (option_or m b.macros)) ≡ false
+        by_one true = refl
+        by_one false = refl
+    by_options (Some t) v m b = refl
+
+-- the leading answer of three in two steps
+pick-join : {F : Type 0} (field : ResolvePathResult → F) (x y : Bool) (a b j : ResolvePathResult) (r : Option ResolvePathResult)
+    → field j ≡ field (unwrap_or (cond (not x) (Some a) (cond (not y) (Some b) None)) a)
+    → field (unwrap_or (cond (not x) (Some a) (cond (not y) (Some b) r)) a) ≡ field (unwrap_or (cond (not (x && y)) (Some j) r) j)
+pick-join field false y a b j r e = sym e
+pick-join field true false a b j r e = sym e
+pick-join field true true a b j None e = sym e
+pick-join field true true a b j (Some c) e = refl
+
+leading-join : {F : Type 0} (field : ResolvePathResult → F) (a b : ResolvePathResult) (rest : List ResolvePathResult)
+    → field (join_of a b) ≡ field (leading a (b ∷ [])) → field (leading a (b ∷ rest)) ≡ field (leading (join_of a b) rest)
+leading-join field a b rest e =
+    let r : Option ResolvePathResult = find (λ x. not (is_nothing x.resolved_def)) rest in
+    pick-join field (is_nothing a.resolved_def) (is_nothing b.resolved_def) a b (join_of a b) r e
+    ∙ ap (λ n. field (unwrap_or (cond (not n) (Some (join_of a b)) r) (join_of a b))) (sym (is_nothing-otherwise a.resolved_def b.resolved_def))
+
+join-more : (a b : ResolvePathResult) (rest : List ResolvePathResult) → joined a (b ∷ rest) ≡ joined (join_of a b) rest
+join-more a b rest =
+    answer-equal _ _
+    (per_namespace-equal _ _
+    (sym (option_or-or a.resolved_def.types b.resolved_def.types (first_resolved (λ p. p.types) rest)))
+    (sym (option_or-or a.resolved_def.values b.resolved_def.values (first_resolved (λ p. p.values) rest)))
+    (sym (option_or-or a.resolved_def.macros b.resolved_def.macros (first_resolved (λ p. p.macros) rest))))
+    (leading-join (λ x. x.segment_index) a b rest refl)
+    (reached-join a.reached_fixedpoint b.reached_fixedpoint (list_any (λ x. is_reached x.reached_fixedpoint) rest))
+    (leading-join (λ x. x.prefix_info) a b rest refl)
+
+-- one answer alone
+pub joined-none : (a : ResolvePathResult) → joined a [] ≡ a
+joined-none a =
+    answer-equal _ _
+    (per_namespace-equal _ _ (option_or-none a.resolved_def.types) (option_or-none a.resolved_def.values) (option_or-none a.resolved_def.macros))
+    (alone (λ x. x.segment_index) (not (is_nothing a.resolved_def)))
+    (fixed a.reached_fixedpoint)
+    (alone (λ x. x.prefix_info) (not (is_nothing a.resolved_def)))
+  where
+    alone : {F : Type 0} (field : ResolvePathResult → F) (x : Bool) → field (unwrap_or (cond x (Some a) None) a) ≡ field a
+    alone field true = refl
+    alone field false = refl
+
+    fixed : (r : ReachedFixedPoint) → (if is_reached r || false then Yes else No) ≡ r
+    fixed Yes = refl
+    fixed No = refl
+
+-- answers are joined two at a time
+pub joined-more : (a b : ResolvePathResult) (rest : List ResolvePathResult) → joined a (b ∷ rest) ≡ joined (joined a (b ∷ [])) rest
+joined-more a b rest = join-more a b rest ∙ ap (λ x. joined x rest) (sym (join-more a b [] ∙ joined-none (join_of a b)))
+
+or_false : (b : Bool) → (b || false) ≡ b
+or_false true = refl
+or_false false = refl
+
+-- two answers as one, field by field
+pub joined-two : (a b : ResolvePathResult) (found : PerNs) (r : ReachedFixedPoint) (lead : ResolvePathResult)
+    → found ≡ otherwise a.resolved_def b.resolved_def → is_reached r ≡ (is_reached a.reached_fixedpoint || is_reached b.reached_fixedpoint)
+    → lead ≡ leading a (b ∷ []) → answer_with found lead.segment_index r lead.prefix_info ≡ joined a (b ∷ [])
+joined-two a b found r lead p q e =
+    answer-equal _ _
+    (p ∙ per_namespace-equal _ _ (one a.resolved_def.types b.resolved_def.types) (one a.resolved_def.values b.resolved_def.values) (one a.resolved_def.macros b.resolved_def.macros))
+    (ap (λ x. x.segment_index) e)
+    (by_test r ∙ ap (λ t. if t then Yes else No) (q ∙ ap (λ y. is_reached a.reached_fixedpoint || y) (sym (or_false (is_reached b.reached_fixedpoint)))))
+    (ap (λ x. x.prefix_info) e)
+  where
+    one : (x y : Option Item) → option_or x y ≡ option_or x (option_or y None)
+    one x y = ap (option_or x) (sym (option_or-none y))
+
+    by_test : (r : ReachedFixedPoint) → r ≡ (if is_reached r then Yes else No)
+    by_test Yes = refl
+    by_test No = refl
+
+outside-new : (q : Question) (path : ModPath) (before : List ModuleId) (m : ModuleId) (rest : List ModuleId) (answer : Option ResolvePathResult)
+    → list_any (λ b. is_same_map b.map m.map) before ≡ false → answer ≡ answer_outside q path m
+    → answers_outside q path before (m ∷ rest) ≡ cons_option answer (answers_outside q path (before ++ m ∷ []) rest)
+outside-new q path before m rest answer e p = rw (e, p)
+
+-- an answer with that of one more map: one that was asked before, one that there is not, and one that answers
+abbrev pub IsJoinedAt : Question → ModPath → List ModuleId → ModuleId → ResolvePathResult → ResolvePathResult → Type 0
+IsJoinedAt q path before m answer result =
+    (rest : List ModuleId) → joined result (answers_outside q path (before ++ m ∷ []) rest) ≡ joined answer (answers_outside q path before (m ∷ rest))
+
+pub outside-seen : (q : Question) (path : ModPath) (before : List ModuleId) (m : ModuleId) (answer : ResolvePathResult)
+    → list_any (λ b. is_same_map b.map m.map) before ≡ true → IsJoinedAt q path before m answer answer
+outside-seen q path before m answer e rest = rw e
+
+pub outside-unknown : (q : Question) (path : ModPath) (before : List ModuleId) (m : ModuleId) (answer : ResolvePathResult)
+    → list_any (λ b. is_same_map b.map m.map) before ≡ false → None ≡ answer_outside q path m → IsJoinedAt q path before m answer answer
+outside-unknown q path before m answer e p rest = sym (ap (joined answer) (outside-new q path before m rest None e p))
+
+pub outside-joined : (q : Question) (path : ModPath) (before : List ModuleId) (m : ModuleId) (answer other result : ResolvePathResult)
+    → list_any (λ b. is_same_map b.map m.map) before ≡ false → Some other ≡ answer_outside q path m
+    → result ≡ joined answer (other ∷ []) → IsJoinedAt q path before m answer result
+outside-joined q path before m answer other result e p r rest =
+    let others = answers_outside q path (before ++ m ∷ []) rest in
+    ap (λ a. joined a others) r ∙ sym (joined-more answer other others) ∙ sym (ap (joined answer) (outside-new q path before m rest (Some other) e p))
+
+-- one more of the modules that contain a block
+pub outside-step : (q : Question) (path : ModPath) (xs : List ModuleId) (i : ℕ) (d : ModuleId) (result answer whole : ResolvePathResult) → i < length xs
+    → IsJoinedAt q path (take i xs) (get_or xs i d) answer result
+    → joined answer (answers_outside q path (take i xs) (drop i xs)) ≡ whole
+    → joined result (answers_outside q path (take (i + 1) xs) (drop (i + 1) xs)) ≡ whole
+outside-step q path xs i d result answer whole l h w =
+    ap (λ b. joined result (answers_outside q path b (drop (i + 1) xs))) (take_more xs i d l)
+    ∙ h (drop (i + 1) xs)
+    ∙ ap (λ rest. joined answer (answers_outside q path (take i xs) rest)) (sym (drop-cons xs i d l ∙ ap (λ j. get_or xs i d ∷ drop j xs) (sym (add-one i))))
+    ∙ w

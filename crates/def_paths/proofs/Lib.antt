@@ -1,0 +1,4 @@
+pub mod SourcesLemmas
+pub mod AnswersLemmas
+pub mod PathsFacts
+mod OuterPathsFacts

@@ -1,0 +1,397 @@
+//! What paths answer: a step for each segment after the first, and the answers of several maps as
+//! one.
+ghost use Rattle.std.specs.Prelude.{◌≡◌, ◌≤◌, ◌<◌, ◌||◌, ◌∷◌, ◌++◌, [], None, true, false, length, drop, if◌then◌else◌};
+ghost use Rattle.std.specs.List.{list_any};
+ghost use Rattle.def_ids.specs.Ids.{is_same_map};
+ghost use Rattle.def_paths.specs.Answers.{missing as missing_after, reached as reached_with};
+ghost use Rattle.def_paths.specs.Answers.{variants_of, variant_named as first_named, variant_found as found_of};
+ghost use Rattle.def_paths.specs.Answers.{step as step_of, is_elsewhere as elsewhere, walk as walk_of};
+ghost use Rattle.def_paths.specs.Answers.{HasSameTypes, answer_after, answer_from, joined};
+ghost use Rattle.def_paths.specs.declared.per_ns.PerNs.{PerNs};
+ghost use Rattle.def_paths.specs.Asking.{question_in, map_in};
+ghost use Rattle.def_paths.specs.Items.{is_fitting};
+ghost use Rattle.def_paths.specs.OuterMaps.{is_alone as stands_alone, is_plain as has_no_word};
+ghost use Rattle.def_paths.specs.OuterMaps.{answer_in as answer_in_map, answer_outside as answer_outside_of};
+ghost use Rattle.def_paths.specs.OuterMaps.{answers_outside, answer_of};
+ghost use Rattle.def_paths.specs.Sources.{at_module, by_sources, absolute_sources, relative_sources};
+
+use crate::asked::{PrefixInfo, ReachedFixedPoint, ResolvePathResult};
+use crate::sources::{Asking, Segment};
+use crate::per_ns::{Item, PerNs, public_item};
+use crate::path_database::PathDatabase;
+use def_bindings::{BindingTable, Visibility};
+use def_ids::{Def, EnumId, LocationId, ModuleId};
+use def_oracle::EnumVariant;
+use item_tree::{ModPath, Name, PathKind};
+
+/// The answer where something on the way is missing.
+fn missing(differing_crate: bool) -> ResolvePathResult
+    ensures { result ≡ missing_after differing_crate }
+{
+    ResolvePathResult {
+        resolved_def: PerNs::none(),
+        segment_index: None,
+        reached_fixedpoint: ReachedFixedPoint::No,
+        prefix_info: PrefixInfo { differing_crate },
+    }
+}
+
+/// What was reached, and the first segment that is left.
+fn reached(
+    resolved_def: PerNs,
+    segment_index: Option<usize>,
+    differing_crate: bool,
+) -> ResolvePathResult
+    ensures { result ≡ reached_with resolved_def segment_index differing_crate }
+{
+    ResolvePathResult {
+        resolved_def,
+        segment_index,
+        reached_fixedpoint: ReachedFixedPoint::Yes,
+        prefix_info: PrefixInfo { differing_crate },
+    }
+}
+
+/// The first variant of a name.
+fn variant_named(variants: &[EnumVariant], name: Name) -> Option<EnumVariant>
+    ensures { result ≡ first_named variants.now name }
+{
+    for variant in variants {
+        if variant.name == name {
+            return Some(*variant);
+        }
+    }
+    None
+}
+
+/// A variant in types, and in values where it has a constructor.
+fn variant_found(variant: EnumVariant) -> PerNs
+    ensures { result ≡ found_of variant }
+{
+    let item = public_item(Def::Variant(variant.id));
+    PerNs {
+        types: Some(item),
+        values: if variant.value_ctor { Some(item) } else { None },
+        macros: None,
+    }
+}
+
+/// Whether a path has no word before it.
+fn is_plain(kind: PathKind) -> bool
+    ensures { result ≡ has_no_word kind }
+{
+    match kind {
+        PathKind::Plain => true,
+        _ => false,
+    }
+}
+
+/// Whether a module is of a map of one of these.
+fn is_map_among(before: &[ModuleId], place: ModuleId) -> bool
+    ensures { result ≡ list_any (λ b. is_same_map b.map place.map) before.now }
+{
+    for other in before {
+        if other.map == place.map {
+            return true;
+        }
+    }
+    false
+}
+
+impl ReachedFixedPoint {
+    ghost use Rattle.def_paths.specs.Answers.{is_reached};
+
+    /// Whether one of two is reached.
+    fn or(self, other: ReachedFixedPoint) -> ReachedFixedPoint
+        ensures { is_reached result ≡ (is_reached self || is_reached other) }
+    {
+        match self {
+            ReachedFixedPoint::Yes => ReachedFixedPoint::Yes,
+            ReachedFixedPoint::No => other,
+        }
+    }
+}
+
+impl ResolvePathResult {
+    ghost use Rattle.def_paths.specs.Answers.{leading};
+
+    /// The first of two answers that is not empty, and else the first.
+    fn leading(self, other: ResolvePathResult) -> ResolvePathResult
+        ensures { result ≡ leading self (other ∷ []) }
+    {
+        if self.resolved_def.is_none() && !other.resolved_def.is_none() {
+            other
+        } else {
+            self
+        }
+    }
+
+    /// Two answers as one.
+    fn join(self, other: ResolvePathResult) -> ResolvePathResult
+        ensures { result ≡ joined self (other ∷ []) }
+    {
+        let leading = self.leading(other);
+        ResolvePathResult {
+            resolved_def: self.resolved_def.or(other.resolved_def),
+            segment_index: leading.segment_index,
+            reached_fixedpoint: self.reached_fixedpoint.or(other.reached_fixedpoint),
+            prefix_info: leading.prefix_info,
+        }
+    }
+}
+
+impl<'a, D: PathDatabase, T: BindingTable<Vis = Visibility>> Asking<'a, D, T> {
+    /// The variant of a name of an enum.
+    fn variant(&self, id: EnumId, name: Name) -> Option<EnumVariant>
+        ensures { let q = question_in (D.oracle self.now.db.now) self.now in
+            result ≡ first_named (variants_of q id.0) name }
+    {
+        match id.lookup(self.session) {
+            Some(loc) => match self.db.enum_variants(loc) {
+                Some(variants) => variant_named(variants, name),
+                None => None,
+            },
+            None => None,
+        }
+    }
+
+    /// What a definition has of the next segment, where it can have names: in all namespaces where
+    /// that is the last, and else in types at least.
+    fn step(&self, def: Def, name: Name, is_last: bool) -> Option<PerNs>
+        ensures types { let q = question_in (D.oracle self.now.db.now) self.now in
+            let own = map_in (T.content self.now.table.now) self.now in
+            HasSameTypes result (step_of q own def name) }
+        ensures last { let q = question_in (D.oracle self.now.db.now) self.now in
+            let own = map_in (T.content self.now.table.now) self.now in
+            is_last ≡ true → result ≡ step_of q own def name }
+    {
+        match def {
+            Def::Module(place) if is_last => Some(self.scope(place, name)),
+            Def::Module(place) => Some(PerNs::types_alone(self.scope_type(place, name))),
+            Def::Enum(id) => match self.variant(id, name) {
+                Some(variant) => Some(variant_found(variant)),
+                None => None,
+            },
+            _ => None,
+        }
+    }
+
+    /// Whether a segment is looked up in a module of another crate.
+    fn is_elsewhere(&self, def: Def) -> bool
+        ensures { let own = map_in (T.content self.now.table.now) self.now in
+            result ≡ elsewhere own def }
+    {
+        match def {
+            Def::Module(place) => place.map.krate != self.own.tree.map.krate,
+            _ => false,
+        }
+    }
+
+    /// The segments from `begin` on, after what was found.
+    fn walk(&self, first: PerNs, begin: usize, segments: &[Name]) -> ResolvePathResult
+        requires { begin ≤ length segments.now }
+        ensures { let q = question_in (D.oracle self.now.db.now) self.now in
+            let own = map_in (T.content self.now.table.now) self.now in
+            result ≡ walk_of q own false first begin (drop begin segments.now) }
+    {
+        let mut found = first;
+        let mut crossed = false;
+        'segments: for i in begin..segments.len() {
+            let name = segments[i];
+            let item = match found.types {
+                Some(item) => item,
+                None => return missing(crossed),
+            };
+            let is_last = i + 1 == segments.len();
+            let Some(next) = self.step(item.def, name, is_last) else {
+                return reached(PerNs::of_type(item), Some(i), crossed);
+            };
+            crossed = crossed || self.is_elsewhere(item.def);
+            found = next;
+        }
+        reached(found, None, crossed)
+    }
+
+    /// A path from a module on, if that is there.
+    fn from_module(&self, place: Option<ModuleId>, path: &ModPath) -> ResolvePathResult
+        ensures { let q = question_in (D.oracle self.now.db.now) self.now in
+            let own = map_in (T.content self.now.table.now) self.now in
+            (keep : _) → result ≡ answer_from q own keep (at_module place) path.now.segments }
+    {
+        match place {
+            Some(found) => {
+                let first = PerNs::of_type(public_item(Def::Module(found)));
+                self.walk(first, 0, path.segments.as_slice())
+            }
+            None => missing(false),
+        }
+    }
+
+    /// A path of one segment, after what it means.
+    fn from_name(&self, found: PerNs) -> ResolvePathResult
+        ensures { let q = question_in (D.oracle self.now.db.now) self.now in
+            let own = map_in (T.content self.now.table.now) self.now in
+            result ≡ answer_after q own found [] }
+    {
+        if found.is_none() {
+            missing(false)
+        } else {
+            reached(found, None, false)
+        }
+    }
+
+    /// A path of more segments, after what the first means in types.
+    fn from_prefix(&self, found: Option<Item>, segments: &[Name]) -> ResolvePathResult
+        requires { 1 < length segments.now }
+        ensures { let q = question_in (D.oracle self.now.db.now) self.now in
+            let own = map_in (T.content self.now.table.now) self.now in
+            (all : PerNs) → all.types ≡ found → result ≡ answer_after q own all (drop 1 segments.now) }
+    {
+        match found {
+            Some(item) => self.walk(PerNs::of_type(item), 1, segments),
+            None => missing(false),
+        }
+    }
+
+    /// An absolute path.
+    fn absolute_path(&self, place: ModuleId, path: &ModPath) -> ResolvePathResult
+        ensures { let q = question_in (D.oracle self.now.db.now) self.now in
+            let own = map_in (T.content self.now.table.now) self.now in
+            let keep = is_fitting q.kind_of None in
+            result ≡ answer_from q own keep (by_sources (absolute_sources q own)) path.now.segments }
+    {
+        let segments = path.segments.as_slice();
+        match segments {
+            [] => missing(false),
+            [name] => {
+                let found = self.absolute(Segment {
+                    place,
+                    name: *name,
+                    sub: None,
+                });
+                self.from_name(found)
+            }
+            [name, ..] => self.from_prefix(self.absolute_type(*name), segments),
+        }
+    }
+
+    /// A plain path.
+    fn plain_path(&self, place: ModuleId, path: &ModPath) -> ResolvePathResult
+        ensures { let q = question_in (D.oracle self.now.db.now) self.now in
+            let own = map_in (T.content self.now.table.now) self.now in
+            let alone = stands_alone path.now.segments in
+            let keep = is_fitting q.kind_of (if alone then self.now.asked.sub else None) in
+            result ≡ answer_from q own keep (by_sources (relative_sources q own place alone)) path.now.segments }
+    {
+        let segments = path.segments.as_slice();
+        match segments {
+            [] => missing(false),
+            [name] => {
+                let found = self.relative(Segment {
+                    place,
+                    name: *name,
+                    sub: self.asked.sub,
+                });
+                self.from_name(found)
+            }
+            [name, ..] => self.from_prefix(self.relative_type(place, *name), segments),
+        }
+    }
+
+    /// What a path means in the map that is asked.
+    fn answer_in(&self, place: ModuleId, path: &ModPath) -> ResolvePathResult
+        ensures { let q = question_in (D.oracle self.now.db.now) self.now in
+            let own = map_in (T.content self.now.table.now) self.now in
+            result ≡ answer_in_map q place path.now own }
+    {
+        match path.kind {
+            PathKind::Crate => {
+                let root = ModuleId::crate_root(self.own.tree.map.krate);
+                self.from_module(Some(root), path)
+            }
+            PathKind::DollarCrate(krate) => {
+                self.from_module(Some(ModuleId::crate_root(krate)), path)
+            }
+            PathKind::Super(n) => {
+                let ancestor = self.own.tree.ancestor(place, n as usize);
+                self.from_module(ancestor, path)
+            }
+            PathKind::Abs => self.absolute_path(place, path),
+            PathKind::Plain => self.plain_path(place, path),
+        }
+    }
+
+    /// What a path means in the map of a module, asked from there, if that map is there.
+    fn answer_outside(&self, place: ModuleId, path: &ModPath) -> Option<ResolvePathResult>
+        ensures { let q = question_in (D.oracle self.now.db.now) self.now in
+            result ≡ answer_outside_of q path.now place }
+    {
+        match self.db.finished_map(place.map) {
+            Some((own, table)) => {
+                let asking = Asking {
+                    db: self.db,
+                    session: self.session,
+                    local: self.local,
+                    asked: self.asked,
+                    own,
+                    table,
+                };
+                Some(asking.answer_in(place, path))
+            }
+            None => None,
+        }
+    }
+
+    /// An answer joined with that of one more map, if it is none of those before.
+    fn with_map(
+        &self,
+        path: &ModPath,
+        answer: ResolvePathResult,
+        before: &[ModuleId],
+        place: ModuleId,
+    ) -> ResolvePathResult
+        ensures { let q = question_in (D.oracle self.now.db.now) self.now in
+            (rest : _) → joined result (answers_outside q path.now (before.now ++ place ∷ []) rest)
+            ≡ joined answer (answers_outside q path.now before.now (place ∷ rest)) }
+    {
+        if is_map_among(before, place) {
+            return answer;
+        }
+        match self.answer_outside(place, path) {
+            Some(other) => answer.join(other),
+            None => answer,
+        }
+    }
+
+    /// What a path means, with what it means in the maps around a block.
+    fn with_outside(
+        &self,
+        path: &ModPath,
+        first: ResolvePathResult,
+        containing: &[ModuleId],
+    ) -> ResolvePathResult
+        ensures { let q = question_in (D.oracle self.now.db.now) self.now in
+            result ≡ joined first (answers_outside q path.now [] containing.now) }
+    {
+        let mut answer = first;
+        'maps: for i in 0..containing.len() {
+            let place = containing[i];
+            answer = self.with_map(path, answer, &containing[..i], place);
+        }
+        answer
+    }
+
+    /// What a path means: in the map that is asked, and from a block's root in those around it too.
+    pub fn resolve(&self, place: ModuleId, path: &ModPath) -> ResolvePathResult
+        ensures { let q = question_in (D.oracle self.now.db.now) self.now in
+            let own = map_in (T.content self.now.table.now) self.now in
+            result ≡ answer_of q own place path.now }
+    {
+        let answer = self.answer_in(place, path);
+        if is_plain(path.kind) && place.is_block_root() {
+            self.with_outside(path, answer, self.own.tree.containing.as_slice())
+        } else {
+            answer
+        }
+    }
+}

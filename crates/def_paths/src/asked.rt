@@ -1,0 +1,75 @@
+//! How a path is asked, and what it means.
+ghost use Rattle.std.specs.Prelude.{◌≡◌};
+
+use crate::per_ns::{MacroSubNs, PerNs};
+
+/// For what a path is resolved. In edition 2015 an import's path begins at the crate's root.
+#[derive(Clone, Copy, PartialEq, Eq)]
+pub enum ResolveMode {
+    Import,
+    Other,
+}
+
+/// Which goes first where a builtin type and a module have one name.
+#[derive(Clone, Copy, PartialEq, Eq)]
+pub enum BuiltinShadowMode {
+    /// The module, as in an import.
+    Module,
+    /// The builtin type, where the name stands alone.
+    Other,
+}
+
+/// How a path is asked.
+#[derive(Clone, Copy)]
+pub struct Asked {
+    pub mode: ResolveMode,
+    pub shadow: BuiltinShadowMode,
+    /// The macros that a name which stands alone may mean; all of them for `None`.
+    pub sub: Option<MacroSubNs>,
+}
+
+/// Whether the beginning of a path, and each prefix that a later segment needs, was there.
+#[derive(Clone, Copy, PartialEq, Eq, Debug)]
+pub enum ReachedFixedPoint {
+    Yes,
+    No,
+}
+
+/// What was seen on the way to a path's last segment.
+#[derive(Clone, Copy, PartialEq, Eq, Debug)]
+pub struct PrefixInfo {
+    /// Whether a segment was looked up in a module of another crate.
+    pub differing_crate: bool,
+}
+
+/// What a path means.
+#[derive(Clone, Copy, PartialEq, Eq, Debug)]
+pub struct ResolvePathResult {
+    pub resolved_def: PerNs,
+    /// The first segment that is left where the path ends at a definition without names.
+    pub segment_index: Option<usize>,
+    pub reached_fixedpoint: ReachedFixedPoint,
+    pub prefix_info: PrefixInfo,
+}
+
+impl Asked {
+    ghost use Rattle.def_paths.specs.Items.{is_builtin_first};
+
+    /// Whether a builtin type goes before a module, for a name that stands alone.
+    pub(crate) fn is_builtin_first(self) -> bool
+        ensures { result ≡ is_builtin_first self.shadow }
+    {
+        self.shadow == BuiltinShadowMode::Other
+    }
+}
+
+impl ResolveMode {
+    ghost use Rattle.def_paths.specs.Items.{is_for_import};
+
+    /// Whether the path is an import's.
+    pub(crate) fn is_for_import(self) -> bool
+        ensures { result ≡ is_for_import self }
+    {
+        self == ResolveMode::Import
+    }
+}
