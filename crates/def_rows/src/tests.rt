@@ -9,4 +9,5 @@ mod prelude_imports;
 mod proc_macros;
 mod shown_order;
 mod tables;
+mod token_trees;
 mod trees;
