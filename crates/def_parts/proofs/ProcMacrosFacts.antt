@@ -1,30 +1,31 @@
 -- The shapes of derive declarations.
-use Rattle.std.proofs.Common.{◌≡◌, ℕ, Some, None, [], ◌∷◌, refl, ap}
-use Rattle.std.specs.Prelude.{option_map}
+use Rattle.std.proofs.Common.{◌≡◌, ℕ, Some, None, [], ◌∷◌, refl}
 use Rattle.item_tree.specs.declared.name.Name.{Name}
 use Rattle.item_tree.specs.declared.tt.Leaf.TheVariants.{Ident, Punct}
-use Rattle.item_tree.specs.declared.tt.TtElement.{TtElement, Leaf as Token}
-use Rattle.item_tree.specs.TokenTrees.{element_group, idents}
+use Rattle.item_tree.specs.TokenTrees.{TtElement, token, group, no_trees, leaf, TokenTrees}
 use Rattle.item_tree.specs.KnownNames.{attributes_name}
-use Rattle.def_parts.specs.ProcMacros.{name_and_helpers, grouped, derive_macro, derive}
+use Rattle.def_parts.specs.ProcMacros.{name_and_helpers, derive_macro, derive}
 
 abbrev name : ℕ → Name
 name n = record { 0 = n }
 
 abbrev ident : Name → TtElement
-ident n = Token (Ident n)
+ident n = token (Ident n)
 
 abbrev comma : TtElement
-comma = Token (Punct 44)
+comma = token (Punct 44)
+
+-- `helper1, helper2`
+abbrev two : TokenTrees
+two = leaf (Ident (name 41)) (leaf (Punct 44) (leaf (Ident (name 42)) no_trees))
 
 -- `(Trait)`
 alone : name_and_helpers (ident (name 40) ∷ []) ≡ Some (record { name = name 40; helpers = [] })
 alone = refl
 
 -- `(Trait, attributes(helper1, helper2))`
-with_helpers : (group : TtElement) → element_group group ≡ Some (ident (name 41) ∷ comma ∷ ident (name 42) ∷ [])
-    → name_and_helpers (ident (name 40) ∷ comma ∷ ident attributes_name ∷ group ∷ []) ≡ Some (record { name = name 40; helpers = name 41 ∷ name 42 ∷ [] })
-with_helpers group h = ap (λ g. grouped (Some (name 40)) (option_map idents g)) h
+with_helpers : name_and_helpers (ident (name 40) ∷ comma ∷ ident attributes_name ∷ group two ∷ []) ≡ Some (record { name = name 40; helpers = name 41 ∷ name 42 ∷ [] })
+with_helpers = refl
 
 -- `(Trait,)`
 with_comma : name_and_helpers (ident (name 40) ∷ comma ∷ []) ≡ None
@@ -39,16 +40,16 @@ no_group : name_and_helpers (ident (name 40) ∷ comma ∷ ident attributes_name
 no_group = refl
 
 -- `(Trait, helpers(helper1))`
-other_word : (group : TtElement) → name_and_helpers (ident (name 40) ∷ comma ∷ ident (name 43) ∷ group ∷ []) ≡ None
-other_word group = refl
+other_word : name_and_helpers (ident (name 40) ∷ comma ∷ ident (name 43) ∷ group two ∷ []) ≡ None
+other_word = refl
 
 -- `(Trait, attributes helper)`
-no_list : (element : TtElement) → element_group element ≡ None → name_and_helpers (ident (name 40) ∷ comma ∷ ident attributes_name ∷ element ∷ []) ≡ None
-no_list element h = ap (λ g. grouped (Some (name 40)) (option_map idents g)) h
+no_list : name_and_helpers (ident (name 40) ∷ comma ∷ ident attributes_name ∷ ident (name 41) ∷ []) ≡ None
+no_list = refl
 
 -- `(, attributes())`
-no_name : (group : TtElement) → name_and_helpers (comma ∷ comma ∷ ident attributes_name ∷ group ∷ []) ≡ None
-no_name group = refl
+no_name : name_and_helpers (comma ∷ comma ∷ ident attributes_name ∷ group no_trees ∷ []) ≡ None
+no_name = refl
 
 -- a derive that is not read keeps its function's name
 unread : derive_macro (name 50) None ≡ record { name = name 50; kind = derive [] }

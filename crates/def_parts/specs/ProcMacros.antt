@@ -5,10 +5,9 @@ use Rattle.item_tree.specs.declared.attrs.Attr.{Attr}
 use Rattle.item_tree.specs.declared.name.Name.{Name}
 use Rattle.item_tree.specs.declared.tt.Leaf.{Leaf}
 use Rattle.item_tree.specs.declared.tt.Leaf.TheVariants.{Punct}
-use Rattle.item_tree.specs.declared.tt.TtElement.{TtElement, Leaf as Token}
 use Rattle.item_tree.specs.KnownNames.{name_eq, attributes_name, proc_macro_name, proc_macro_attribute_name, proc_macro_derive_name}
 use Rattle.item_tree.specs.Lists.{first_of_list}
-use Rattle.item_tree.specs.TokenTrees.{element_ident, subtree_idents}
+use Rattle.item_tree.specs.TokenTrees.{TtElement, token, group, elements, element_ident, subtree_idents}
 use Rattle.item_tree.specs.Attrs.{has_attr, tt_values}
 use Rattle.def_parts.specs.declared.proc_macro.ProcMacroKind.{ProcMacroKind}
 use Rattle.def_parts.specs.declared.proc_macro.ProcMacroKind.TheVariants.{Derive, Bang, Attr as Attribute}
@@ -49,8 +48,8 @@ leaf_is_comma _ = false
 
 -- whether an element is a comma
 abbrev pub is_comma : TtElement → Bool
-is_comma (Token leaf) = leaf_is_comma leaf
-is_comma _ = false
+is_comma (token leaf) = leaf_is_comma leaf
+is_comma (group inside) = false
 
 -- whether an identifier is there, and is this name
 abbrev pub is_word : Option Name → Name → Bool
@@ -75,7 +74,7 @@ name_and_helpers _ = None
 
 -- what the first token tree of `proc_macro_derive` says
 abbrev pub derive_declared : List Attr → Option NameAndHelpers
-derive_declared attrs = option_and_then name_and_helpers (first_of_list (tt_values proc_macro_derive_name attrs))
+derive_declared attrs = option_and_then (λ trees. name_and_helpers (elements trees)) (first_of_list (tt_values proc_macro_derive_name attrs))
 
 -- a derive that is not read keeps its function's name, without helpers
 abbrev pub derive_macro : Name → Option NameAndHelpers → MacroDecl

@@ -10,4 +10,5 @@ mod proc_macros;
 mod rows;
 mod shown_order;
 mod tables;
+mod token_trees;
 mod trees;

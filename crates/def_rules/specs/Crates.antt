@@ -11,11 +11,10 @@ use Rattle.item_tree.specs.declared.mod_path.ModPath.{ModPath}
 use Rattle.item_tree.specs.declared.mod_path.PathKind.{PathKind}
 use Rattle.item_tree.specs.declared.mod_path.PathKind.TheVariants.{Plain, Abs}
 use Rattle.item_tree.specs.declared.name.Name.{Name}
-use Rattle.item_tree.specs.declared.tt.TtElement.{TtElement}
 use Rattle.item_tree.specs.Attrs.{attrs_in, has_key, text_of, tokens_of}
 use Rattle.item_tree.specs.KnownNames as known
 use Rattle.item_tree.specs.Lists.{only_of_list}
-use Rattle.item_tree.specs.TokenTrees.{element_ident}
+use Rattle.item_tree.specs.TokenTrees.{TokenTrees, elements, element_ident}
 use Rattle.def_ids.specs.declared.ids.ModuleId.{ModuleId}
 use Rattle.def_ids.specs.declared.macro_def.Edition.{Edition}
 use Rattle.def_ids.specs.declared.macro_def.Edition.TheVariants.{Edition2015, Edition2018, Edition2021, Edition2024}
@@ -65,8 +64,8 @@ abbrev pub with_features : List (ModPath × SyntaxContext) → CrateState → Cr
 with_features listed c = record c { features = enabled listed c.features }
 
 -- an identifier that stands alone
-abbrev pub lone_ident : List TtElement → Option Name
-lone_ident tokens = option_and_then element_ident (only_of_list tokens)
+abbrev pub lone_ident : TokenTrees → Option Name
+lone_ident tokens = option_and_then element_ident (only_of_list (elements tokens))
 
 -- `register_tool` adds the tool that stands alone in it
 abbrev pub with_tool : Option Name → CrateState → CrateState

@@ -6,8 +6,8 @@ use Rattle.item_tree.specs.declared.attrs.AttrInput.TheVariants.{Str, TokenTree}
 use Rattle.item_tree.specs.declared.mod_path.PathKind.TheVariants.{Plain}
 use Rattle.item_tree.specs.declared.name.Name.{Name}
 use Rattle.item_tree.specs.declared.tt.Leaf.TheVariants.{Ident}
-use Rattle.item_tree.specs.declared.tt.TtElement.{TtElement, Leaf as Token}
 use Rattle.item_tree.specs.KnownNames as known
+use Rattle.item_tree.specs.TokenTrees.{TokenTrees, no_trees, leaf}
 use Rattle.def_oracle.specs.declared.source_database.LangCrate.TheVariants.{Core, Std}
 use Rattle.def_map.specs.Fresh.{fresh_crate, known_tools}
 use Rattle.def_modules.specs.Maps.{limit_of}
@@ -20,11 +20,12 @@ attr name input = record { path = record { kind = Plain; segments = name ∷ [] 
 abbrev text : List ℕ → Option AttrInput
 text t = Some (Str t)
 
-abbrev tokens : List TtElement → Option AttrInput
+abbrev tokens : TokenTrees → Option AttrInput
 tokens ts = Some (TokenTree ts)
 
-abbrev word : ℕ → TtElement
-word n = Token (Ident (record { 0 = n }))
+-- a word before others
+abbrev word : ℕ → TokenTrees → TokenTrees
+word n behind = leaf (Ident (record { 0 = n })) behind
 
 -- a limit is a number of 32 bits
 digits_are_read : read_u32 (codes "128") ≡ Some 128
@@ -66,10 +67,10 @@ no_core_is_not_no_std : (after_attrs (attr known.no_core_name None ∷ []) fresh
 no_core_is_not_no_std = refl
 
 -- one tool, if it stands alone
-a_tool_is_added : (after_attrs (attr known.register_tool_name (tokens (word 40 ∷ [])) ∷ []) fresh_crate).tools ≡ record { 0 = 27 } ∷ record { 0 = 28 } ∷ record { 0 = 29 } ∷ record { 0 = 30 } ∷ record { 0 = 31 } ∷ record { 0 = 40 } ∷ []
+a_tool_is_added : (after_attrs (attr known.register_tool_name (tokens (word 40 no_trees)) ∷ []) fresh_crate).tools ≡ record { 0 = 27 } ∷ record { 0 = 28 } ∷ record { 0 = 29 } ∷ record { 0 = 30 } ∷ record { 0 = 31 } ∷ record { 0 = 40 } ∷ []
 a_tool_is_added = refl
 
-two_are_not : (after_attrs (attr known.register_tool_name (tokens (word 40 ∷ word 41 ∷ [])) ∷ []) fresh_crate).tools ≡ known_tools
+two_are_not : (after_attrs (attr known.register_tool_name (tokens (word 40 (word 41 no_trees))) ∷ []) fresh_crate).tools ≡ known_tools
 two_are_not = refl
 
 -- `crate_type`

@@ -5,7 +5,7 @@ use def_ids::Interner;
 use item_tree::{
     Attr, AttrInput, Attrs, AttrsOrCfg, CfgExpr, CtorVisibility, FileAstId, ImportAlias, ItemNode,
     ItemTree, Leaf, ModContents, ModItemId, ModItemKind, ModPath, Name, PathKind, RawVisibility,
-    Seq, SyntaxContext, Text, TreeFault, TtElement, UseImport, sym,
+    Seq, SyntaxContext, Text, TopSubtreeBuilder, TreeFault, UseImport, sym,
 };
 use std::alloc::{AllocError, Global};
 
@@ -233,19 +233,19 @@ fn list_attr(
     path: ModPath,
     words: &[&str],
 ) -> Result<Attr, AllocError> {
-    let mut tokens = Seq::from_vec(Vec::new(alloc));
+    let mut tokens = TopSubtreeBuilder::new(alloc);
     let mut paths = Seq::from_vec(Vec::new(alloc));
     for text in words {
         let name = session.intern_name(text)?;
-        if !tokens.is_empty() {
-            tokens.push(TtElement::Leaf(Leaf::Punct(',')))?;
+        if !paths.is_empty() {
+            tokens.push(Leaf::Punct(','))?;
         }
-        tokens.push(TtElement::Leaf(Leaf::Ident(name)))?;
+        tokens.push(Leaf::Ident(name))?;
         paths.push((word(alloc, name)?, SyntaxContext(0)))?;
     }
     Ok(Attr {
         path,
-        input: Some(AttrInput::TokenTree(tokens)),
+        input: tokens.build().map(|tokens| AttrInput::TokenTree(tokens)),
         ctxt: SyntaxContext(0),
         paths: Some(paths),
     })

@@ -7,7 +7,7 @@ ghost use Rattle.def_modules.specs.Maps.{map_state};
 ghost use Rattle.def_rules.specs.Crates as crates;
 
 use def_map::MapData;
-use item_tree::{Attr, ItemTree, ModPath, Name, SyntaxContext, sym};
+use item_tree::{Attr, ItemTree, ModPath, Name, SyntaxContext, TopSubtree, sym};
 use std::alloc::AllocError;
 
 /// Whether a crate is one of procedural macros, as is known or as an attribute says.
@@ -167,11 +167,19 @@ fn stated_tool(attr: &Attr) -> Option<Name>
     ensures { result ≡ option_and_then crates.lone_ident (tokens_of attr.now) }
 {
     match attr.tokens() {
-        Some(tokens) => match tokens.as_slice() {
-            [element] => element.ident(),
-            _ => None,
-        },
+        Some(tokens) => lone_ident(tokens),
         None => None,
+    }
+}
+
+/// The identifier that a token tree is, where it is one element.
+fn lone_ident(tokens: &TopSubtree) -> Option<Name>
+    ensures { result ≡ crates.lone_ident tokens.now }
+{
+    let mut elements = tokens.iter();
+    match (elements.next(), elements.next()) {
+        (Some(element), None) => element.ident(),
+        _ => None,
     }
 }
 

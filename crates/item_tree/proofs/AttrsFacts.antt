@@ -6,22 +6,19 @@ use Rattle.item_tree.specs.declared.attrs.AttrInput.{AttrInput}
 use Rattle.item_tree.specs.declared.attrs.AttrsOrCfg.TheVariants.{Enabled, CfgDisabled}
 use Rattle.item_tree.specs.declared.mod_path.PathKind.TheVariants.{Plain, Super}
 use Rattle.item_tree.specs.declared.name.Name.{Name}
-use Rattle.item_tree.specs.declared.tt.TtElement.{TtElement, Leaf as Token, Subtree, out-TtElement}
-use Rattle.item_tree.specs.declared.tt.TtElement.TheBlock.{shown-the_row-TtElement-0}
-use denote.Hole.Carrier.{out, shown, hidden}
 use Rattle.item_tree.specs.declared.tt.Leaf.TheVariants.{Ident, Punct}
 use Rattle.item_tree.specs.KnownNames.{path_name, test_name, macro_use_name, feature_name, self_name}
 use Rattle.item_tree.specs.Attrs.{by_key, has_attr, string_value, tt_values, iter_after, attrs_of, disabled_by, path_attr}
 use Rattle.item_tree.specs.Paths.{as_ident}
-use Rattle.item_tree.specs.TokenTrees.{idents, element_ident, subtree_idents}
+use Rattle.item_tree.specs.TokenTrees.{TokenTrees, no_trees, leaf, subtree, token, group, elements, idents, element_ident, subtree_idents}
 
 -- an attribute of one segment
 abbrev attr : Name → Option AttrInput → Attr
 attr name input = record { path = record { kind = Plain; segments = name ∷ [] }; input = input; ctxt = record { 0 = 0 }; paths = None }
 
 -- `a, b`
-abbrev tokens : Name → Name → List TtElement
-tokens a b = Token (Ident a) ∷ Token (Punct 44) ∷ Token (Ident b) ∷ []
+abbrev tokens : Name → Name → TokenTrees
+tokens a b = leaf (Ident a) (leaf (Punct 44) (leaf (Ident b) no_trees))
 
 -- `#[test]`
 abbrev test_attr : Attr
@@ -64,16 +61,19 @@ identifiers : idents (tokens self_name test_name) ≡ self_name ∷ test_name �
 identifiers = refl
 
 -- the identifiers of `(self, test)` are those between its parentheses, and it is none itself
-identifiers_of_a_group : subtree_idents (Subtree (tokens self_name test_name)) ≡ Some (self_name ∷ test_name ∷ [])
-unfolding out-TtElement out shown-the_row-TtElement-0 shown hidden
+identifiers_of_a_group : subtree_idents (group (tokens self_name test_name)) ≡ Some (self_name ∷ test_name ∷ [])
 identifiers_of_a_group = refl
 
-no_group : subtree_idents (Token (Ident test_name)) ≡ None
-unfolding out-TtElement out
+no_group : subtree_idents (token (Ident test_name)) ≡ None
 no_group = refl
 
-group_is_no_identifier : element_ident (Subtree (tokens self_name test_name)) ≡ None
+group_is_no_identifier : element_ident (group (tokens self_name test_name)) ≡ None
 group_is_no_identifier = refl
+
+-- a delimited list is one element, whatever stands in it
+elements_of_a_level : elements (subtree (tokens self_name test_name) (leaf (Ident path_name) no_trees))
+    ≡ group (tokens self_name test_name) ∷ token (Ident path_name) ∷ []
+elements_of_a_level = refl
 
 all_of_them : iter_after None (test_attr ∷ path_a ∷ []) ≡ (record { 0 = 0 }, test_attr) ∷ (record { 0 = 1 }, path_a) ∷ []
 all_of_them = refl

@@ -10,10 +10,10 @@ use Rattle.item_tree.specs.declared.attrs.AttrsOrCfg.TheVariants.{Enabled, CfgDi
 use Rattle.item_tree.specs.declared.ids.AttrId.{AttrId}
 use Rattle.item_tree.specs.declared.ids.CfgExpr.{CfgExpr}
 use Rattle.item_tree.specs.declared.name.Name.{Name}
-use Rattle.item_tree.specs.declared.tt.TtElement.{TtElement}
 use Rattle.item_tree.specs.KnownNames.{path_name}
 use Rattle.item_tree.specs.Lists.{is_there, first_of_list}
 use Rattle.item_tree.specs.Paths.{as_ident, is_ident}
+use Rattle.item_tree.specs.TokenTrees.{TokenTrees}
 
 -- whether an attribute's path is this name alone
 abbrev pub has_key : Name → Attr → Bool
@@ -23,7 +23,7 @@ abbrev pub text_of_input : AttrInput → Option (List ℕ)
 text_of_input (Str text) = Some text
 text_of_input (TokenTree tokens) = None
 
-abbrev pub tokens_of_input : AttrInput → Option (List TtElement)
+abbrev pub tokens_of_input : AttrInput → Option TokenTrees
 tokens_of_input (Str text) = None
 tokens_of_input (TokenTree tokens) = Some tokens
 
@@ -32,7 +32,7 @@ abbrev pub text_of : Attr → Option (List ℕ)
 text_of attr = option_and_then text_of_input attr.input
 
 -- the token tree of an attribute
-abbrev pub tokens_of : Attr → Option (List TtElement)
+abbrev pub tokens_of : Attr → Option TokenTrees
 tokens_of attr = option_and_then tokens_of_input attr.input
 
 -- the attributes of a name
@@ -52,7 +52,7 @@ abbrev pub string_value : Name → List Attr → Option (List ℕ)
 string_value key attrs = first_text (by_key key attrs)
 
 -- the token trees of the attributes of a name
-abbrev pub tt_values : Name → List Attr → List (List TtElement)
+abbrev pub tt_values : Name → List Attr → List TokenTrees
 tt_values key attrs = filter_map tokens_of (by_key key attrs)
 
 -- attributes with their numbers, the first having this one

@@ -1,10 +1,11 @@
-pub mod formers
 pub mod Lists
 pub mod Names
 pub mod KnownNames
 pub mod Numbering
 pub mod Paths
 pub mod TokenTrees
+pub mod FlatTrees
+pub mod TokenElements
 pub mod Attrs
 pub mod Trees
 pub mod TreesLaws

@@ -221,15 +221,14 @@ pub struct TtValues<'a> {
 
 impl<'a> Model for TtValues<'a> {
     ghost use Rattle.std.specs.Coded.{coded_list};
-    ghost use Rattle.item_tree.specs.contracts.tt.TtElement as tree;
     ghost use Rattle.std.specs.Prelude.{List};
     ghost use Rattle.std.specs.Slice.Iter.{iter_rest};
-    ghost use Rattle.item_tree.specs.declared.tt.TtElement.{TtElement};
+    ghost use Rattle.item_tree.specs.TokenTrees.{TokenTrees, trees_code};
     ghost use Rattle.item_tree.specs.Attrs.{tt_values};
 
-    ghost Value = { List (List TtElement) };
+    ghost Value = { List TokenTrees };
 
-    ghost coded = { coded_list (coded_list tree.the_row.coded) };
+    ghost coded = { coded_list trees_code };
 
     ghost view = { λ v. tt_values v.key (iter_rest v.rest) };
 }

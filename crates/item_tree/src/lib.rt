@@ -29,4 +29,4 @@ pub use mod_path::{ModPath, PathKind};
 pub use name::{KNOWN_NAMES, Name, NameTable};
 pub use text::Text;
 pub use tree::{ItemTree, TreeFault};
-pub use tt::{Leaf, TopSubtree, TtElement};
+pub use tt::{Leaf, TopSubtree, TopSubtreeBuilder, TtElement, TtIter};

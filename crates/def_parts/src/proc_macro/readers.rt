@@ -1,16 +1,17 @@
 //! Readers of the attributes that declare procedural macros.
 ghost use Rattle.std.specs.Prelude.{◌≡◌, IfOk, option_map};
-ghost use Rattle.item_tree.specs.TokenTrees.{idents, element_ident};
+ghost use Rattle.item_tree.specs.TokenElements.{seen};
+ghost use Rattle.item_tree.specs.TokenTrees.{idents, element_ident, elements};
 ghost use Rattle.def_parts.specs.ProcMacros.{read_as, decl_of, is_comma, is_word, name_and_helpers, derive_declared, proc_macro_of};
 
 use crate::proc_macro::{ProcMacroDef, ProcMacroKind};
 use item_tree::sym::{ATTRIBUTES, PROC_MACRO, PROC_MACRO_ATTRIBUTE, PROC_MACRO_DERIVE};
-use item_tree::{Attrs, Leaf, Name, TopSubtree, TtElement};
+use item_tree::{Attrs, Leaf, Name, TopSubtree, TtElement, TtIter};
 use std::alloc::{AllocError, Global};
 
 /// Whether an element is a comma.
-fn is_comma(element: &TtElement) -> bool
-    ensures { result ≡ is_comma element.now }
+fn is_comma(element: &TtElement<'_>) -> bool
+    ensures { result ≡ is_comma (seen element.now) }
 {
     match element {
         TtElement::Leaf(Leaf::Punct(c)) => *c == ',',
@@ -19,8 +20,8 @@ fn is_comma(element: &TtElement) -> bool
 }
 
 /// Whether an element is this identifier.
-fn is_word(element: &TtElement, word: Name) -> bool
-    ensures { result ≡ is_word (element_ident element.now) word }
+fn is_word(element: &TtElement<'_>, word: Name) -> bool
+    ensures { result ≡ is_word (element_ident (seen element.now)) word }
 {
     match element.ident() {
         Some(name) => name == word,
@@ -28,14 +29,17 @@ fn is_word(element: &TtElement, word: Name) -> bool
     }
 }
 
-/// The identifiers directly in a token tree.
-fn idents(alloc: Global, tree: &TopSubtree) -> Result<Vec<Name>, AllocError>
-    ensures { IfOk result (λ names. names.items ≡ idents tree.now) }
+/// The identifiers directly in token trees.
+fn idents(alloc: Global, mut trees: TtIter<'_>) -> Result<Vec<Name>, AllocError>
+    ensures { IfOk result (λ names. names.items ≡ idents trees.entry) }
 {
-    tree.as_slice()
-        .iter()
-        .filter_map(|element| element.ident())
-        .collect(alloc)
+    let mut names = Vec::new(alloc);
+    while let Some(element) = trees.next() {
+        if let Some(name) = element.ident() {
+            names.push(name)?;
+        }
+    }
+    Ok(names)
 }
 
 /// The name and the helper attributes in `#[proc_macro_derive(Trait, attributes(a, b))]`, which
@@ -44,27 +48,29 @@ pub fn parse_macro_name_and_helper_attrs(
     alloc: Global,
     tt: &TopSubtree,
 ) -> Result<Option<(Name, Vec<Name>)>, AllocError>
-    ensures { IfOk result (λ found. option_map read_as found ≡ name_and_helpers tt.now) }
+    ensures { IfOk result
+        (λ found. option_map read_as found ≡ name_and_helpers (elements tt.now)) }
 {
-    match tt.as_slice() {
-        [name] => match name.ident() {
-            Some(name) => Ok(Some((name, Vec::new(alloc)))),
-            None => Ok(None),
-        },
-        [name, comma, word, helpers] => {
-            if !is_comma(comma) || !is_word(word, ATTRIBUTES) {
-                return Ok(None);
-            }
-            let Some(name) = name.ident() else {
-                return Ok(None);
-            };
-            let Some(helpers) = helpers.subtree() else {
-                return Ok(None);
-            };
-            Ok(Some((name, idents(alloc, helpers)?)))
-        }
-        _ => Ok(None),
+    let mut trees = tt.iter();
+    let Some(name) = trees.next() else {
+        return Ok(None);
+    };
+    let Some(name) = name.ident() else {
+        return Ok(None);
+    };
+    let Some(comma) = trees.next() else {
+        return Ok(Some((name, Vec::new(alloc))));
+    };
+    let (Some(word), Some(helpers), None) = (trees.next(), trees.next(), trees.next()) else {
+        return Ok(None);
+    };
+    if !is_comma(&comma) || !is_word(&word, ATTRIBUTES) {
+        return Ok(None);
     }
+    let Some(helpers) = helpers.subtree() else {
+        return Ok(None);
+    };
+    Ok(Some((name, idents(alloc, helpers)?)))
 }
 
 /// The name and the helper attributes of the first `#[proc_macro_derive(..)]` with a token tree.

@@ -2,7 +2,7 @@
 
 use def_parts::parse_macro_name_and_helper_attrs;
 use item_tree::sym::ATTRIBUTES;
-use item_tree::{Leaf, Name, Seq, TopSubtree, TtElement};
+use item_tree::{Leaf, Name, TopSubtree, TopSubtreeBuilder};
 use std::alloc::{AllocError, Global};
 use std::test::Fail;
 
@@ -10,44 +10,63 @@ const TRAIT: Name = Name(101);
 
 const HELPERS: [Name; 2] = [Name(102), Name(103)];
 
-fn word(name: Name) -> TtElement {
-    TtElement::Leaf(Leaf::Ident(name))
+fn word(name: Name) -> Leaf {
+    Leaf::Ident(name)
 }
 
-fn comma() -> TtElement {
-    TtElement::Leaf(Leaf::Punct(','))
+fn comma() -> Leaf {
+    Leaf::Punct(',')
 }
 
 /// `(Trait)`
-fn name_alone(alloc: Global) -> Result<TopSubtree, AllocError> {
-    Ok(Seq::from_vec(vec![in alloc; word(TRAIT)]?))
+fn name_alone(alloc: Global) -> Result<Option<TopSubtree>, AllocError> {
+    let mut tokens = TopSubtreeBuilder::new(alloc);
+    tokens.push(word(TRAIT))?;
+    Ok(tokens.build())
 }
 
 /// `(Trait,)`
-fn name_and_comma(alloc: Global) -> Result<TopSubtree, AllocError> {
-    Ok(Seq::from_vec(vec![in alloc; word(TRAIT), comma()]?))
+fn name_and_comma(alloc: Global) -> Result<Option<TopSubtree>, AllocError> {
+    let mut tokens = TopSubtreeBuilder::new(alloc);
+    tokens.push(word(TRAIT))?;
+    tokens.push(comma())?;
+    Ok(tokens.build())
 }
 
 /// `(Trait, attributes(helper1, helper2))`
-fn name_and_helpers(alloc: Global) -> Result<TopSubtree, AllocError> {
+fn name_and_helpers(alloc: Global) -> Result<Option<TopSubtree>, AllocError> {
     let [first, second] = HELPERS;
-    let helpers = vec![in alloc; word(first), comma(), word(second)]?;
-    Ok(Seq::from_vec(vec![in alloc;
-        word(TRAIT),
-        comma(),
-        word(ATTRIBUTES),
-        TtElement::Subtree(Seq::from_vec(helpers)),
-    ]?))
+    let mut tokens = TopSubtreeBuilder::new(alloc);
+    tokens.push(word(TRAIT))?;
+    tokens.push(comma())?;
+    tokens.push(word(ATTRIBUTES))?;
+    tokens.open()?;
+    tokens.push(word(first))?;
+    tokens.push(comma())?;
+    tokens.push(word(second))?;
+    let _ = tokens.close()?;
+    Ok(tokens.build())
+}
+
+/// What the arguments declare.
+fn read(
+    alloc: Global,
+    tokens: Option<TopSubtree>,
+) -> Result<Option<(Name, Vec<Name>)>, AllocError> {
+    match tokens {
+        Some(tokens) => parse_macro_name_and_helper_attrs(alloc, &tokens),
+        None => Ok(None),
+    }
 }
 
 #[test]
 fn derive_arguments_are_read(rt: HostRuntime) -> Result<(), Fail> {
     let alloc = rt.alloc();
-    let read = parse_macro_name_and_helper_attrs(alloc, &name_alone(alloc)?)?;
-    assert_eq!(rt; read, Some((TRAIT, Vec::new(alloc))));
-    let read = parse_macro_name_and_helper_attrs(alloc, &name_and_helpers(alloc)?)?;
-    assert_eq!(rt; read, Some((TRAIT, HELPERS.to_vec(alloc)?)));
-    let read = parse_macro_name_and_helper_attrs(alloc, &name_and_comma(alloc)?)?;
-    assert_eq!(rt; read, None);
+    let alone = read(alloc, name_alone(alloc)?)?;
+    assert_eq!(rt; alone, Some((TRAIT, Vec::new(alloc))));
+    let with_helpers = read(alloc, name_and_helpers(alloc)?)?;
+    assert_eq!(rt; with_helpers, Some((TRAIT, HELPERS.to_vec(alloc)?)));
+    let with_comma = read(alloc, name_and_comma(alloc)?)?;
+    assert_eq!(rt; with_comma, None);
     Ok(())
 }
