@@ -1,8 +1,8 @@
 //! Waves: what changed in a module travels along the edges of globs, to the end.
-ghost use Rattle.std.specs.Prelude.{◌≡◌, IfOk, OnOk};
-ghost use Rattle.def_bindings.specs.Puts.{puts};
+ghost use Rattle.std.specs.Prelude.{◌≡◌, [], ◌∷◌, ◌++◌, IfOk, OnErr, OnOk, cond, option_to_list};
+ghost use Rattle.def_bindings.specs.Puts.{copied, offered, put_entry, puts, slot_of};
 ghost use Rattle.def_parts.specs.Waves.{Copies, def_at};
-ghost use Rattle.def_parts.specs.Pending.{copied_all, reached, carried_by, ClosesPending, MendsPending};
+ghost use Rattle.def_parts.specs.Pending.{changed_at, copied_all, is_changed, reached, carried_by, ClosesPending, MendsPending};
 ghost use Rattle.def_parts.specs.Raised.{RaisesPending};
 ghost use Rattle.def_parts.specs.Globs.{Stays};
 
@@ -18,6 +18,44 @@ struct Frame {
     source: ModuleId,
     next: usize,
     slots: Vec<Slot>,
+}
+
+/// Puts an entry in a module, and answers its slot where that changed something. On `Err` the
+/// table stays.
+fn put_entry<T: BindingTable, O: VisOrder<Vis = T::Vis>>(
+    table: &mut T,
+    order: &O,
+    module: ModuleId,
+    entry: &Entry<T::Vis>,
+) -> Result<Option<Slot>, AllocError>
+    ensures done { IfOk result (λ slot. let c = T.content table.old in let o = O.order order.now in
+        (option_to_list slot ≡ changed_at o «module» (slot_of entry.now) (offered entry.now) c)
+        × (T.content table.new ≡ put_entry o «module» entry.now c)) }
+    ensures refused { OnErr result (T.content table.new ≡ T.content table.old) }
+{
+    let Some(slot) = slot_of_entry(entry) else {
+        return Ok(None);
+    };
+    let offer = Binding {
+        def: entry.def,
+        vis: entry.vis,
+        import: entry.origin,
+    };
+    if put_at(table, order, module, slot, offer)? {
+        return Ok(Some(slot));
+    }
+    Ok(None)
+}
+
+/// Adds a slot that changed, if one did. On `Err` the list stays.
+fn note(changed: &mut Vec<Slot>, slot: Option<Slot>) -> Result<(), AllocError>
+    ensures done { OnOk result (changed.new.items ≡ changed.old.items ++ option_to_list slot) }
+    ensures refused { OnErr result (changed.new.items ≡ changed.old.items) }
+{
+    if let Some(slot) = slot {
+        changed.push(slot)?;
+    }
+    Ok(())
 }
 
 /// Puts a list in a module, and answers the slots that changed, where the module has an edge to
@@ -39,18 +77,32 @@ pub fn put_list<T: BindingTable, O: VisOrder<Vis = T::Vis>>(
     let has_edge = table.edge_at(module, 0).is_some();
     let mut changed = Vec::new(alloc);
     for entry in list {
-        if let Some(slot) = slot_of_entry(entry) {
-            let offer = Binding {
-                def: entry.def,
-                vis: entry.vis,
-                import: entry.origin,
-            };
-            if put_at(table, order, module, slot, offer)? && has_edge {
-                changed.push(slot)?;
-            }
+        let slot = put_entry(table, order, module, entry)?;
+        if has_edge {
+            note(&mut changed, slot)?;
         }
     }
     Ok(changed)
+}
+
+/// Copies a slot along an edge, and answers it where that changed the importer. On `Err` the table
+/// stays.
+fn copy_slot<T: BindingTable, O: VisOrder<Vis = T::Vis>>(
+    table: &mut T,
+    order: &O,
+    source: ModuleId,
+    edge: EdgeTo<T::Vis>,
+    slot: Slot,
+) -> Result<Option<Slot>, AllocError>
+    ensures done { IfOk result (λ noted. let c = T.content table.old in let o = O.order order.now in
+        (option_to_list noted ≡ cond (is_changed o source edge slot c) (slot ∷ []) [])
+        × (T.content table.new ≡ copied o source edge slot c)) }
+    ensures refused { OnErr result (T.content table.new ≡ T.content table.old) }
+{
+    if copy_along(table, order, source, edge, slot)? {
+        return Ok(Some(slot));
+    }
+    Ok(None)
 }
 
 /// Copies slots along an edge, and answers those that changed the importer. On `Err` the first of
@@ -71,9 +123,8 @@ fn copy_all<T: BindingTable, O: VisOrder<Vis = T::Vis>>(
 {
     let mut changed = Vec::new(alloc);
     for slot in slots {
-        if copy_along(table, order, source, edge, *slot)? {
-            changed.push(*slot)?;
-        }
+        let copied = copy_slot(table, order, source, edge, *slot)?;
+        note(&mut changed, copied)?;
     }
     Ok(changed)
 }
