@@ -1,5 +1,4 @@
-//! One list of calls over both tables, and over one that finds a name's bindings, an unnamed trait
-//! and an edge by the calls that each table has.
+//! One list of calls over both tables.
 #![tactic(auto)]
 
 use def_bindings::{
@@ -9,72 +8,6 @@ use def_ids::{Def, GlobId, ModuleId, StructId, TraitId, UseId};
 use item_tree::{Crate, Name};
 use std::alloc::AllocError;
 use std::test::Fail;
-
-/// A table with no more than the calls that each table has.
-struct Plain<T> {
-    table: T,
-}
-
-impl<T: Drop> Drop for Plain<T> {
-    fn drop(self) {
-        let Plain { table: _ } = self;
-    }
-}
-
-impl<T: BindingTable> BindingTable for Plain<T> {
-    type Vis = T::Vis;
-
-    ghost content = { λ t. T.content t.table };
-
-    ghost sources = { λ t. T.sources t.table };
-
-    fn binding(&self, module: ModuleId, name: Name, ns: Namespace) -> Option<Binding<T::Vis>> {
-        self.table.binding(module, name, ns)
-    }
-
-    fn name_at(&self, module: ModuleId, index: usize) -> Option<Name> {
-        self.table.name_at(module, index)
-    }
-
-    fn unnamed_at(&self, module: ModuleId, index: usize) -> Option<(TraitId, T::Vis)> {
-        self.table.unnamed_at(module, index)
-    }
-
-    fn edge_at(&self, module: ModuleId, index: usize) -> Option<EdgeTo<T::Vis>> {
-        self.table.edge_at(module, index)
-    }
-
-    fn set(
-        &mut self,
-        module: ModuleId,
-        name: Name,
-        ns: Namespace,
-        binding: Binding<T::Vis>,
-    ) -> Result<(), AllocError> {
-        self.table.set(module, name, ns, binding)
-    }
-
-    fn remove(&mut self, module: ModuleId, name: Name, ns: Namespace) {
-        self.table.remove(module, name, ns)
-    }
-
-    fn set_unnamed(
-        &mut self,
-        module: ModuleId,
-        item: TraitId,
-        vis: T::Vis,
-    ) -> Result<(), AllocError> {
-        self.table.set_unnamed(module, item, vis)
-    }
-
-    fn set_edge(&mut self, module: ModuleId, edge: EdgeTo<T::Vis>) -> Result<(), AllocError> {
-        self.table.set_edge(module, edge)
-    }
-
-    ghost finite = { λ t. T.finite t.table };
-
-    ghost tied = { λ t. T.tied t.table };
-}
 
 fn module(index: usize) -> ModuleId {
     ModuleId {
@@ -163,18 +96,13 @@ fn are_alike<A: BindingTable<Vis = usize>, B: BindingTable<Vis = usize>>(a: &A, 
 }
 
 #[test]
-fn tables_answer_alike(rt: HostRuntime) -> Result<(), Fail> {
+fn both_tables_answer_alike(rt: HostRuntime) -> Result<(), Fail> {
     let mut scopes: ScopeTable<usize> = ScopeTable::new(rt.alloc())?;
     let mut numbers: NumberedTable<usize> = NumberedTable::new(rt.alloc())?;
-    let mut plain: Plain<ScopeTable<usize>> = Plain {
-        table: ScopeTable::new(rt.alloc())?,
-    };
     for k in 0..200 {
         call(&mut scopes, k)?;
         call(&mut numbers, k)?;
-        call(&mut plain, k)?;
         assert!(rt; are_alike(&scopes, &numbers), "after call {k}");
-        assert!(rt; are_alike(&scopes, &plain), "after call {k}");
     }
     assert!(rt; numbers.name_at(module(0), 0).is_some());
     assert!(rt; numbers.edge_at(module(0), 0).is_some());
