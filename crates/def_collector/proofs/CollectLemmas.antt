@@ -20,12 +20,13 @@ use Rattle.def_rules.specs.Crates.{deps_by_name, is_proc_macro_crate}
 use Rattle.def_rules.specs.Globs.{Targets}
 use Rattle.def_rules.specs.Headline.{Answers}
 use Rattle.def_rules.specs.Imports.{NoneReady}
-use Rattle.def_rules.specs.Report.{Answer, NoneFailed, IsFinished}
+use Rattle.def_rules.specs.Report.{Answer}
+use Rattle.def_laws.specs.Finished.{NoneFailed, IsFinished}
 use Rattle.def_rules.specs.Start.{first_tasks, seeded_state, started}
 use Rattle.def_rules.specs.State.{Setting, State, PendingImport, PartialImport}
-use Rattle.def_rules.specs.Steps.{Leads}
-use Rattle.def_rules.specs.BegunLaws.{begins_own}
-use Rattle.def_rules.specs.HeadlineLaws.{answers}
+use Rattle.def_laws.specs.Runs.{Leads}
+use Rattle.def_laws.proofs.BegunLaws.{begins_own}
+use Rattle.def_laws.proofs.HeadlineLaws.{answers}
 use Rattle.def_walk.specs.WaitingLaws.{waiting-nil}
 
 unmarked : (d : ModuleState) → ((name : Name) → d.failed name ≡ false) → All (λ (e : ModuleState). (name : Name) → e.failed name ≡ false) (d ∷ [])

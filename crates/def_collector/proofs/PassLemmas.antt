@@ -4,10 +4,10 @@ use Rattle.std.proofs.lemmas.Bool.{cases_lt}
 use Rattle.def_map.specs.Oracle.{Oracle}
 use Rattle.def_ids.specs.declared.interner.Interner.{Interner}
 use Rattle.def_walk.specs.declared.collector.DefCollector.{DefCollector}
-use Rattle.def_rules.specs.Turns.{Moves, turns_left}
+use Rattle.def_laws.specs.Turns.{Moves, turns_left}
 use Rattle.def_walk.specs.Collector.{state_of}
-use Rattle.def_rules.specs.Steps.{Leads}
-use Rattle.def_rules.specs.StepsLaws.{leads_refl, leads_trans}
+use Rattle.def_laws.specs.Runs.{Leads}
+use Rattle.def_laws.proofs.StepsLaws.{leads_refl, leads_trans}
 
 -- what holds once the first of the imports were tried: `Stays` says of a collector and a place that the import there is not ready
 pub record TriedSoFar (oracle : Oracle) (session : Interner) (Stays : DefCollector → ℕ → Type 0) (old new : DefCollector) (moved : Bool) (count : ℕ) : Type 0 where

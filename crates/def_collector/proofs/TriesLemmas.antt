@@ -15,11 +15,11 @@ use Rattle.def_steps.specs.declared.directive.PartialDirective.{PartialDirective
 use Rattle.def_walk.specs.Collector.{state_of, waiting}
 use Rattle.def_collector.specs.Collector.{IsUnready, IsUnreadyAgain}
 use Rattle.def_steps.specs.Shown.{kept_of, ns_set, partial_of, pending_of}
-use Rattle.def_rules.specs.Turns.{Moves, missing_from, turns_left}
-use Rattle.def_rules.specs.Performs.{Performs}
+use Rattle.def_laws.specs.Turns.{Moves, missing_from, turns_left}
+use Rattle.def_laws.specs.Performs.{Performs}
 use Rattle.def_rules.specs.Imports.{NoneReady, after_pending, answer_now, is_missing, is_ready, is_ready_again, kept_after, kept_list, no_namespaces, record_effect}
 use Rattle.def_rules.specs.State.{State, PartialImport, PendingImport}
-use Rattle.def_rules.specs.ImportsLaws.{moves_partial, moves_pending}
+use Rattle.def_laws.proofs.ImportsLaws.{moves_partial, moves_pending}
 use Rattle.def_walk.specs.WaitingLaws.{Around, around, waiting-all}
 
 -- an entry that was read stands at its place

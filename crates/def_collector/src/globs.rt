@@ -5,11 +5,11 @@ ghost use Rattle.def_ids.specs.declared.ids.Def.TheVariants as def_kind;
 ghost use Rattle.def_ids.specs.declared.interner.Interner.{Interner};
 ghost use Rattle.def_map.specs.Answers.{variants_of};
 ghost use Rattle.def_map.specs.Paths.{for_import, map_of, question};
-ghost use Rattle.def_rules.specs.Performs.{Performs};
+ghost use Rattle.def_laws.specs.Performs.{Performs, target_state};
 ghost use Rattle.def_steps.specs.Shown.{pending_of};
 ghost use Rattle.def_walk.specs.Collector.{state_of};
 ghost use Rattle.def_rules.specs.Globs.{module_entries, variant_entries};
-ghost use Rattle.def_rules.specs.Imports.{glob_edge, glob_id, glob_tasks, import_vis, is_own_crate, target_state, types_def};
+ghost use Rattle.def_rules.specs.Imports.{glob_edge, glob_id, glob_tasks, import_vis, is_own_crate, types_def};
 ghost use Rattle.def_rules.specs.State.{order, with_content, world};
 ghost use Rattle.def_parts.specs.Globs.{with_recorded};
 

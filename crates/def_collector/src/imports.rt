@@ -7,11 +7,11 @@ ghost use Rattle.def_bindings.specs.Visibility.{order_over};
 ghost use Rattle.def_walk.specs.Collector.{state_of, waiting};
 ghost use Rattle.def_collector.specs.Collector.{IsUnready, IsUnreadyAgain};
 ghost use Rattle.def_steps.specs.Shown.{kept_of, partial_of, pending_of};
-ghost use Rattle.def_rules.specs.Turns.{Moves, turns_left};
-ghost use Rattle.def_rules.specs.Performs.{Performs};
+ghost use Rattle.def_laws.specs.Turns.{Moves, turns_left};
+ghost use Rattle.def_laws.specs.Performs.{Performs};
 ghost use Rattle.def_rules.specs.Imports.{answer_now, bound_name, entry_of, import_vis, kept_list, named_entries, record_effect, record_tasks, NoneReady};
 ghost use Rattle.def_rules.specs.State.{order};
-ghost use Rattle.def_rules.specs.Steps.{Leads};
+ghost use Rattle.def_laws.specs.Runs.{Leads};
 
 use crate::globs::record_glob;
 use def_bindings::{Entry, ModuleTree, Namespace, Visibility, lesser_or_import};

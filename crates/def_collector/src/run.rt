@@ -7,13 +7,12 @@ ghost use Rattle.def_map.specs.DefMaps as whole;
 ghost use Rattle.def_map.specs.Fresh.{IsFresh};
 ghost use Rattle.def_modules.specs.Locals.{local_view};
 ghost use Rattle.def_modules.specs.Maps.{map_state};
-ghost use Rattle.def_walk.specs.Collector.{state_of};
-ghost use Rattle.def_walk.specs.Collector.{shown};
+ghost use Rattle.def_walk.specs.Collector.{state_of, shown};
 ghost use Rattle.def_collector.specs.Collector.{setting_of};
 ghost use Rattle.def_rules.specs.Headline.{Answers};
 ghost use Rattle.def_rules.specs.Imports.{NoneReady};
 ghost use Rattle.def_rules.specs.Start.{first_reports, first_tasks, first_tree, site_at, started};
-ghost use Rattle.def_rules.specs.Steps.{Leads};
+ghost use Rattle.def_laws.specs.Runs.{Leads};
 
 use crate::imports::resolve_imports;
 use crate::seeding::seed;

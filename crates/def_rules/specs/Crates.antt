@@ -25,8 +25,8 @@ use Rattle.def_oracle.specs.declared.source_database.LangCrate.{LangCrate}
 use Rattle.def_oracle.specs.declared.source_database.LangCrate.TheVariants.{Core, Std}
 use Rattle.def_modules.specs.MapState.{CrateState}
 use Rattle.def_modules.specs.MapView.{ExternCrateEntry, LocalView, empty_local}
-use Rattle.def_map.specs.Oracle.{Oracle}
-use Rattle.def_map.specs.Paths.{for_module, module_found, resolve}
+use Rattle.def_oracle.specs.Oracle.{Oracle}
+use Rattle.def_paths.specs.Paths.{for_module, module_found, resolve}
 use Rattle.def_modules.specs.Updates.{set_where}
 use Rattle.def_rules.specs.State.{State, root, world}
 

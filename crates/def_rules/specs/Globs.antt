@@ -1,5 +1,5 @@
 -- Globs: what one brings, what it was recorded with, and names that travel along edges.
-use Rattle.std.specs.Prelude.{◌≡◌, Bool, true, false, cond, ◌||◌, List, [], ◌∷◌, ◌++◌, Option, None, Some, unwrap_or}
+use Rattle.std.specs.Prelude.{Bool, true, false, cond, ◌||◌, List, [], ◌∷◌, ◌++◌, Option, None, Some, unwrap_or}
 use Rattle.std.specs.List.{flat_map}
 use Rattle.item_tree.specs.declared.name.Name.{Name}
 use Rattle.def_ids.specs.declared.ids.Def.{Def}
@@ -19,23 +19,9 @@ use Rattle.def_bindings.specs.Content.{Content}
 use Rattle.def_bindings.specs.Order.{Order}
 use Rattle.def_bindings.specs.Puts.{lessened}
 use Rattle.def_oracle.specs.declared.source_database.EnumVariant.{EnumVariant}
-use Rattle.def_map.specs.Answers.{variant_found}
+use Rattle.def_paths.specs.Answers.{variant_found}
 use Rattle.def_modules.specs.MapView.{MapView}
-use Rattle.def_map.specs.PerNs.{Item, kept}
-use Rattle.def_parts.specs.Globs.{Updates, ClosesTo, KeepsClosed, KeepsCoherent}
-use Rattle.def_parts.specs.Raised.{KeepsRaised, RaisesTo}
-use Rattle.def_parts.specs.Waves.{KeepsGlobs}
-
--- a list was put in a module, and what changed has travelled along the edges to the end: names stay closed and coherent, and raised where they keep their definition
-pub record Travels (o : Order Visibility) (at : ModuleId) (list : List (Entry Visibility)) (old new : Content Visibility) : Type 0 where
-  pub updates : Updates o at list old new
-  pub closes : ClosesTo o at list old new
-  pub closed : KeepsClosed o old new
-  pub coherent : KeepsCoherent o at list old new
-  pub raised : KeepsRaised o at list old new
-  pub raises : RaisesTo o at list old new
-  pub globs : KeepsGlobs at list old new
-  pub edges : new.edges ≡ old.edges
+use Rattle.def_paths.specs.PerNs.{Item, kept}
 
 -- What a glob brings
 

@@ -30,11 +30,11 @@ use Rattle.def_bindings.specs.Visibility.{order_over}
 use Rattle.def_modules.specs.MapState.{MapState}
 use Rattle.def_paths.specs.declared.asked.ResolvePathResult.{ResolvePathResult}
 use Rattle.def_paths.specs.declared.per_ns.PerNs.{PerNs}
-use Rattle.def_map.specs.Oracle.{Oracle}
-use Rattle.def_map.specs.Answers.{is_reached, variants_of}
-use Rattle.def_map.specs.Sources.{World}
-use Rattle.def_map.specs.Paths.{resolve, for_import, map_of, question, resolve_visibility}
-use Rattle.def_map.specs.PerNs.{Item, is_nothing, kept}
+use Rattle.def_oracle.specs.Oracle.{Oracle}
+use Rattle.def_paths.specs.Answers.{is_reached, variants_of}
+use Rattle.def_paths.specs.Sources.{World}
+use Rattle.def_paths.specs.Paths.{resolve, for_import, map_of, question, resolve_visibility}
+use Rattle.def_paths.specs.PerNs.{Item, is_nothing, kept}
 use Rattle.def_rules.specs.State.{State, Effect, followed_by, PendingImport, PartialImport, NsSet, Task, AddEdge, Recorded, noting, put_each, world, order}
 use Rattle.def_rules.specs.Globs.{Targets, is_public, module_entries, variant_entries, with_target}
 
@@ -241,10 +241,6 @@ targets_after kind.Plain glob given targets = targets
 targets_after kind.TypeOnly glob given targets = targets
 targets_after kind.Glob glob None targets = targets
 targets_after kind.Glob glob (Some d) targets = with_target glob d targets
-
--- the state in which a glob was recorded with this definition
-abbrev pub target_state : State → GlobId → Option Def → State
-target_state s glob given = record s { targets = targets_after kind.Glob glob given s.targets }
 
 -- the state in which an import was recorded with what its path gives, and nothing is put yet
 abbrev pub record_state : State → PendingImport → ResolvePathResult → State

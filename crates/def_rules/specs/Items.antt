@@ -46,8 +46,8 @@ use Rattle.def_modules.specs.MapState.{ModuleState}
 use Rattle.def_modules.specs.MapView.{ExternCrateEntry, LocalView}
 use Rattle.def_modules.specs.Updates.{set_where}
 use Rattle.def_modules.specs.Scopes.{declared_in, empty_module, with_child, with_extern_block, with_extern_crate, with_impl, with_unnamed_const}
-use Rattle.def_map.specs.Oracle.{Oracle}
-use Rattle.def_map.specs.Paths.{resolve_visibility}
+use Rattle.def_oracle.specs.Oracle.{Oracle}
+use Rattle.def_paths.specs.Paths.{resolve_visibility}
 use Rattle.def_parts.specs.Directories.{Directory, FoundFile, descend, files_of, resolve_declaration}
 use Rattle.def_rules.specs.declared.diagnostics.DefDiagnostic.{DefDiagnostic}
 use Rattle.def_rules.specs.declared.diagnostics.DefDiagnosticKind.{DefDiagnosticKind}

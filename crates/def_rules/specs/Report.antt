@@ -1,5 +1,5 @@
 -- What is answered of a run's end, and what is reported.
-use Rattle.std.specs.Prelude.{◌≡◌, ℕ, suc, Bool, true, false, cond, ◌&&◌, ◌||◌, nat_eq, All, List, [], ◌∷◌, ◌++◌, filter, map, Option, Some, Vec}
+use Rattle.std.specs.Prelude.{◌≡◌, ℕ, suc, Bool, true, false, cond, ◌&&◌, ◌||◌, nat_eq, List, [], ◌∷◌, ◌++◌, filter, map, Option, Some, Vec}
 use Rattle.std.specs.declared.alloc.Global.{Global}
 use Rattle.std.specs.List.{IsDistinct, flat_map}
 use Rattle.std.specs.Map.{keys_of, lookup}
@@ -120,15 +120,3 @@ pub record IsAnswerOf (end : State) (answer : Answer) : Type 0 where
   pub content : answer.content ≡ end.content
   pub local : answer.local ≡ end.local
   pub outcome : IsOutcome end answer.outcome
-
--- no name is marked as failed
-abbrev pub NoneFailed : MapState → Type 0
-NoneFailed m = All (λ d. (name : Name) → d.failed name ≡ false) m.modules
-
--- what is answered of this state: failed names are marked, and what is left over is answered and reported
-pub record IsFinished (end : State) (answer : Answer) : Type 0 where
-  pub map : NoneFailed end.map → answer.map ≡ marked end.map end.imports
-  pub content : answer.content ≡ end.content
-  pub local : answer.local ≡ end.local
-  pub outcome : IsOutcome end answer.outcome
-  pub reported : answer.diagnostics ≡ report end

@@ -7,8 +7,8 @@ use Rattle.def_bindings.specs.declared.bindings.Namespace.{Namespace}
 use Rattle.def_bindings.specs.declared.visibility.Visibility.{Visibility}
 use Rattle.def_bindings.specs.Content.{Content}
 use Rattle.def_bindings.specs.Puts.{IsExplicit}
-use Rattle.def_map.specs.Oracle.{Oracle}
-use Rattle.def_map.specs.PerNs.{in_namespace}
+use Rattle.def_oracle.specs.Oracle.{Oracle}
+use Rattle.def_paths.specs.PerNs.{in_namespace}
 use Rattle.def_rules.specs.State.{State, PendingImport, Event, PutExplicit, Recorded, Moment}
 use Rattle.def_rules.specs.Imports.{NoneReady, is_ready, answer_now, bound_name, keeps_ns}
 

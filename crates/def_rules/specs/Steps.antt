@@ -9,11 +9,10 @@ use Rattle.def_bindings.specs.declared.bindings.Slot.{Slot}
 use Rattle.def_bindings.specs.declared.visibility.Visibility.{Visibility}
 use Rattle.def_bindings.specs.Content.{Content}
 use Rattle.def_bindings.specs.Puts.{copied, glob_of, held, offered, put_entry}
-use Rattle.def_map.specs.Oracle.{Oracle}
+use Rattle.def_oracle.specs.Oracle.{Oracle}
 use Rattle.def_parts.specs.Globs.{with_recorded}
 use Rattle.def_parts.specs.Raised.{KeepsDef}
 use Rattle.def_rules.specs.State.{State, Effect, Task, Enter, Visit, Put, AddEdge, Event, PutExplicit, Moment, after, entered, only, with_state, with_content, order, Rearranges}
-use Rattle.def_rules.specs.Closed.{AreApart, IsRaisedIn, IsSound, KeepsSound, Stands}
 use Rattle.def_rules.specs.Imports.{ImportStep}
 use Rattle.def_rules.specs.Items.{Visits}
 
@@ -63,14 +62,6 @@ pub data Reaches (oracle : Oracle) : Moment → Moment → Type 0 where
   one : {a b : Moment} → Step oracle a b → Reaches oracle a b
   join : {a b c : Moment} → Reaches oracle a b → Reaches oracle b c → Reaches oracle a c
 
--- a moment with these tasks, this state and these events
-abbrev pub at : List Task → State → List Event → Moment
-at tasks state events = record { tasks = tasks; state = state; events = events }
-
--- from any moment with these tasks and this state a run leads to one with those
-abbrev pub Runs : Oracle → List Task → State → List Task → State → Type 0
-Runs oracle tasks s tasks' t = (before : List Event) → (now : List Event) × Reaches oracle (at tasks s before) (at tasks' t now)
-
 -- what a step keeps of a place: its definition, and what the source of an edge that is still to be added to its module binds at its slot
 pub record KeepsPlace (a b : Moment) (importer : ModuleId) (slot : Slot) : Type 0 where
   pub def : KeepsDef a.state.content b.state.content importer slot
@@ -82,14 +73,3 @@ abbrev pub IsKeptAlong : {oracle : Oracle} {a b : Moment} → Reaches oracle a b
 IsKeptAlong here importer slot = Unit {0}
 IsKeptAlong (one {a = a} {b = b} step) importer slot = KeepsPlace a b importer slot
 IsKeptAlong (join first second) importer slot = IsKeptAlong first importer slot × IsKeptAlong second importer slot
-
--- a place that no edge would raise stays so, where each step of the run keeps it
-abbrev pub StaysRaised : {oracle : Oracle} {tasks : List Task} {s : State} {tasks' : List Task} {t : State} → Runs oracle tasks s tasks' t → Type 0
-StaysRaised {s = s} {t = t} runs = (before : List Event) (importer : ModuleId) (slot : Slot) → IsKeptAlong (runs before).1 importer slot
-    → IsRaisedIn s importer slot → IsRaisedIn t importer slot
-
--- so does a run of whole waves: names that are closed and coherent along the globs stay so, and places stay raised
-pub record Leads (oracle : Oracle) (tasks : List Task) (s : State) (tasks' : List Task) (t : State) : Type 0 where
-  pub runs : Runs oracle tasks s tasks' t
-  pub keeps : KeepsSound tasks s t
-  pub raised : AreApart tasks s → Stands tasks s → IsSound s → StaysRaised runs

@@ -1,5 +1,5 @@
-//! The rules of definition collection: what a run is, what it answers and reports, and what follows
-//! of each run. The code that is proved to take such runs lies above.
+//! The rules of definition collection: what a run is, what it answers and what it reports. What
+//! follows of each run, and the code that is proved to take such runs, lie above.
 #![tactic(auto)]
 
 mod diagnostics;

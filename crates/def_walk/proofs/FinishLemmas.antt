@@ -28,11 +28,11 @@ use Rattle.def_modules.specs.Updates.{update_at}
 use Rattle.def_steps.specs.declared.directive.ImportDirective.{ImportDirective}
 use Rattle.def_rules.specs.declared.diagnostics.DefDiagnostic.{DefDiagnostic}
 use Rattle.def_rules.specs.declared.outcome.LeftImport.{LeftImport}
-use Rattle.def_walk.specs.Collector.{waiting}
-use Rattle.def_walk.specs.Collector.{left_in, marked_each, marked_once}
+use Rattle.def_walk.specs.Collector.{waiting, left_in, marked_each, marked_once}
 use Rattle.def_steps.specs.Shown.{pending_of, shown_edge}
 use Rattle.def_rules.specs.Imports.{bound_name}
-use Rattle.def_rules.specs.Report.{Answer, AreEdges, AreTargets, binds_name, is_left, leaves, left_import, listed_edge, marked, marked_from, NoneFailed, shown_targets, import_report, IsFinished}
+use Rattle.def_rules.specs.Report.{Answer, AreEdges, AreTargets, binds_name, is_left, leaves, left_import, listed_edge, marked, marked_from, shown_targets, import_report}
+use Rattle.def_laws.specs.Finished.{NoneFailed, IsFinished}
 use Rattle.def_rules.specs.State.{State, PendingImport}
 use Rattle.def_walk.specs.WaitingLaws.{waiting-nil, waiting_pushed, waiting_same}
 

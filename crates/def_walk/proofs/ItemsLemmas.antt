@@ -27,7 +27,7 @@ use Rattle.def_modules.specs.MapState.{MapState, ModuleState}
 use Rattle.def_map.specs.Oracle.{Oracle}
 use Rattle.def_modules.specs.Scopes.{declared_in, empty_module, with_child, with_extern_block, with_extern_crate, with_impl, with_unnamed_const}
 use Rattle.def_walk.specs.declared.collector.items.Written.{Written}
-use Rattle.def_rules.specs.Performs.{Handled, IsDone, Performs, Updated}
+use Rattle.def_laws.specs.Performs.{Handled, IsDone, Performs, Updated}
 use Rattle.def_walk.specs.Collector.{queued}
 use Rattle.def_rules.specs.Items.{add_module, crate_effect, crate_name, ctor_vis, declare, declared_entry, Handles, is_prelude_import, loc_of, module_item, named_crate, next_module, pending_imports, position_of, struct_effect, written_vis, container_of, declared_effect, Declares, noted_in, walk}
 use Rattle.def_parts.specs.Directories.{Directory}
@@ -35,8 +35,8 @@ use Rattle.def_rules.specs.State.{State, Effect, PendingImport, Site, Task, only
 use Rattle.item_tree.specs.declared.ids.ModItemId.{ModItemId}
 use Rattle.def_ids.specs.declared.ids.ItemContainerId.TheVariants as contained
 use Rattle.def_bindings.specs.declared.bindings.Namespace.{Namespace}
-use Rattle.def_rules.specs.WorkLaws.{crate_session}
-use Rattle.def_rules.specs.StepsLaws.{performs_none, performs_updated}
+use Rattle.def_laws.proofs.WorkLaws.{crate_session}
+use Rattle.def_laws.proofs.StepsLaws.{performs_none, performs_updated}
 
 module _ (oracle : Oracle) (s s1 t : State) (at : ModuleId) (name : Name) (d : Def) (vis : Visibility) (given : Option Visibility) where
   -- the entries of a struct were put

@@ -17,11 +17,11 @@ use Rattle.def_map.specs.Oracle.{Oracle}
 use Rattle.def_walk.specs.declared.collector.walk.Frame.{Frame}
 use Rattle.def_walk.specs.declared.collector.walk.ItemList.{ItemList}
 use Rattle.def_walk.specs.Collector.{AreKnown, agenda_of, frame_tasks, inner_of, is_frame_known, is_known, left_of, list_site, listed, tree_in, walk_measure}
-use Rattle.def_rules.specs.Work.{task_work, work}
+use Rattle.def_laws.specs.Work.{task_work, work}
 use Rattle.def_rules.specs.Items.{name_text, node_at, ordered, visits, walk}
 use Rattle.def_rules.specs.State.{State, Task, Enter, Visit, entered}
-use Rattle.def_rules.specs.Steps.{Leads}
-use Rattle.def_rules.specs.StepsLaws.{leads_enter, leads_trans}
+use Rattle.def_laws.specs.Runs.{Leads}
+use Rattle.def_laws.proofs.StepsLaws.{leads_enter, leads_trans}
 use Rattle.def_walk.proofs.WalkLemmas.{after_turn, agenda_of-one, agenda_of-push, frame_tasks-next, left_of-cons, measure_pushed, work_next}
 
 below : {X : Type 0} (P : X → Type 0) (xs : List X) (x : X) → All P (xs ++ x ∷ []) → All P xs

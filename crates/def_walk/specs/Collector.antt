@@ -30,7 +30,7 @@ use Rattle.def_parts.specs.Directories.{FoundFile}
 use Rattle.indexmap.specs.IndexMap.{get}
 use Rattle.def_rules.specs.Items.{visits, walk}
 use Rattle.def_rules.specs.Report.{Answer}
-use Rattle.def_rules.specs.Work.{work}
+use Rattle.def_laws.specs.Work.{work}
 use Rattle.def_rules.specs.State.{State, PendingImport, Site, Task}
 
 -- the entries of a list that are still there

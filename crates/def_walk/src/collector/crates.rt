@@ -5,7 +5,7 @@ ghost use Rattle.def_map.specs.Oracle.{Oracle};
 ghost use Rattle.def_walk.specs.Collector.{site_of, state_of};
 ghost use Rattle.def_rules.specs.declared.diagnostics.DefDiagnosticKind.TheVariants.{UnresolvedExternCrate};
 ghost use Rattle.def_rules.specs.Items as items;
-ghost use Rattle.def_rules.specs.Performs.{Performs, Updated};
+ghost use Rattle.def_laws.specs.Performs.{Performs, Updated};
 ghost use Rattle.def_rules.specs.State.{reported, with_missing};
 
 use super::DefCollector;

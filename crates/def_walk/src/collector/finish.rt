@@ -4,9 +4,9 @@ ghost use Rattle.std.specs.List.{flat_map};
 ghost use Rattle.def_steps.specs.Shown.{missing_in, pending_of};
 ghost use Rattle.def_ids.specs.declared.interner.Interner.{Interner};
 ghost use Rattle.def_modules.specs.Maps.{map_state};
-ghost use Rattle.def_walk.specs.Collector.{state_of};
-ghost use Rattle.def_walk.specs.Collector.{left_in, marked_each, shown};
-ghost use Rattle.def_rules.specs.Report.{import_report, left_import, IsFinished};
+ghost use Rattle.def_walk.specs.Collector.{state_of, left_in, marked_each, shown};
+ghost use Rattle.def_rules.specs.Report.{import_report, left_import};
+ghost use Rattle.def_laws.specs.Finished.{IsFinished};
 
 use super::DefCollector;
 use def_map::{DefMap, MapData};

@@ -3,7 +3,7 @@ ghost use Rattle.std.specs.Prelude.{◌≡◌, ◌∷◌, ◌++◌, [], length, 
 ghost use Rattle.def_ids.specs.Session.{AddsLocations, session_of};
 ghost use Rattle.def_walk.specs.Collector.{AreKnown, inner_of, queued, site_of, state_of, waiting};
 ghost use Rattle.def_steps.specs.Shown.{pending_of};
-ghost use Rattle.def_rules.specs.Performs.{Handled, Performs, Updated};
+ghost use Rattle.def_laws.specs.Performs.{Handled, Performs, Updated};
 ghost use Rattle.def_rules.specs.State.{order};
 ghost use Rattle.def_ids.specs.declared.interner.Interner.{Interner};
 ghost use Rattle.def_map.specs.Oracle.{Oracle};

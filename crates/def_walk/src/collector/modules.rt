@@ -8,7 +8,7 @@ ghost use Rattle.def_ids.specs.declared.interner.Interner.{Interner};
 ghost use Rattle.def_ids.specs.Session as sessions;
 ghost use Rattle.def_modules.specs.declared.module_data.ModuleOrigin.TheVariants as origin_kind;
 ghost use Rattle.def_walk.specs.Collector.{AreKnown, found_in, inner_of, site_of, state_of};
-ghost use Rattle.def_rules.specs.Performs.{IsDone, Updated};
+ghost use Rattle.def_laws.specs.Performs.{IsDone, Updated};
 ghost use Rattle.def_rules.specs.Items as items;
 ghost use Rattle.def_rules.specs.Items.{add_module, declared_entry, diagnostic, module_item, next_module, outline_found, outline_item, tree_cfg};
 ghost use Rattle.def_rules.specs.State.{reported};

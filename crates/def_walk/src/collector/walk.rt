@@ -5,10 +5,10 @@ ghost use Rattle.item_tree.specs.Trees.{item_at};
 ghost use Rattle.def_ids.specs.declared.interner.Interner.{Interner};
 ghost use Rattle.def_ids.specs.Session.{AddsLocations, session_of};
 ghost use Rattle.def_walk.specs.Collector.{AreKnown, frame_tasks, inner_of, is_frame_known, is_known, left_of, list_site, listed, state_of, tree_in};
-ghost use Rattle.def_rules.specs.Work.{task_work, work};
+ghost use Rattle.def_laws.specs.Work.{task_work, work};
 ghost use Rattle.def_rules.specs.Items.{name_text, ordered, walk};
 ghost use Rattle.def_rules.specs.State.{Task, Visit, entered};
-ghost use Rattle.def_rules.specs.Steps.{Leads};
+ghost use Rattle.def_laws.specs.Runs.{Leads};
 
 use super::DefCollector;
 use def_ids::{Interner, ItemContainerId, ModuleId};

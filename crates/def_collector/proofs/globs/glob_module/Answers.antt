@@ -2,7 +2,7 @@ use Rattle.std.proofs.Common.{ap, sym, ◌∙◌}
 use Rattle.def_walk.specs.declared.collector.DefCollector.{DefCollector}
 use Rattle.def_walk.specs.Collector.{state_of}
 use Rattle.def_rules.specs.Imports.{is_own_crate}
-use Rattle.def_rules.specs.GlobsLaws.{performs_foreign, performs_own}
+use Rattle.def_laws.proofs.GlobsLaws.{performs_foreign, performs_own}
 use Rattle.def_collector.proofs.globs.glob_module.Goals as goal
 
 pub returns-then-not-is_own_crate-clause-performs :

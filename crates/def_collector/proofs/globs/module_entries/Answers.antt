@@ -3,7 +3,7 @@ use Rattle.def_map.specs.DefMaps.{view_of}
 use Rattle.def_modules.specs.Tables.{bound_by}
 use Rattle.def_walk.specs.Collector.{state_of}
 use Rattle.def_walk.specs.ResultLaws.{if_ok}
-use Rattle.def_rules.specs.GlobsLaws.{entries_elsewhere, entries_here}
+use Rattle.def_laws.proofs.GlobsLaws.{entries_elsewhere, entries_here}
 use Rattle.def_collector.proofs.globs.module_entries.Goals as goal
 
 pub returns-then-eq : goal.returns-then-eq

@@ -1,10 +1,10 @@
 use Rattle.std.proofs.Common.{◌≡◌, List, [], Some, ap, inl, inr, refl, subst, sym, ◌∙◌}
 use Rattle.def_ids.specs.declared.ids.Def.{Def}
-use Rattle.def_rules.specs.Performs.{Performs}
+use Rattle.def_laws.specs.Performs.{Performs}
 use Rattle.def_walk.specs.Collector.{state_of}
 use Rattle.def_rules.specs.Imports.{glob_tasks}
 use Rattle.def_rules.specs.State.{Task, world}
-use Rattle.def_rules.specs.StepsLaws.{performs_listed, performs_none}
+use Rattle.def_laws.proofs.StepsLaws.{performs_listed, performs_none}
 use Rattle.def_collector.proofs.globs.put_glob.Goals as goal
 
 pub returns-in_ok-glob_module-in-Module-clause-performs : goal.returns-in_ok-glob_module-in-Module-clause-performs

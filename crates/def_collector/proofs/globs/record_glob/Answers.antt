@@ -5,7 +5,7 @@ use Rattle.def_bindings.specs.declared.visibility.Visibility.{Visibility}
 use Rattle.def_steps.specs.Shown.{pending_of}
 use Rattle.def_walk.specs.Collector.{state_of}
 use Rattle.def_rules.specs.Globs.{Targets}
-use Rattle.def_rules.specs.GlobsLaws.{glob_nothing, glob_recorded}
+use Rattle.def_laws.proofs.GlobsLaws.{glob_nothing, glob_recorded}
 use Rattle.def_collector.proofs.globs.record_glob.Goals as goal
 
 pub returns-in_default-clause-performs : goal.returns-in_default-clause-performs

@@ -1,6 +1,6 @@
 use Rattle.std.proofs.Common.{◌∙◌}
 use Rattle.def_walk.specs.Collector.{state_of}
-use Rattle.def_rules.specs.StepsLaws.{performs_listed}
+use Rattle.def_laws.proofs.StepsLaws.{performs_listed}
 use Rattle.def_collector.proofs.imports.record_named.Goals as goal
 
 pub returns-clause-performs : goal.returns-clause-performs

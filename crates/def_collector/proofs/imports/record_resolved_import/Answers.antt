@@ -1,7 +1,7 @@
 use Rattle.std.proofs.Common.{refl, sym, ◌∙◌}
 use Rattle.def_steps.specs.Shown.{pending_of}
 use Rattle.def_walk.specs.Collector.{state_of}
-use Rattle.def_rules.specs.GlobsLaws.{recorded_named, recorded_prelude}
+use Rattle.def_laws.proofs.GlobsLaws.{recorded_named, recorded_prelude}
 use Rattle.def_collector.proofs.imports.record_resolved_import.Goals as goal
 
 pub returns-in_ok-record_named-in-Plain-clause-performs :

@@ -1,8 +1,8 @@
 use Rattle.std.proofs.Common.{◌≡◌, ◌<◌, ◌||◌, [], ap, sym, subst, ◌∙◌}
 use Rattle.def_walk.specs.Collector.{state_of}
-use Rattle.def_rules.specs.Turns.{turns_left}
-use Rattle.def_rules.specs.Steps.{Leads}
-use Rattle.def_rules.specs.StepsLaws.{leads_trans}
+use Rattle.def_laws.specs.Turns.{turns_left}
+use Rattle.def_laws.specs.Runs.{Leads}
+use Rattle.def_laws.proofs.StepsLaws.{leads_trans}
 use Rattle.def_collector.proofs.TriesLemmas.{fewer_after_both, settled_after_both}
 use Rattle.def_collector.proofs.imports.resolve_imports.Goals as goal
 use Rattle.def_collector.proofs.imports.resolve_imports.Goals.{then-unresolved, else-unresolved}

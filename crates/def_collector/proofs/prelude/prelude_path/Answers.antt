@@ -1,5 +1,5 @@
 use Rattle.std.proofs.Common.{◌∙◌}
-use Rattle.def_rules.specs.StartLaws.{path_of_three}
+use Rattle.def_laws.proofs.StartLaws.{path_of_three}
 use Rattle.def_collector.proofs.prelude.prelude_path.Goals as goal
 
 pub returns : goal.returns

@@ -1,5 +1,5 @@
-use Rattle.def_rules.specs.RecordLaws.{on_ok}
-use Rattle.def_rules.specs.StepsLaws.{leads_trans}
+use Rattle.def_laws.proofs.RecordLaws.{on_ok}
+use Rattle.def_laws.proofs.StepsLaws.{leads_trans}
 use Rattle.def_collector.proofs.run.collect.Goals as goal
 
 pub returns-clause-run : goal.returns-clause-run

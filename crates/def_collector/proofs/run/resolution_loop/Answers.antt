@@ -1,6 +1,6 @@
 use Rattle.std.proofs.Common.{[]}
 use Rattle.def_walk.specs.Collector.{state_of}
-use Rattle.def_rules.specs.StepsLaws.{leads_refl, leads_trans}
+use Rattle.def_laws.proofs.StepsLaws.{leads_refl, leads_trans}
 use Rattle.def_collector.proofs.run.resolution_loop.Goals as goal
 
 pub resolve_imports-init : goal.resolve_imports-init

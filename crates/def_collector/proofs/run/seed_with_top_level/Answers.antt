@@ -1,7 +1,7 @@
 use Rattle.std.proofs.Common.{◌∙◌}
 use Rattle.def_walk.specs.Collector.{state_of}
-use Rattle.def_rules.specs.RecordLaws.{on_ok}
-use Rattle.def_rules.specs.StartLaws.{attrs_of, cfg_of, starts_disabled, starts_walked, tops_of}
+use Rattle.def_laws.proofs.RecordLaws.{on_ok}
+use Rattle.def_laws.proofs.StartLaws.{attrs_of, cfg_of, starts_disabled, starts_walked, tops_of}
 use Rattle.def_collector.proofs.run.seed_with_top_level.Goals as goal
 
 pub returns-in-Some-clause-run : goal.returns-in-Some-clause-run

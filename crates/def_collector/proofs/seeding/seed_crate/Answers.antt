@@ -1,5 +1,5 @@
 use Rattle.def_walk.specs.Collector.{state_of}
-use Rattle.def_rules.specs.StartLaws.{crate_seeded}
+use Rattle.def_laws.proofs.StartLaws.{crate_seeded}
 use Rattle.def_collector.proofs.seeding.seed_crate.Goals as goal
 
 pub returns : goal.returns

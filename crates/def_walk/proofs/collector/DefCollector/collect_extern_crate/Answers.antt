@@ -2,9 +2,9 @@ use Rattle.std.proofs.Common.{[], ◌∷◌, Option, Some, None, subst, sym}
 use Rattle.def_ids.specs.declared.ids.ModuleId.{ModuleId}
 use Rattle.def_walk.specs.Collector.{site_of, state_of}
 use Rattle.def_rules.specs.Items.{crate_effect, crate_entry}
-use Rattle.def_rules.specs.Performs.{Performs}
+use Rattle.def_laws.specs.Performs.{Performs}
 use Rattle.def_rules.specs.State.{Effect, State}
-use Rattle.def_rules.specs.StepsLaws.{performs_none, performs_updated}
+use Rattle.def_laws.proofs.StepsLaws.{performs_none, performs_updated}
 use Rattle.def_walk.proofs.collector.DefCollector.collect_extern_crate.Goals as goal
 
 pub returns-in_ok-put_crate-in-Some : goal.returns-in_ok-put_crate-in-Some

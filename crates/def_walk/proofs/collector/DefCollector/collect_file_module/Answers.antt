@@ -1,8 +1,8 @@
 use Rattle.std.proofs.Common.{◌∙◌}
 use Rattle.def_walk.specs.Collector.{found_in, site_of, state_of}
 use Rattle.def_rules.specs.Items.{file_tree}
-use Rattle.def_rules.specs.ModulesLaws.{file_disabled, file_opened}
-use Rattle.def_rules.specs.StartLaws.{cfg_of, tops_of}
+use Rattle.def_laws.proofs.ModulesLaws.{file_disabled, file_opened}
+use Rattle.def_laws.proofs.StartLaws.{cfg_of, tops_of}
 use Rattle.def_walk.proofs.collector.DefCollector.collect_file_module.Goals as goal
 
 pub returns-in-Some-clause-done : goal.returns-in-Some-clause-done

@@ -5,7 +5,7 @@ use Rattle.def_ids.specs.Session.{session_of}
 use Rattle.def_walk.specs.Collector.{site_of, state_of}
 use Rattle.def_rules.specs.Items.{name_text}
 use Rattle.def_rules.specs.State.{State}
-use Rattle.def_rules.specs.ModulesLaws.{asked_files, file_missing, IsPushed}
+use Rattle.def_laws.proofs.ModulesLaws.{asked_files, file_missing, IsPushed}
 use Rattle.def_walk.proofs.collector.DefCollector.collect_outline_module.Goals as goal
 
 pub returns-in_ok-push_child_module-in-Err-clause-done : goal.returns-in_ok-push_child_module-in-Err-clause-done

@@ -3,9 +3,9 @@ use Rattle.def_ids.specs.Session.{session_of}
 use Rattle.def_walk.specs.Collector.{inner_of, list_site, state_of}
 use Rattle.def_rules.specs.Items.{name_text}
 use Rattle.def_walk.specs.ResultLaws.{if_ok}
-use Rattle.def_rules.specs.StepsLaws.{leads_disabled, leads_handled, leads_nothing}
+use Rattle.def_laws.proofs.StepsLaws.{leads_disabled, leads_handled, leads_nothing}
 use Rattle.def_walk.proofs.VisitLemmas.{node_of, texts_same}
-use Rattle.def_rules.specs.WorkLaws.{handled_less, nothing_less}
+use Rattle.def_laws.proofs.WorkLaws.{handled_less, nothing_less}
 use Rattle.def_walk.proofs.collector.DefCollector.visit.Goals as goal
 
 pub returns-in_default-clause-run : goal.returns-in_default-clause-run

@@ -3,8 +3,8 @@ use Rattle.def_ids.specs.Session.{session_of}
 use Rattle.def_ids.specs.SessionLaws.{adds_refl, adds_trans}
 use Rattle.def_walk.specs.Collector.{agenda_of, is_frame_known, is_known, list_site, state_of}
 use Rattle.def_rules.specs.Items.{name_text, walk}
-use Rattle.def_rules.specs.Steps.{Leads}
-use Rattle.def_rules.specs.StepsLaws.{leads_trans}
+use Rattle.def_laws.specs.Runs.{Leads}
+use Rattle.def_laws.proofs.StepsLaws.{leads_trans}
 use Rattle.def_walk.proofs.VisitLemmas.{all_below, all_last, all_none, all_pushed, done_fewer, empty_list, fewer_still, opened_fewer, opened_known, opens, walk_begins, walked}
 use Rattle.def_walk.proofs.WalkLemmas.{agenda_of-none}
 use Rattle.def_walk.proofs.collector.DefCollector.walk.Goals as goal

@@ -2,7 +2,7 @@ use Rattle.std.proofs.Common.{◌≡◌, All}
 use Rattle.def_ids.specs.Session.{AddsLocations, session_of}
 use Rattle.def_walk.specs.Collector.{agenda_of, is_frame_known, list_site, state_of, walk_measure}
 use Rattle.def_rules.specs.Items.{name_text, walk}
-use Rattle.def_rules.specs.Steps.{Leads}
+use Rattle.def_laws.specs.Runs.{Leads}
 use Rattle.def_walk.proofs.collector.DefCollector.walk.Given as goal
 
 abbrev pub invariant-frames : goal.invariant-frames

@@ -2,7 +2,7 @@ use Rattle.std.proofs.Common.{None, Some, refl, subst, ◌∙◌, arith}
 use Rattle.def_ids.specs.Session.{session_of}
 use Rattle.def_ids.specs.SessionLaws.{adds_refl, adds_trans}
 use Rattle.def_rules.specs.Items.{name_text}
-use Rattle.def_rules.specs.StepsLaws.{leads_refl, leads_trans}
+use Rattle.def_laws.proofs.StepsLaws.{leads_refl, leads_trans}
 use Rattle.def_walk.specs.Collector.{AreKnown, state_of}
 use Rattle.def_walk.proofs.VisitLemmas.{none_left, shorter, visited, visited_fewer, visited_within}
 use Rattle.def_walk.proofs.collector.DefCollector.walk_list.Goals as goal

@@ -3,8 +3,8 @@ use Rattle.def_ids.specs.Session.{AddsLocations, session_of}
 use Rattle.def_walk.specs.Collector.{frame_tasks, is_frame_known, left_of, state_of}
 use Rattle.def_rules.specs.Items.{name_text}
 use Rattle.def_rules.specs.State.{Task}
-use Rattle.def_rules.specs.Steps.{Leads}
-use Rattle.def_rules.specs.Work.{work}
+use Rattle.def_laws.specs.Runs.{Leads}
+use Rattle.def_laws.specs.Work.{work}
 use Rattle.def_walk.proofs.collector.DefCollector.walk_list.Given as goal
 
 abbrev pub invariant-items : goal.invariant-items

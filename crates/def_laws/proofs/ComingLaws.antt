@@ -1,0 +1,147 @@
+-- What was recorded of imports is bound or still to be put, and steps keep that.
+use Rattle.std.proofs.Common.{◌≡◌, ◌⊎◌, inl, inr, Bool, true, false, List, [], ◌∷◌, ◌++◌, Option, Some, None, Contains, IsPermutation, ap, ◌∙◌, subst, arith}
+use Rattle.std.proofs.lemmas.List.Elements.{Contains-append_right}
+use Rattle.std.proofs.lemmas.List.Sorted.{Contains-permutation, IsPermutation-sym}
+use Rattle.item_tree.specs.declared.ids.ModItemId.{ModItemId}
+use Rattle.item_tree.specs.declared.name.Name.{Name}
+use Rattle.def_ids.specs.declared.ids.GlobId.{GlobId}
+use Rattle.def_ids.specs.declared.ids.ModuleId.{ModuleId}
+use Rattle.def_bindings.specs.declared.bindings.EdgeTo.{EdgeTo}
+use Rattle.def_bindings.specs.declared.bindings.Entry.{Entry}
+use Rattle.def_bindings.specs.declared.bindings.Namespace.{Namespace}
+use Rattle.def_bindings.specs.declared.bindings.Namespace.TheVariants.{Types, Values, Macros}
+use Rattle.def_bindings.specs.declared.bindings.Slot.TheVariants.{Named}
+use Rattle.def_bindings.specs.declared.visibility.Visibility.{Visibility}
+use Rattle.def_bindings.specs.Closure.{IsBound}
+use Rattle.def_bindings.specs.Content.{Content}
+use Rattle.def_bindings.specs.Order.{Order}
+use Rattle.def_bindings.specs.Puts.{offered, put_entry}
+use Rattle.def_bindings.specs.PutsLaws.{bound_stays-put_entry, bound_after-put_name}
+use Rattle.def_rules.specs.Imports.{bound_name, is_full, keeps_ns}
+use Rattle.def_parts.specs.Directories.{Directory}
+use Rattle.def_rules.specs.State.{Event, PutExplicit, Recorded, NsSet, PendingImport, PartialImport, Site, Task, Enter, Visit, Put, AddEdge}
+use Rattle.def_rules.specs.Steps.{event_of}
+use Rattle.def_laws.proofs.ListLaws.{contains_cases}
+
+-- whether a set has a namespace
+abbrev pub has_ns : NsSet → Namespace → Bool
+has_ns set Types = set.types
+has_ns set Values = set.values
+has_ns set Macros = set.macros
+
+-- an entry of this name and namespace is still to be put
+pub record IsAhead (tasks : List Task) (at : ModuleId) (name : Name) (ns : Namespace) : Type 0 where
+  pub entry : Entry Visibility
+  pub ahead : Contains tasks (Put at entry)
+  pub named : entry.name ≡ Some name
+  pub within : entry.ns ≡ ns
+
+-- a place is bound, or an entry for it is still to be put
+abbrev pub IsComing : Content Visibility → List Task → ModuleId → Name → Namespace → Type 0
+IsComing content tasks at name ns = IsBound content at (Named name ns) ⊎ IsAhead tasks at name ns
+
+-- each namespace of this set is bound at the import's name, or is still to be put
+abbrev pub HasEach : Content Visibility → List Task → PendingImport → NsSet → Type 0
+HasEach content tasks p set =
+    (name : Name) (ns : Namespace) → bound_name p.import ≡ Some (Some name) → keeps_ns p.import.kind ns ≡ true → has_ns set ns ≡ true → IsComing content tasks p.scope name ns
+
+-- an import that was recorded from its own crate has a set of namespaces that are bound: all, or those with which it is partial
+pub record HasSet (partial : List PartialImport) (content : Content Visibility) (tasks : List Task) (p : PendingImport) : Type 0 where
+  pub set : NsSet
+  pub stays : (is_full set ≡ true) ⊎ Contains partial (record { pending = p; recorded = set })
+  pub each : HasEach content tasks p set
+
+-- what was recorded is bound or still to be put, of the partial imports and of those that were recorded
+pub record Covers (partial : List PartialImport) (content : Content Visibility) (tasks : List Task) (events : List Event) : Type 0 where
+  pub partly : (x : PartialImport) → Contains partial x → HasEach content tasks x.pending x.recorded
+  pub recorded : (p : PendingImport) → Contains events (Recorded p false) → Contains events (Recorded p true) ⊎ HasSet partial content tasks p
+
+-- what is coming stays so
+abbrev pub KeepsComing : Content Visibility → List Task → Content Visibility → List Task → Type 0
+KeepsComing content tasks content' tasks' = (at : ModuleId) (name : Name) (ns : Namespace) → IsComing content tasks at name ns → IsComing content' tasks' at name ns
+
+-- what was recorded is covered where what is coming stays so, and no other import was recorded
+pub covers-kept : (partial partial' : List PartialImport) (content content' : Content Visibility) (tasks tasks' : List Task) (events events' : List Event)
+    → KeepsComing content tasks content' tasks' → IsPermutation partial partial' → ((e : Event) → Contains events e → Contains events' e)
+    → ((p : PendingImport) → Contains events' (Recorded p false) → Contains events (Recorded p false)) → Covers partial content tasks events → Covers partial' content' tasks' events'
+covers-kept partial partial' content content' tasks tasks' events events' keeps same more fewer all =
+    record {
+      partly = λ x stands name ns named kind has. keeps x.pending.scope name ns (all.partly x (Contains-permutation partial' partial x (IsPermutation-sym partial partial' same) stands) name ns named kind has);
+      recorded = λ p happened. elim (all.recorded p (fewer p happened)) [
+        | inl foreign ↦ inl (more (Recorded p true) foreign)
+        | inr has ↦ inr (still p has)
+      ];
+    }
+  where
+    stays : (p : PendingImport) (set : NsSet) → (is_full set ≡ true) ⊎ Contains partial (record { pending = p; recorded = set }) → (is_full set ≡ true) ⊎ Contains partial' (record { pending = p; recorded = set })
+    stays p set (inl full) = inl full
+    stays p set (inr stands) = inr (Contains-permutation partial partial' (record { pending = p; recorded = set }) same stands)
+
+    still : (p : PendingImport) → HasSet partial content tasks p → HasSet partial' content' tasks' p
+    still p has = record { set = has.set; stays = stays p has.set has.stays; each = λ name ns named kind is. keeps p.scope name ns (has.each name ns named kind is) }
+
+-- What each step but a recorded import keeps
+
+-- what is ahead of nothing to do is nowhere
+pub none_ahead : (at : ModuleId) (name : Name) (ns : Namespace) → IsAhead [] at name ns → ⊥
+none_ahead at name ns ahead = let none = ahead.ahead.1 in omega arith
+
+-- where nothing is left to do, what is coming is bound
+pub bound_now : (content : Content Visibility) (tasks : List Task) (at : ModuleId) (name : Name) (ns : Namespace) → tasks ≡ [] → IsComing content tasks at name ns → IsBound content at (Named name ns)
+bound_now content tasks at name ns idle (inl bound) = bound
+bound_now content tasks at name ns idle (inr ahead) = absurd (none_ahead at name ns (subst (λ l. IsAhead l at name ns) idle ahead))
+
+-- where what is bound stays so and the tasks are the same or more, what is coming stays so
+pub keeps_coming : (content content' : Content Visibility) (tasks tasks' : List Task) → ((at : ModuleId) (name : Name) (ns : Namespace) → IsBound content at (Named name ns) → IsBound content' at (Named name ns))
+    → ((at : ModuleId) (entry : Entry Visibility) → Contains tasks (Put at entry) → Contains tasks' (Put at entry)) → KeepsComing content tasks content' tasks'
+keeps_coming content content' tasks tasks' bound more at name ns (inl now) = inl (bound at name ns now)
+keeps_coming content content' tasks tasks' bound more at name ns (inr ahead) = inr (record { entry = ahead.entry; ahead = more at ahead.entry ahead.ahead; named = ahead.named; within = ahead.within })
+
+-- a visit leaves what is ahead
+pub visit_ahead : (site : Site) (id : ModItemId) (rest more : List Task) (at : ModuleId) (entry : Entry Visibility) → Contains (Visit site id ∷ rest) (Put at entry) → Contains (more ++ rest) (Put at entry)
+visit_ahead site id rest more at entry h =
+    elim (contains_cases (Visit site id) (Put at entry) rest h) [
+      | inl same ↦ absurd (cc same)
+      | inr later ↦ Contains-append_right more rest (Put at entry) later
+    ]
+
+-- so does a directory that is stored
+pub enter_ahead : (place : ModuleId) (directory : Directory) (rest : List Task) (at : ModuleId) (entry : Entry Visibility) → Contains (Enter place directory ∷ rest) (Put at entry) → Contains rest (Put at entry)
+enter_ahead place directory rest at entry h =
+    elim (contains_cases (Enter place directory) (Put at entry) rest h) [
+      | inl same ↦ absurd (cc same)
+      | inr later ↦ later
+    ]
+
+-- an added edge leaves what is ahead
+pub edge_ahead : (source : ModuleId) (edge : EdgeTo Visibility) (rest : List Task) (at : ModuleId) (entry : Entry Visibility) → Contains (AddEdge source edge ∷ rest) (Put at entry) → Contains rest (Put at entry)
+edge_ahead source edge rest at entry h =
+    elim (contains_cases (AddEdge source edge) (Put at entry) rest h) [
+      | inl same ↦ absurd (cc same)
+      | inr later ↦ later
+    ]
+
+-- what is put is bound
+pub put_keeps : (o : Order Visibility) (place : ModuleId) (entry : Entry Visibility) (content : Content Visibility) (rest : List Task) → KeepsComing content (Put place entry ∷ rest) (put_entry o place entry content) rest
+put_keeps o place entry content rest at name ns (inl now) = inl (bound_stays-put_entry o place entry content at (Named name ns) now)
+put_keeps o place entry content rest at name ns (inr ahead) =
+    elim (contains_cases (Put place entry) (Put at ahead.entry) rest ahead.ahead) [
+      | inl same ↦ let here : place ≡ at = cc in let it : entry ≡ ahead.entry = cc in inl (bound_put here it)
+      | inr later ↦ inr (record { entry = ahead.entry; ahead = later; named = ahead.named; within = ahead.within })
+    ]
+  where
+    bound_put : place ≡ at → entry ≡ ahead.entry → IsBound (put_entry o place entry content) at (Named name ns)
+    bound_put p e =
+        let named : entry.name ≡ Some name = ap (λ (x : Entry Visibility). x.name) e ∙ ahead.named in
+        let within : entry.ns ≡ ns = ap (λ (x : Entry Visibility). x.ns) e ∙ ahead.within in
+        subst (λ k. IsBound (put_entry o place entry content) at (Named name k)) within (subst (λ m. IsBound (put_entry o place entry content) m (Named name entry.ns)) p (bound_after-put_name o place entry name content named))
+
+-- a put notes no recorded import
+pub unrecorded : (place : ModuleId) (entry : Entry Visibility) (p : PendingImport) (foreign : Bool) (g : Option GlobId) (n : Option Name) → Contains (event_of place entry g n) (Recorded p foreign) → ⊥
+unrecorded place entry p foreign None (Some name) h =
+    elim (contains_cases (PutExplicit place name entry.ns (offered entry)) (Recorded p foreign) [] h) [
+      | inl same ↦ cc same
+      | inr none ↦ let wrong = none.1 in omega arith
+    ]
+unrecorded place entry p foreign None None h = let wrong = h.1 in omega arith
+unrecorded place entry p foreign (Some g) n h = let wrong = h.1 in omega arith

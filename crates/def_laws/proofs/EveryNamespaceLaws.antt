@@ -1,0 +1,203 @@
+-- Each namespace of a recorded import is bound at the end of a run.
+use Rattle.std.proofs.Common.{◌≡◌, inl, inr, Bool, true, false, ◌&&◌, ◌||◌, not, is_some, List, [], ◌∷◌, ◌++◌, Contains, refl, sym, ap, subst, append-nil, arith}
+use Rattle.std.specs.Prelude.{IsSome}
+use Rattle.std.proofs.lemmas.Bool.{and_parts, or_parts}
+use Rattle.std.proofs.lemmas.List.Elements.{Contains-append_left, Contains-append_right, Contains-append_cases}
+use Rattle.std.proofs.lemmas.List.Sorted.{Contains-permutation, IsPermutation-refl, IsPermutation-sym}
+use Rattle.item_tree.specs.declared.ids.ModItemId.{ModItemId}
+use Rattle.item_tree.specs.declared.name.Name.{Name}
+use Rattle.def_ids.specs.declared.ids.ModuleId.{ModuleId}
+use Rattle.def_bindings.specs.declared.bindings.EdgeTo.{EdgeTo}
+use Rattle.def_bindings.specs.declared.bindings.Entry.{Entry}
+use Rattle.def_bindings.specs.declared.bindings.Namespace.{Namespace}
+use Rattle.def_bindings.specs.declared.bindings.Namespace.TheVariants.{Types, Values, Macros}
+use Rattle.def_bindings.specs.declared.bindings.Slot.TheVariants.{Named}
+use Rattle.def_bindings.specs.declared.visibility.Visibility.{Visibility}
+use Rattle.def_bindings.specs.Closure.{IsBound}
+use Rattle.def_bindings.specs.Content.{Content}
+use Rattle.def_bindings.specs.Puts.{glob_of, put_entry}
+use Rattle.def_bindings.specs.PutsLaws.{bound_stays-copied}
+use Rattle.def_paths.specs.declared.asked.ResolvePathResult.{ResolvePathResult}
+use Rattle.def_paths.specs.declared.per_ns.PerNs.{PerNs}
+use Rattle.def_oracle.specs.Oracle.{Oracle}
+use Rattle.def_paths.specs.PerNs.{in_namespace}
+use Rattle.def_parts.specs.Globs.{with_recorded}
+use Rattle.def_rules.specs.Imports.{ImportStep, NoneReady, after_partial, after_pending, answer_now, given_set, is_extended, is_foreign, is_full, is_ready, no_namespaces, of_partial, of_pending}
+use Rattle.def_rules.specs.Settled.{HasEveryNamespace}
+use Rattle.def_rules.specs.State.{State, Effect, Event, Recorded, NsSet, PendingImport, PartialImport, Moment, Task, Enter, Visit, Put, Rearranges, Site, order, AddEdge}
+use Rattle.def_rules.specs.Steps.{Copies, Does, Reaches, Step, performs, copies, rearranges, records, put_event}
+use Rattle.def_parts.specs.Directories.{Directory}
+use Rattle.def_laws.proofs.RunsLaws.{Leaves, kept_along, visits_leaves}
+use Rattle.def_laws.proofs.ComingLaws.{Covers, HasSet, bound_now, covers-kept, enter_ahead, has_ns, keeps_coming, put_keeps, unrecorded, visit_ahead, edge_ahead}
+use Rattle.def_laws.proofs.ListLaws.{contains_cases}
+use Rattle.def_laws.proofs.RecordedLaws.{all_ahead, covers-recorded, no_each}
+
+-- what was recorded is covered, at a moment
+abbrev CoversAt : Moment → Type 0
+CoversAt m = Covers m.state.partial m.state.content m.tasks m.events
+
+module _ (s : State) (effect : Effect) (rest : List Task) (events : List Event) where
+  covers-visit : (site : Site) (id : ModItemId) → Leaves s effect → Covers s.partial s.content (Visit site id ∷ rest) events → Covers effect.state.partial effect.state.content (effect.tasks ++ rest) (events ++ effect.events)
+  covers-visit site id leaves all =
+      subst (λ ps. Covers ps effect.state.content (effect.tasks ++ rest) (events ++ effect.events)) (sym leaves.partial)
+      (subst (λ c. Covers s.partial c (effect.tasks ++ rest) (events ++ effect.events)) (sym leaves.content)
+      (subst (λ es. Covers s.partial s.content (effect.tasks ++ rest) (events ++ es)) (sym leaves.events)
+      (subst (λ es. Covers s.partial s.content (effect.tasks ++ rest) es) (sym (append-nil events))
+      (covers-kept s.partial s.partial s.content s.content (Visit site id ∷ rest) (effect.tasks ++ rest) events events (keeps_coming s.content s.content (Visit site id ∷ rest) (effect.tasks ++ rest) (λ at name ns bound. bound) (λ at entry h. visit_ahead site id rest effect.tasks at entry h))
+      (IsPermutation-refl s.partial) (λ e h. h) (λ p h. h) all))))
+
+-- a directory that is stored leaves all that is covered
+covers-enter : (s : State) (at : ModuleId) (directory : Directory) (rest : List Task) (events : List Event) → Covers s.partial s.content (Enter at directory ∷ rest) events
+    → Covers s.partial s.content rest (events ++ [])
+covers-enter s at directory rest events all =
+    subst (λ es. Covers s.partial s.content rest es) (sym (append-nil events))
+    (covers-kept s.partial s.partial s.content s.content (Enter at directory ∷ rest) rest events events
+    (keeps_coming s.content s.content (Enter at directory ∷ rest) rest (λ at name ns bound. bound) (λ place entry h. enter_ahead at directory rest place entry h))
+    (IsPermutation-refl s.partial) (λ e h. h) (λ p h. h) all)
+
+covers-put : (s : State) (place : ModuleId) (entry : Entry Visibility) (rest : List Task) (events : List Event) → Covers s.partial s.content (Put place entry ∷ rest) events
+    → Covers s.partial (put_entry (order s) place entry s.content) rest (events ++ put_event place entry)
+covers-put s place entry rest events all =
+    covers-kept s.partial s.partial s.content (put_entry (order s) place entry s.content) (Put place entry ∷ rest) rest events (events ++ put_event place entry) (put_keeps (order s) place entry s.content rest)
+    (IsPermutation-refl s.partial) (λ e h. Contains-append_left events (put_event place entry) e h)
+    (λ p h. elim (Contains-append_cases events (put_event place entry) (Recorded p false) h) [
+      | inl before ↦ before
+      | inr now ↦ absurd (unrecorded place entry p false (glob_of entry.origin) entry.name now)
+    ]) all
+
+covers-edge : (s : State) (source : ModuleId) (edge : EdgeTo Visibility) (rest : List Task) (events : List Event) → Covers s.partial s.content (AddEdge source edge ∷ rest) events
+    → Covers s.partial (with_recorded (order s) s.content source edge) rest (events ++ [])
+covers-edge s source edge rest events all =
+    subst (λ es. Covers s.partial (with_recorded (order s) s.content source edge) rest es) (sym (append-nil events))
+    (covers-kept s.partial s.partial s.content (with_recorded (order s) s.content source edge) (AddEdge source edge ∷ rest) rest events events
+    (keeps_coming s.content (with_recorded (order s) s.content source edge) (AddEdge source edge ∷ rest) rest (λ at name ns bound. bound) (λ at entry h. edge_ahead source edge rest at entry h))
+    (IsPermutation-refl s.partial) (λ e h. h) (λ p h. h) all)
+
+covers-does : (oracle : Oracle) (s : State) (task : Task) (effect : Effect) (rest : List Task) (events : List Event) → Does oracle s task effect → Covers s.partial s.content (task ∷ rest) events
+    → Covers effect.state.partial effect.state.content (effect.tasks ++ rest) (events ++ effect.events)
+covers-does oracle s (Enter at directory) effect rest events does all =
+    subst (λ (e : Effect). Covers e.state.partial e.state.content (e.tasks ++ rest) (events ++ e.events)) (sym does) (covers-enter s at directory rest events all)
+covers-does oracle s (Visit site id) effect rest events does all = covers-visit s effect rest events site id (visits_leaves oracle s site id effect does) all
+covers-does oracle s (Put place entry) effect rest events does all =
+    subst (λ (e : Effect). Covers e.state.partial e.state.content (e.tasks ++ rest) (events ++ e.events)) (sym does) (covers-put s place entry rest events all)
+covers-does oracle s (AddEdge source edge) effect rest events does all =
+    subst (λ (e : Effect). Covers e.state.partial e.state.content (e.tasks ++ rest) (events ++ e.events)) (sym does) (covers-edge s source edge rest events all)
+
+covers-copied : (s : State) (content : Content Visibility) (tasks : List Task) (events : List Event) → Copies s content → Covers s.partial s.content tasks events → Covers s.partial content tasks events
+covers-copied s content tasks events copy all =
+    covers-kept s.partial s.partial s.content content tasks tasks events events
+    (keeps_coming s.content content tasks tasks (λ at name ns bound. subst (λ c. IsBound c at (Named name ns)) (sym copy.after) (bound_stays-copied (order s) copy.source copy.edge copy.slot s.content at (Named name ns) bound)) (λ at entry h. h))
+    (IsPermutation-refl s.partial) (λ e h. h) (λ p h. h) all
+
+covers-rearranged : (s t : State) (tasks : List Task) (events : List Event) → Rearranges s t → Covers s.partial s.content tasks events → Covers t.partial t.content tasks events
+covers-rearranged s t tasks events same all =
+    covers-kept s.partial t.partial s.content t.content tasks tasks events events
+    (keeps_coming s.content t.content tasks tasks (λ at name ns bound. subst (λ (x : State). IsBound x.content at (Named name ns)) (sym same.rest) bound) (λ at entry h. h))
+    same.partial (λ e h. h) (λ p h. h) all
+
+covers-import : (oracle : Oracle) (s : State) (effect : Effect) (events : List Event) → ImportStep oracle s effect → Covers s.partial s.content [] events
+    → Covers effect.state.partial effect.state.content (effect.tasks ++ []) (events ++ effect.events)
+covers-import oracle s effect events (of_pending pending rest recorded waits ready recording is) all =
+    let answer = answer_now oracle s pending in
+    subst (λ (e : Effect). Covers e.state.partial e.state.content (e.tasks ++ []) (events ++ e.events)) (sym is)
+    (subst (λ (e : Effect). Covers e.state.partial e.state.content (e.tasks ++ []) (events ++ Recorded pending (is_foreign (answer_now oracle s pending)) ∷ e.events)) (sym recording)
+    (covers-recorded pending answer _ (all_ahead oracle (after_pending s pending rest answer) pending answer) no_namespaces s.partial s.partial s.content events (no_each s.content [] pending) (λ x h. inr h) (λ x h. h) all))
+covers-import oracle s effect events (of_partial partial rest recorded waits ready recording is) all =
+    let answer = answer_now oracle s partial.pending in
+    let stands : Contains s.partial partial = Contains-permutation (partial ∷ rest) s.partial partial (IsPermutation-sym s.partial (partial ∷ rest) waits) (Contains-append_left (partial ∷ []) rest partial (0, omega arith, refl)) in
+    subst (λ (e : Effect). Covers e.state.partial e.state.content (e.tasks ++ []) (events ++ e.events)) (sym is)
+    (subst (λ (e : Effect). Covers e.state.partial e.state.content (e.tasks ++ []) (events ++ Recorded partial.pending (is_foreign (answer_now oracle s partial.pending)) ∷ e.events)) (sym recording)
+    (covers-recorded partial.pending answer _ (all_ahead oracle (after_partial s partial rest answer) partial.pending answer) partial.recorded s.partial rest s.content events (all.partly partial stands)
+    (λ x h. elim (contains_cases partial x rest (Contains-permutation s.partial (partial ∷ rest) x waits h)) [
+      | inl same ↦ inl (ap (λ (y : PartialImport). y.pending) same)
+      | inr others ↦ inr others
+    ])
+    (λ x h. Contains-permutation (partial ∷ rest) s.partial x (IsPermutation-sym s.partial (partial ∷ rest) waits) (Contains-append_right (partial ∷ []) rest x h)) all))
+
+covers-step : {oracle : Oracle} (a b : Moment) → Step oracle a b → CoversAt a → CoversAt b
+covers-step {oracle} a b (performs task rest effect first does is) all =
+    subst CoversAt (sym is) (covers-does oracle a.state task effect rest a.events does (subst (λ tasks. Covers a.state.partial a.state.content tasks a.events) first all))
+covers-step a b (copies content copy is) all = subst CoversAt (sym is) (covers-copied a.state content a.tasks a.events copy all)
+covers-step a b (rearranges state same is) all = subst CoversAt (sym is) (covers-rearranged a.state state a.tasks a.events same all)
+covers-step {oracle} a b (records effect idle step is) all =
+    subst CoversAt (sym is) (covers-import oracle a.state effect a.events step (subst (λ tasks. Covers a.state.partial a.state.content tasks a.events) idle all))
+
+covers_nothing : (content : Content Visibility) (tasks : List Task) → Covers [] content tasks []
+covers_nothing content tasks =
+    record {
+      partly = λ x stands. let none = stands.1 in absurd (omega arith);
+      recorded = λ p happened. let none = happened.1 in absurd (omega arith);
+    }
+
+-- The end
+
+-- a set that is full has each namespace
+full_has : (set : NsSet) (ns : Namespace) → is_full set ≡ true → has_ns set ns ≡ true
+full_has set ns full = by_ns ns
+  where
+    first : (set.types ≡ true) × ((set.values && set.macros) ≡ true)
+    first = and_parts set.types (set.values && set.macros) full
+
+    by_ns : (k : Namespace) → has_ns set k ≡ true
+    by_ns Types = first.0
+    by_ns Values = (and_parts set.values set.macros first.1).0
+    by_ns Macros = (and_parts set.values set.macros first.1).1
+
+had : (given recorded : Bool) → (given && not recorded) ≡ false → given ≡ true → recorded ≡ true
+had true true h g = refl
+had true false h g = absurd cc
+had false recorded h g = absurd cc
+
+-- what is not extended has each namespace that is given
+not_extended : (set given : NsSet) (ns : Namespace) → is_extended set given ≡ false → has_ns given ns ≡ true → has_ns set ns ≡ true
+not_extended set given ns h there = by_ns ns there
+  where
+    rest : ((given.types && not set.types) ≡ false) × (((given.values && not set.values) || (given.macros && not set.macros)) ≡ false)
+    rest = or_parts (given.types && not set.types) _ h
+
+    last : ((given.values && not set.values) ≡ false) × ((given.macros && not set.macros) ≡ false)
+    last = or_parts (given.values && not set.values) _ rest.1
+
+    by_ns : (k : Namespace) → has_ns given k ≡ true → has_ns set k ≡ true
+    by_ns Types is = had given.types set.types rest.0 is
+    by_ns Values is = had given.values set.values last.0 is
+    by_ns Macros is = had given.macros set.macros last.1 is
+
+given_has : (found : PerNs) (ns : Namespace) → IsSome (in_namespace found ns) → has_ns (given_set found) ns ≡ true
+given_has found Types there = there
+given_has found Values there = there
+given_has found Macros there = there
+
+-- what is not ready again though it is ready gives nothing new
+nothing_new : (ready foreign extended : Bool) → ready ≡ true → (ready && (foreign || extended)) ≡ false → extended ≡ false
+nothing_new true foreign extended is h = (or_parts foreign extended h).1
+nothing_new false foreign extended is h = absurd cc
+
+-- at the end the set of an import has each namespace that its path gives
+set_has : (oracle : Oracle) (end : Moment) (p : PendingImport) (ns : Namespace) → NoneReady oracle end.state → is_ready (answer_now oracle end.state p) ≡ true → IsSome (in_namespace (answer_now oracle end.state p).resolved_def ns)
+    → (has : HasSet end.state.partial end.state.content end.tasks p) → has_ns has.set ns ≡ true
+set_has oracle end p ns none ready there has =
+    let answer : ResolvePathResult = answer_now oracle end.state p in
+    elim has.stays [
+      | inl full ↦ full_has has.set ns full
+      | inr stands ↦ not_extended has.set (given_set answer.resolved_def) ns
+          (nothing_new (is_ready answer) (is_foreign answer) (is_extended has.set (given_set answer.resolved_def)) ready (none.partial (record { pending = p; recorded = has.set }) stands))
+          (given_has answer.resolved_def ns there)
+    ]
+
+bound_is_some : (content : Content Visibility) (at : ModuleId) (name : Name) (ns : Namespace) → IsBound content at (Named name ns) → IsSome (content.binding at name ns)
+bound_is_some content at name ns bound = ap is_some bound.1
+
+-- where nothing is left to do and no import is ready, each namespace of each recorded import is bound, after a run from nothing
+pub every_namespace_along : {oracle : Oracle} {a b : Moment} → Reaches oracle a b → a.events ≡ [] → a.state.partial ≡ [] → b.tasks ≡ [] → NoneReady oracle b.state → HasEveryNamespace oracle b
+every_namespace_along {oracle} {a} {b} r none nothing done settled p name ns import ready there kind =
+    elim (all.recorded p import.recorded) [
+      | inl foreign ↦ absurd (import.own foreign)
+      | inr has ↦ bound_is_some b.state.content p.scope name ns (bound_now b.state.content b.tasks p.scope name ns done (has.each name ns import.name_bound kind (set_has oracle b p ns settled ready there has)))
+    ]
+  where
+    begins : CoversAt a
+    begins = subst (λ es. Covers a.state.partial a.state.content a.tasks es) (sym none) (subst (λ ps. Covers ps a.state.content a.tasks []) (sym nothing) (covers_nothing a.state.content a.tasks))
+
+    all : CoversAt b
+    all = kept_along {oracle = oracle} CoversAt (covers-step {oracle = oracle}) r begins

@@ -1,0 +1,237 @@
+-- What a glob brings, gathered entry by entry, and what it was recorded with.
+use Rattle.std.proofs.Common.{◌≡◌, ◌⊎◌, inl, inr, ◌+◌, ◌<◌, ℕ, zero, suc, Bool, true, false, cond, map, take, drop, length, if◌then◌else◌, List, [], ◌∷◌, ◌++◌, Option, Some, None, refl, sym, ap, ◌∙◌, subst, inl, inr, append-nil, append_assoc, add-one}
+use Rattle.std.specs.Prelude.{slice_get, unwrap_or}
+use Rattle.std.specs.List.{flat_map}
+use Rattle.std.proofs.lemmas.Bool.{cases_Bool}
+use Rattle.std.proofs.lemmas.List.{map-append}
+use Rattle.std.proofs.lemmas.Option.{slice_get_within}
+use Rattle.def_ids.specs.declared.ids.Def.{Def}
+use Rattle.def_ids.specs.declared.ids.GlobId.{GlobId}
+use Rattle.def_ids.specs.Equality.{glob_eq}
+use Rattle.def_bindings.specs.IdLaws.{glob-eq}
+use Rattle.indexmap.specs.IndexMap.{IndexMap, get}
+use Rattle.item_tree.specs.declared.items.ImportKind.{ImportKind}
+use Rattle.item_tree.specs.declared.items.ImportKind.TheVariants as kind
+use Rattle.def_ids.specs.declared.ids.Def.TheVariants as def
+use Rattle.def_ids.specs.declared.ids.ModuleId.{ModuleId}
+use Rattle.def_bindings.specs.declared.bindings.EdgeTo.{EdgeTo}
+use Rattle.def_bindings.specs.declared.bindings.Entry.{Entry}
+use Rattle.def_bindings.specs.declared.visibility.Visibility.{Visibility}
+use Rattle.def_paths.specs.declared.asked.ResolvePathResult.{ResolvePathResult}
+use Rattle.def_modules.specs.KeyedLists.{PushesUnder}
+use Rattle.def_oracle.specs.Oracle.{Oracle}
+use Rattle.def_ids.specs.Ids.{is_same_map}
+use Rattle.def_bindings.specs.Content.{Content}
+use Rattle.def_modules.specs.MapView.{MapView}
+use Rattle.def_paths.specs.Paths.{map_of}
+use Rattle.def_paths.specs.Sources.{finished_map}
+use Rattle.def_parts.specs.Globs.{with_recorded}
+use Rattle.def_laws.specs.Performs.{Performs, Updated, target_state}
+use Rattle.def_rules.specs.Globs.{Targets, is_among, module_entries, scope_entries, with_def, with_target}
+use Rattle.def_rules.specs.Imports.{edge_tasks, glob_def, glob_edge, glob_id, glob_tasks, import_vis, is_own_crate, made_prelude, new_prelude, record_effect, record_tasks, targets_after, types_def, unless_prelude, with_new_prelude}
+use Rattle.def_rules.specs.State.{State, AddEdge, PendingImport, map_view, only, order, put_each, with_content, world}
+use Rattle.def_laws.proofs.EdgeLaws.{glob_raised, glob_sound}
+use Rattle.def_laws.proofs.StepsLaws.{performs_listed, performs_none}
+use Rattle.def_laws.proofs.WaveLaws.{runs_task, runs_trans, runs_wave}
+
+-- the list from an index on, at an element
+pub from_index : {X : Type 0} (xs : List X) (k : ℕ) (x : X) → Some x ≡ slice_get xs k → drop k xs ≡ x ∷ drop (suc k) xs
+from_index [] k x h = cc
+from_index (y ∷ xs) zero x h = let e : x ≡ y = cc in ap (λ z. z ∷ xs) (sym e)
+from_index (y ∷ xs) (suc k) x h = from_index xs k x h
+
+-- and past its end
+pub past_index : {X : Type 0} (xs : List X) (k : ℕ) → None ≡ slice_get xs k → drop k xs ≡ []
+past_index [] zero h = refl
+past_index [] (suc k) h = refl
+past_index (y ∷ xs) zero h = cc
+past_index (y ∷ xs) (suc k) h = past_index xs k h
+
+-- an element that is found stands within the list
+pub within_index : {X : Type 0} (xs : List X) (k : ℕ) (x : X) → Some x ≡ slice_get xs k → k < length xs
+within_index xs k x h = slice_get_within xs k x (sym h)
+
+module _ {X Y : Type 0} (f : X → List Y) (xs : List X) where
+  -- one element more was gathered
+  pub gathered_more : (k : ℕ) (x : X) (acc acc' whole : List Y) → Some x ≡ slice_get xs k → acc' ≡ acc ++ f x → acc ++ flat_map f (drop k xs) ≡ whole → acc' ++ flat_map f (drop (k + 1) xs) ≡ whole
+  gathered_more k x acc acc' whole at more so_far =
+      ap (λ l. l ++ flat_map f (drop (k + 1) xs)) more
+      ∙ append_assoc acc (f x) (flat_map f (drop (k + 1) xs))
+      ∙ ap (λ n. acc ++ (f x ++ flat_map f (drop n xs))) (add-one k)
+      ∙ ap (λ l. acc ++ flat_map f l) (sym (from_index xs k x at))
+      ∙ so_far
+
+  -- all were gathered
+  pub gathered_all : (k : ℕ) (acc whole : List Y) → None ≡ slice_get xs k → acc ++ flat_map f (drop k xs) ≡ whole → acc ≡ whole
+  gathered_all k acc whole past so_far = sym (append-nil acc) ∙ ap (λ l. acc ++ flat_map f l) (sym (past_index xs k past)) ∙ so_far
+
+module _ {X Y : Type 0} (f : X → Y) (xs : List X) where
+  -- one element more was listed
+  pub listed_more : (k : ℕ) (x : X) (acc acc' : List Y) → Some x ≡ slice_get xs k → acc' ≡ acc ++ f x ∷ [] → acc ++ map f (drop k xs) ≡ map f xs → acc' ++ map f (drop (k + 1) xs) ≡ map f xs
+  listed_more k x acc acc' at more so_far =
+      ap (λ l. l ++ map f (drop (k + 1) xs)) more
+      ∙ append_assoc acc (f x ∷ []) (map f (drop (k + 1) xs))
+      ∙ ap (λ n. acc ++ (f x ∷ map f (drop n xs))) (add-one k)
+      ∙ ap (λ l. acc ++ map f l) (sym (from_index xs k x at))
+      ∙ so_far
+
+  -- all were listed
+  pub listed_all : (k : ℕ) (acc : List Y) → None ≡ slice_get xs k → acc ++ map f (drop k xs) ≡ map f xs → acc ≡ map f xs
+  listed_all k acc past so_far = sym (append-nil acc) ∙ ap (λ l. acc ++ map f l) (sym (past_index xs k past)) ∙ so_far
+
+take_at : {Y : Type 0} (xs : List Y) (i : ℕ) (y : Y) → Some y ≡ slice_get xs i → take (suc i) xs ≡ take i xs ++ y ∷ []
+take_at [] i y h = cc
+take_at (x ∷ xs) zero y h = let e : y ≡ x = cc in ap (λ z. z ∷ []) (sym e)
+take_at (x ∷ xs) (suc i) y h = ap (λ l. x ∷ l) (take_at xs i y h)
+
+-- one element more of those that are shown
+pub taken_more : {X Y : Type 0} (f : X → Y) (list list' : List X) (xs : List Y) (i : ℕ) (x : X) (y : Y) → map f list ≡ take i xs → Some y ≡ slice_get xs i → f x ≡ y → list' ≡ list ++ x ∷ [] → map f list' ≡ take (i + 1) xs
+taken_more f list list' xs i x y so_far at same more =
+    ap (map f) more
+    ∙ map-append f list (x ∷ [])
+    ∙ ap (λ l. l ++ f x ∷ []) so_far
+    ∙ ap (λ z. take i xs ++ z ∷ []) same
+    ∙ sym (take_at xs i y at)
+    ∙ ap (λ n. take n xs) (sym (add-one i))
+
+-- What a glob was recorded with
+
+module _ (glob : GlobId) (d : Def) (old : Targets) where
+  with_known : (there : Option (List Def)) → is_among d (unwrap_or there []) ≡ true → there ≡ Some (with_def d (unwrap_or there []))
+  with_known None h = absurd cc
+  with_known (Some defs) h = rw h refl
+
+  -- a definition that a glob was recorded with before
+  pub target_known : is_among d (unwrap_or (old glob) []) ≡ true → old ≡ with_target glob d old
+  target_known h = λ i g. one g i
+    where
+      one : (g : GlobId) → old g ≡ with_target glob d old g
+      one g = elim (cases_Bool (glob_eq glob g)) [
+        | inl same ↦ rw same (ap old (sym (glob-eq glob g same)) ∙ with_known (old glob) h)
+        | inr other ↦ rw other refl
+      ]
+
+  -- a new one
+  pub target_new : (new : Targets) → is_among d (unwrap_or (old glob) []) ≡ false → PushesUnder glob_eq old new glob d → new ≡ with_target glob d old
+  target_new new h pushed = λ i g. one g i
+    where
+      last : with_def d (unwrap_or (old glob) []) ≡ unwrap_or (old glob) [] ++ d ∷ []
+      last = rw h refl
+
+      one : (g : GlobId) → new g ≡ with_target glob d old g
+      one g = pushed g ∙ ap (λ l. cond (glob_eq glob g) (Some l) (old g)) (sym last)
+
+-- no glob was recorded yet
+pub no_targets : {S : Type 0} (m : IndexMap GlobId (List Def) S) → m.entries ≡ [] → get glob_eq m ≡ (λ glob. None)
+no_targets m none = rw none refl
+
+-- Where the entries of a module come from
+
+module _ (oracle : Oracle) (s : State) (glob : EdgeTo Visibility) (source : ModuleId) (entries : List (Entry Visibility)) (own : Bool) (content : Content Visibility) where
+  -- a module of this map
+  pub entries_here : own ≡ is_own_crate s.map.id source → is_same_map source.map s.map.id ≡ true → content ≡ s.content → entries ≡ scope_entries (order s) glob own content source
+      → entries ≡ module_entries (order s) glob (is_own_crate s.map.id source) (map_of (world oracle s) source.map) source
+  entries_here of_crate here same are =
+      are
+      ∙ ap (λ b. scope_entries (order s) glob b content source) of_crate
+      ∙ ap (λ c. scope_entries (order s) glob (is_own_crate s.map.id source) c source) same
+      ∙ ap (λ b. module_entries (order s) glob (is_own_crate s.map.id source) (if b then Some (map_view s) else finished_map oracle source.map) source) (sym here)
+
+  -- a module of a finished map
+  pub entries_elsewhere : (map : MapView) → own ≡ is_own_crate s.map.id source → is_same_map source.map s.map.id ≡ false → Some map ≡ finished_map oracle source.map → content ≡ map.content → entries ≡ scope_entries (order s) glob own content source
+      → entries ≡ module_entries (order s) glob (is_own_crate s.map.id source) (map_of (world oracle s) source.map) source
+  entries_elsewhere map of_crate other there same are =
+      are
+      ∙ ap (λ b. scope_entries (order s) glob b content source) of_crate
+      ∙ ap (λ c. scope_entries (order s) glob (is_own_crate s.map.id source) c source) same
+      ∙ ap (λ m. module_entries (order s) glob (is_own_crate s.map.id source) m source) there
+      ∙ ap (λ b. module_entries (order s) glob (is_own_crate s.map.id source) (if b then Some (map_view s) else finished_map oracle source.map) source) (sym other)
+
+-- What a recorded import leads to
+
+module _ (oracle : Oracle) (s t u : State) (glob : EdgeTo Visibility) (source : ModuleId) (list : List (Entry Visibility)) where
+  -- the entries that a glob of a module brings
+  abbrev Brought : List (Entry Visibility)
+  Brought = module_entries (order s) glob (is_own_crate s.map.id source) (map_of (world oracle s) source.map) source
+
+  -- a glob of a module of another crate was put
+  pub performs_foreign : is_own_crate s.map.id source ≡ false → list ≡ Brought → Updated glob.importer list s t → Performs oracle (glob_tasks (world oracle s) glob (Some (def.Module source))) s t
+  performs_foreign foreign same updated =
+      subst (λ tasks. Performs oracle tasks s t) (sym (append-nil (put_each glob.importer Brought)) ∙ ap (λ own. put_each glob.importer Brought ++ edge_tasks own source glob) (sym foreign))
+      (performs_listed glob.importer list Brought s t same updated)
+
+  -- one of this crate was put, and its edge was added
+  pub performs_own : is_own_crate s.map.id source ≡ true → list ≡ Brought → Updated glob.importer list s t → u ≡ with_content t (with_recorded (order t) t.content source glob)
+      → Performs oracle (glob_tasks (world oracle s) glob (Some (def.Module source))) s u
+  performs_own own same updated added =
+      subst (λ b. Performs oracle (put_each glob.importer Brought ++ edge_tasks b source glob) s u) (sym own)
+      (subst (λ x. Performs oracle (put_each glob.importer Brought ++ AddEdge source glob ∷ []) s x) (sym (added ∙ ap (λ x. with_content x (with_recorded (order x) x.content source glob)) updated.rest)) with_edge)
+    where
+      brought : Updated glob.importer Brought s t
+      brought = subst (λ l. Updated glob.importer l s t) same updated
+
+      wave : State
+      wave = with_content s t.content
+
+      now : Updated glob.importer Brought s wave
+      now = record { travels = brought.travels; rest = refl }
+
+      with_edge : Performs oracle (put_each glob.importer Brought ++ AddEdge source glob ∷ []) s (with_content wave (with_recorded (order wave) wave.content source glob))
+      with_edge = record {
+        runs = λ rest. runs_trans (runs_wave glob.importer Brought s t.content brought.travels (AddEdge source glob ∷ []) rest) (runs_task (AddEdge source glob) rest wave (only (with_content wave (with_recorded (order wave) wave.content source glob))) refl);
+        keeps = λ followed stands sound. glob_sound oracle s wave glob source Brought now own refl stands sound followed;
+        raised = λ rest stands sound before importer slot kept. glob_raised oracle s wave glob source Brought now own refl stands sound rest before importer slot kept.0;
+      }
+
+module _ (oracle : Oracle) (s t : State) (p : PendingImport) (answer : ResolvePathResult) where
+  -- a glob was recorded with a definition
+  abbrev GlobRecorded : Option Def → Type 0
+  GlobRecorded given = Performs oracle (glob_tasks (world oracle s) (glob_edge p (import_vis oracle s p)) given) (target_state s (glob_id p) given) t
+
+  -- its target was added, and then what it brings was put
+  pub glob_recorded : (mid : State) (d : Def) (glob : EdgeTo Visibility) → mid ≡ record s { targets = with_target glob.glob d s.targets } → types_def answer ≡ Some d → glob ≡ glob_edge p (import_vis oracle s p)
+      → Performs oracle (glob_tasks (world oracle mid) glob (Some d)) mid t → GlobRecorded (types_def answer)
+  glob_recorded mid d glob added given same performs =
+      subst GlobRecorded (sym given)
+      (subst (λ g. Performs oracle (glob_tasks (world oracle s) g (Some d)) (record s { targets = with_target g.glob d s.targets }) t) same
+      (subst (λ m. Performs oracle (glob_tasks (world oracle m) glob (Some d)) m t) added performs))
+
+  -- an import was recorded
+  abbrev IsRecordedNow : Type 0
+  IsRecordedNow = let effect = record_effect oracle s p answer in Performs oracle effect.tasks effect.state t
+
+  -- by its kind
+  recorded_as : (k : ImportKind) → p.import.kind ≡ k
+      → Performs oracle (record_tasks oracle s p answer k) (record s { targets = targets_after k (glob_id p) (glob_def p answer) s.targets; map = with_new_prelude (new_prelude p answer) s.map }) t
+      → IsRecordedNow
+  recorded_as k is performs =
+      subst (λ k. Performs oracle (record_tasks oracle s p answer k) (record s { targets = targets_after k (glob_id p) (glob_def p answer) s.targets; map = with_new_prelude (new_prelude p answer) s.map }) t) (sym is) performs
+
+  -- an import that makes no module the prelude
+  recorded_without : (k : ImportKind) → new_prelude p answer ≡ None → Performs oracle (record_tasks oracle s p answer k) (record s { targets = targets_after k (glob_id p) (glob_def p answer) s.targets }) t
+      → Performs oracle (record_tasks oracle s p answer k) (record s { targets = targets_after k (glob_id p) (glob_def p answer) s.targets; map = with_new_prelude (new_prelude p answer) s.map }) t
+  recorded_without k none performs =
+      subst (λ made. Performs oracle (record_tasks oracle s p answer k) (record s { targets = targets_after k (glob_id p) (glob_def p answer) s.targets; map = with_new_prelude made s.map }) t) (sym none) performs
+
+  named_by : (k : ImportKind) → p.import.kind ≡ k → made_prelude k p.is_prelude (types_def answer) ≡ None → new_prelude p answer ≡ None
+  named_by k is none = ap (λ k. made_prelude k p.is_prelude (types_def answer)) is ∙ none
+
+  -- an import that binds names was recorded
+  pub recorded_named : (p.import.kind ≡ kind.Plain) ⊎ (p.import.kind ≡ kind.TypeOnly) → Performs oracle (record_tasks oracle s p answer kind.Plain) s t → IsRecordedNow
+  recorded_named (inl plain) performs = recorded_as kind.Plain plain (recorded_without kind.Plain (named_by kind.Plain plain refl) performs)
+  recorded_named (inr types) performs = recorded_as kind.TypeOnly types (recorded_without kind.TypeOnly (named_by kind.TypeOnly types refl) performs)
+
+  -- a glob that makes no module the prelude was recorded
+  pub recorded_glob : p.import.kind ≡ kind.Glob → new_prelude p answer ≡ None → GlobRecorded (types_def answer) → IsRecordedNow
+  recorded_glob glob none performs = recorded_as kind.Glob glob (recorded_without kind.Glob none (subst GlobRecorded (ap (λ made. unless_prelude made (types_def answer)) (sym none)) performs))
+
+  -- a glob that makes a module the prelude was recorded
+  pub recorded_prelude : (source : ModuleId) → p.import.kind ≡ kind.Glob → new_prelude p answer ≡ Some source → t ≡ record s { map = with_new_prelude (Some source) s.map } → IsRecordedNow
+  recorded_prelude source glob made after =
+      recorded_as kind.Glob glob
+      (subst (λ o. Performs oracle (glob_tasks (world oracle s) (glob_edge p (import_vis oracle s p)) (unless_prelude o (types_def answer))) (record (target_state s (glob_id p) (unless_prelude o (types_def answer))) { map = with_new_prelude o s.map }) t) (sym made)
+      (subst (λ u. Performs oracle [] (record s { map = with_new_prelude (Some source) s.map }) u) (sym after) (performs_none (record s { map = with_new_prelude (Some source) s.map }))))
+
+-- a glob of nothing
+pub glob_nothing : (oracle : Oracle) (s : State) (p : PendingImport) (answer : ResolvePathResult) → types_def answer ≡ None → GlobRecorded oracle s s p answer (types_def answer)
+glob_nothing oracle s p answer none = subst (GlobRecorded oracle s s p answer) (sym none) (performs_none s)

@@ -1,0 +1,51 @@
+-- What is answered ends a run of the machine.
+use Rattle.std.proofs.Common.{◌≡◌, [], None, refl, sym, subst}
+use Rattle.def_ids.specs.Session.{Session}
+use Rattle.def_bindings.specs.Closure.{IsClosed, IsCoherent}
+use Rattle.def_parts.specs.Raised.{IsRaisedAt}
+use Rattle.def_laws.specs.Sound.{IsSound}
+use Rattle.def_laws.specs.Own.{Stands}
+use Rattle.def_rules.specs.Targets.{none_left_out, target_of}
+use Rattle.def_rules.specs.Headline.{Answers}
+use Rattle.def_rules.specs.Imports.{NoneReady}
+use Rattle.def_rules.specs.Report.{Answer}
+use Rattle.def_laws.specs.Finished.{NoneFailed, IsFinished}
+use Rattle.def_rules.specs.Start.{first_tasks, seeded_state, start, started}
+use Rattle.def_rules.specs.State.{Setting, State, Moment, order}
+use Rattle.def_laws.specs.Runs.{Leads, at}
+use Rattle.def_rules.specs.Steps.{Reaches}
+use Rattle.def_laws.proofs.BegunLaws.{begins_apart, sound_empty}
+use Rattle.def_laws.proofs.DeclaredLaws.{declared_along, was_put_along}
+use Rattle.def_laws.proofs.EveryNamespaceLaws.{every_namespace_along}
+use Rattle.def_laws.proofs.RunsLaws.{none_failed_along}
+use Rattle.def_laws.proofs.StaysLaws.{explicit_stays_along}
+
+-- where a run from the seeded map leads to an end at which nothing is left to do and no import is ready, what is answered of that end is right
+pub answers : (w : Setting) (before after : Session) (answer : Answer) (t : State) → Leads w.oracle (first_tasks w.oracle w.seeded w.tree) (started w.oracle w.tree (seeded_state w before)) [] t → NoneReady w.oracle t → t.session ≡ after → NoneFailed w.seeded
+    → Stands (first_tasks w.oracle w.seeded w.tree) (started w.oracle w.tree (seeded_state w before))
+    → IsFinished t answer → Answers w before after answer
+answers w before after answer t leads settled session clean stands finished =
+    record {
+      run = record { end = end; runs = runs; done = refl };
+      session = session;
+      answered = record { map = finished.map (none_failed_along runs clean); content = finished.content; local = finished.local; outcome = finished.outcome };
+      closed = subst (IsClosed (order t) none_left_out) (sym finished.content) sound.closed;
+      coherent = subst (IsCoherent (order t) none_left_out (target_of t.map.id t.targets)) (sym finished.content) sound.coherent;
+      raised = λ importer slot kept. subst (λ c. IsRaisedAt (order t) c importer slot) (sym finished.content)
+          (leads.raised (begins_apart w before) stands (sound_empty (started w.oracle w.tree (seeded_state w before)).map (λ glob. None)) [] importer slot kept (λ source index edge at. absurd cc));
+      declared = declared_along runs refl refl;
+      was_put = was_put_along runs refl refl;
+      explicit_stays = λ a b run. explicit_stays_along run.goes_on;
+      settled = record { imports = settled };
+      every_namespace = every_namespace_along runs refl refl refl settled;
+      reported = finished.reported;
+    }
+  where
+    end : Moment
+    end = at [] t (leads.runs []).0
+
+    runs : Reaches w.oracle (start w before) end
+    runs = (leads.runs []).1
+
+    sound : IsSound t
+    sound = leads.keeps stands (sound_empty (started w.oracle w.tree (seeded_state w before)).map (λ glob. None))

@@ -1,0 +1,102 @@
+-- Maps that grow by modules.
+use Rattle.std.proofs.Common.{◌≡◌, ◌⊎◌, ◌<◌, ◌+◌, ℕ, zero, suc, Bool, true, false, cond, List, [], ◌∷◌, ◌++◌, length, slice_get, Option, Some, None, refl, sym, ap, ◌∙◌, subst, arith, inl, inr, length-append, append-nil, append_assoc}
+use Rattle.std.specs.Prelude.{nat_lt}
+use Rattle.std.specs.Option.{option_and_then}
+use Rattle.std.proofs.lemmas.Bool.{ltb-true}
+use Rattle.item_tree.specs.declared.name.Name.{Name}
+use Rattle.def_ids.specs.declared.ids.ModuleId.{ModuleId}
+use Rattle.def_bindings.specs.declared.visibility.Visibility.{Visibility}
+use Rattle.def_bindings.specs.Tree.{AreParentsLower}
+use Rattle.def_modules.specs.declared.module_data.ModuleOrigin.{ModuleOrigin}
+use Rattle.def_modules.specs.MapState.{MapState, ModuleState}
+use Rattle.def_modules.specs.Maps.{known_parent, pushed, with_module}
+use Rattle.def_modules.specs.Scopes.{empty_module}
+use Rattle.def_modules.specs.Updates.{update_at}
+use Rattle.def_laws.specs.Own.{IsOwn}
+use Rattle.def_rules.specs.Imports.{with_new_prelude}
+use Rattle.def_rules.specs.Items.{add_module, next_module}
+use Rattle.def_rules.specs.State.{State}
+use Rattle.def_laws.proofs.SoundLaws.{IsLarger}
+
+length-update_at : {X : Type 0} (xs : List X) (i : ℕ) (f : X → X) → length (update_at xs i f) ≡ length xs
+length-update_at [] i f = refl
+length-update_at (x ∷ xs) zero f = refl
+length-update_at (x ∷ xs) (suc i) f = ap suc (length-update_at xs i f)
+
+last_cases : {X : Type 0} (xs : List X) (y x : X) (i : ℕ) → slice_get (xs ++ y ∷ []) i ≡ Some x → (slice_get xs i ≡ Some x) ⊎ ((i ≡ length xs) × (x ≡ y))
+last_cases [] y x zero h = inr (refl, cc)
+last_cases [] y x (suc i) h = cc
+last_cases (z ∷ xs) y x zero h = inl h
+last_cases (z ∷ xs) y x (suc i) h = elim (last_cases xs y x i h) [ inl old ↦ inl old | inr last ↦ inr (ap suc last.0, last.1) ]
+
+-- a map is as large as itself
+pub larger_refl : (m : MapState) → IsLarger m m
+larger_refl m = record { id = refl; containing = refl; more = []; parents = sym (append-nil m.parents); even = λ even. even; lower = λ lower. lower }
+
+-- a map with another prelude has the same modules
+pub larger_prelude : (made : Option ModuleId) (m : MapState) → IsLarger m (with_new_prelude made m)
+larger_prelude made m = record { id = refl; containing = refl; more = []; parents = sym (append-nil m.parents); even = λ even. even; lower = λ lower. lower }
+
+larger_trans : (a b c : MapState) → IsLarger a b → IsLarger b c → IsLarger a c
+larger_trans a b c p q =
+    record {
+      id = q.id ∙ p.id;
+      containing = q.containing ∙ p.containing;
+      more = p.more ++ q.more;
+      parents = q.parents ∙ ap (λ l. l ++ q.more) p.parents ∙ append_assoc a.parents p.more q.more;
+      even = λ even. q.even (p.even even);
+      lower = λ lower. q.lower (p.lower lower);
+    }
+
+-- a module that is changed is none more
+pub larger_with_module : (m : MapState) (i : ℕ) (f : ModuleState → ModuleState) → IsLarger m (with_module m i f)
+larger_with_module m i f =
+    record { id = refl; containing = refl; more = []; parents = sym (append-nil m.parents); even = λ even. even ∙ sym (length-update_at m.modules i f); lower = λ lower. lower }
+
+module _ (parents : List (Option ℕ)) (parent : ℕ) where
+  known_below : (known : Bool) → nat_lt parent (length parents) ≡ known → (p : ℕ) → cond known (Some parent) None ≡ Some p → p < length parents
+  known_below true is p h = let same : parent ≡ p = cc in let l = ltb-true parent (length parents) is in subst (λ n. n < length parents) same l
+  known_below false is p h = cc
+
+  stored : (o : Option (Option ℕ)) (p : ℕ) → option_and_then (λ parent. parent) o ≡ Some p → o ≡ Some (Some p)
+  stored None p h = cc
+  stored (Some x) p h = ap Some h
+
+  lower_pushed : AreParentsLower parents → AreParentsLower (parents ++ known_parent parents parent ∷ [])
+  lower_pushed lower i p h =
+      elim (last_cases parents (known_parent parents parent) (Some p) i (stored _ p h)) [
+        | inl old ↦ lower i p (ap (option_and_then (λ parent. parent)) old)
+        | inr last ↦
+            let below = known_below (nat_lt parent (length parents)) refl p (sym last.1) in
+            let at : i ≡ length parents = last.0 in
+            omega arith
+      ]
+
+-- a module that is pushed is one more
+larger_pushed : (m : MapState) (parent : ℕ) (d : ModuleState) → IsLarger m (pushed m parent d)
+larger_pushed m parent d =
+    record {
+      id = refl;
+      containing = refl;
+      more = known_parent m.parents parent ∷ [];
+      parents = refl;
+      even = λ even. length-append m.parents (known_parent m.parents parent ∷ []) ∙ ap (λ n. n + 1) even ∙ sym (length-append m.modules (d ∷ []));
+      lower = lower_pushed m.parents parent;
+    }
+
+pub larger_add_module : (s : State) (at : ModuleId) (name : Name) (vis : Visibility) (o : ModuleOrigin) → IsLarger s.map (add_module s at name vis o).map
+larger_add_module s at name vis o =
+    larger_trans s.map _ _ (larger_pushed s.map at.index (empty_module (Some name) o vis)) (larger_trans _ _ _ (larger_with_module _ at.index _) (larger_with_module _ at.index _))
+
+-- a module of a map is one of a larger map
+pub own_larger : (m m' : MapState) (at : ModuleId) → IsLarger m m' → IsOwn m at → IsOwn m' at
+own_larger m m' at larger own =
+    let long : length m'.parents ≡ length m.parents + length larger.more = ap length larger.parents ∙ length-append m.parents larger.more in
+    let below : at.index < length m.parents = own.1 in
+    (own.0 ∙ sym larger.id, omega arith)
+
+pub own_next : (s : State) (at : ModuleId) (name : Name) (vis : Visibility) (o : ModuleOrigin) → length s.map.parents ≡ length s.map.modules → IsOwn (add_module s at name vis o).map (next_module s)
+own_next s at name vis o even =
+    let long : length (s.map.parents ++ known_parent s.map.parents at.index ∷ []) ≡ length s.map.parents + 1 = length-append s.map.parents (known_parent s.map.parents at.index ∷ []) in
+    let even' : length s.map.parents ≡ length s.map.modules = even in
+    (refl, omega arith)

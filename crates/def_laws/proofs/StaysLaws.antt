@@ -1,0 +1,52 @@
+-- Explicit bindings stay over all runs.
+use Rattle.std.proofs.Common.{◌≡◌, Some, sym, ap, ◌∙◌, subst}
+use Rattle.item_tree.specs.declared.name.Name.{Name}
+use Rattle.def_ids.specs.declared.ids.ModuleId.{ModuleId}
+use Rattle.def_bindings.specs.declared.bindings.Binding.{Binding}
+use Rattle.def_bindings.specs.declared.bindings.Namespace.{Namespace}
+use Rattle.def_bindings.specs.declared.visibility.Visibility.{Visibility}
+use Rattle.def_bindings.specs.Content.{Content}
+use Rattle.def_bindings.specs.Puts.{IsExplicit}
+use Rattle.def_bindings.specs.PutsLaws.{explicit_stays-put_entry, explicit_stays-copied}
+use Rattle.def_oracle.specs.Oracle.{Oracle}
+use Rattle.def_rules.specs.Imports.{ImportStep, of_pending, of_partial}
+use Rattle.def_rules.specs.Settled.{ExplicitStays}
+use Rattle.def_rules.specs.State.{State, Effect, Moment, Task, Enter, Visit, Put, order, AddEdge}
+use Rattle.def_rules.specs.Steps.{Copies, Does, Reaches, Step, performs, copies, rearranges, records}
+use Rattle.def_laws.proofs.RunsLaws.{along, visits_leaves}
+
+-- explicit bindings stay from one table to another
+abbrev KeepsExplicit : Content Visibility → Content Visibility → Type 0
+KeepsExplicit old new = (at : ModuleId) (name : Name) (ns : Namespace) (held : Binding Visibility) → old.binding at name ns ≡ Some held → IsExplicit held.import → new.binding at name ns ≡ Some held
+
+same_keeps : (old new : Content Visibility) → new ≡ old → KeepsExplicit old new
+same_keeps old new same at name ns held there explicit = ap (λ (c : Content Visibility). c.binding at name ns) same ∙ there
+
+-- a recorded import leaves the table as it is
+import_content : (oracle : Oracle) (s : State) (effect : Effect) → ImportStep oracle s effect → effect.state.content ≡ s.content
+import_content oracle s effect (of_pending pending rest recorded waits ready recording is) = ap (λ (e : Effect). e.state.content) is ∙ ap (λ (e : Effect). e.state.content) recording
+import_content oracle s effect (of_partial partial rest recorded waits ready recording is) = ap (λ (e : Effect). e.state.content) is ∙ ap (λ (e : Effect). e.state.content) recording
+
+-- a copy keeps explicit bindings
+pub copies_keep : (s : State) (content : Content Visibility) → Copies s content → KeepsExplicit s.content content
+copies_keep s content copy =
+    subst (λ c. KeepsExplicit s.content c) (sym copy.after) (λ at name ns held there explicit. explicit_stays-copied (order s) copy.source copy.edge copy.slot s.content at name ns held there explicit)
+
+does_keep : (oracle : Oracle) (s : State) (task : Task) (effect : Effect) → Does oracle s task effect → KeepsExplicit s.content effect.state.content
+does_keep oracle s (Enter at directory) effect does = same_keeps s.content effect.state.content (ap (λ (e : Effect). e.state.content) does)
+does_keep oracle s (Visit site id) effect does = same_keeps s.content effect.state.content (visits_leaves oracle s site id effect does).content
+does_keep oracle s (Put place entry) effect does =
+    subst (λ (e : Effect). KeepsExplicit s.content e.state.content) (sym does) (λ at name ns held there explicit. explicit_stays-put_entry (order s) place entry s.content at name ns held there explicit)
+does_keep oracle s (AddEdge source edge) effect does =
+    subst (λ (e : Effect). KeepsExplicit s.content e.state.content) (sym does) (λ at name ns held there explicit. there)
+
+step_keeps : {oracle : Oracle} (a b : Moment) → Step oracle a b → ExplicitStays a b
+step_keeps {oracle} a b (performs task rest effect first does is) = subst (λ (m : Moment). ExplicitStays a m) (sym is) (does_keep oracle a.state task effect does)
+step_keeps a b (copies content copy is) = subst (λ (m : Moment). ExplicitStays a m) (sym is) (copies_keep a.state content copy)
+step_keeps a b (rearranges state same is) = subst (λ (m : Moment). ExplicitStays a m) (sym is) (same_keeps a.state.content state.content (ap (λ (s : State). s.content) same.rest))
+step_keeps {oracle} a b (records effect idle step is) = subst (λ (m : Moment). ExplicitStays a m) (sym is) (same_keeps a.state.content effect.state.content (import_content oracle a.state effect step))
+
+-- explicit bindings stay between any two moments of any run
+pub explicit_stays_along : {oracle : Oracle} {a b : Moment} → Reaches oracle a b → ExplicitStays a b
+explicit_stays_along {oracle} r =
+    along {oracle = oracle} ExplicitStays (λ a at name ns held there explicit. there) (step_keeps {oracle = oracle}) (λ a b c first second at name ns held there explicit. second at name ns held (first at name ns held there explicit) explicit) r

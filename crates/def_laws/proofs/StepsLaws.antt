@@ -1,0 +1,155 @@
+-- Runs: how each rule is taken, and how runs follow one another.
+use Rattle.std.proofs.Common.{◌≡◌, List, [], ◌∷◌, ◌++◌, None, Some, slice_get, refl, sym, ap, ◌∙◌, subst, append_assoc, append-nil, inl, inr}
+use Rattle.item_tree.specs.declared.ids.CfgExpr.{CfgExpr}
+use Rattle.item_tree.specs.declared.ids.ModItemId.{ModItemId}
+use Rattle.item_tree.specs.declared.items.ItemNode.{ItemNode}
+use Rattle.item_tree.specs.Attrs.{disabled_by}
+use Rattle.def_ids.specs.declared.ids.ModuleId.{ModuleId}
+use Rattle.def_bindings.specs.declared.bindings.Entry.{Entry}
+use Rattle.def_bindings.specs.declared.bindings.Slot.{Slot}
+use Rattle.def_bindings.specs.declared.visibility.Visibility.{Visibility}
+use Rattle.def_bindings.specs.Content.{Content}
+use Rattle.def_bindings.specs.Order.{Order}
+use Rattle.def_oracle.specs.Oracle.{Oracle}
+use Rattle.def_parts.specs.Directories.{Directory}
+use Rattle.def_parts.specs.Raised.{IsRaisedAt}
+use Rattle.def_rules.specs.declared.diagnostics.DefDiagnosticKind.TheVariants.{UnconfiguredCode}
+use Rattle.def_laws.specs.Followed.{AreFollowed}
+use Rattle.def_laws.specs.Sound.{AreSound, IsRaisedIn, IsSound}
+use Rattle.def_rules.specs.Targets.{target_of}
+use Rattle.def_laws.specs.Travels.{Travels}
+use Rattle.def_laws.specs.Performs.{Handled, IsDone, Performs, Updated}
+use Rattle.def_rules.specs.Imports.{ImportStep, of_pending, of_partial}
+use Rattle.def_rules.specs.Items.{diagnostic, node_at, VisitsAt, VisitsNode}
+use Rattle.def_rules.specs.State.{State, Effect, Site, Task, Enter, Visit, Rearranges, entered, only, order, put_each, reported, with_content}
+use Rattle.def_rules.specs.Steps.{Does, one, rearranges, records}
+use Rattle.def_laws.specs.Runs.{Leads}
+use Rattle.def_laws.proofs.ApartLaws.{apart_along}
+use Rattle.def_laws.proofs.OpenedLaws.{ArePlain, plain_first, plain_followed, visits_opened}
+use Rattle.def_laws.proofs.SoundLaws.{sound_larger, sound_wave}
+use Rattle.def_laws.proofs.StandsLaws.{import_sound, stands_along, stands_first}
+use Rattle.def_laws.proofs.TargetsLaws.{puts_nowhere}
+use Rattle.def_laws.proofs.WaveLaws.{runs_refl, runs_task, runs_trans, runs_wave, wave_raised}
+
+-- where no edge stands, none would raise a place
+raised_nowhere : (o : Order Visibility) (c : Content Visibility) → ((source : ModuleId) → c.edges source ≡ []) → (importer : ModuleId) (slot : Slot) → IsRaisedAt o c importer slot
+raised_nowhere o c none importer slot source index edge at = absurd (let wrong : slice_get [] index ≡ Some edge = ap (λ es. slice_get es index) (sym (none source)) ∙ at in cc)
+
+module _ {oracle : Oracle} where
+  -- a place stays raised where an import is recorded
+  import_raised : (s : State) (effect : Effect) → ImportStep oracle s effect → (importer : ModuleId) (slot : Slot) → IsRaisedIn s importer slot → IsRaisedIn effect.state importer slot
+  import_raised s effect (of_pending p rest recorded waits ready recording is) importer slot raised =
+      subst (λ (e : Effect). IsRaisedIn e.state importer slot) (sym is) (subst (λ (e : Effect). IsRaisedIn e.state importer slot) (sym recording) raised)
+  import_raised s effect (of_partial p rest recorded waits ready recording is) importer slot raised =
+      subst (λ (e : Effect). IsRaisedIn e.state importer slot) (sym is) (subst (λ (e : Effect). IsRaisedIn e.state importer slot) (sym recording) raised)
+
+  -- a run that takes no step
+  pub leads_refl : (tasks : List Task) (s : State) → Leads oracle tasks s tasks s
+  leads_refl tasks s = record { runs = runs_refl tasks s; keeps = λ stands sound. sound; raised = λ apart stands sound before importer slot kept raised. raised }
+
+  -- a run goes on with another
+  pub leads_trans : {ts us vs : List Task} {s t u : State} → Leads oracle ts s us t → Leads oracle us t vs u → Leads oracle ts s vs u
+  leads_trans p q = record {
+    runs = runs_trans p.runs q.runs;
+    keeps = λ stands sound. q.keeps (stands_along (p.runs []).1 stands) (p.keeps stands sound);
+    raised = λ apart stands sound before importer slot kept raised.
+        q.raised (apart_along (p.runs before).1 apart) (stands_along (p.runs before).1 stands) (p.keeps stands sound) (p.runs before).0 importer slot kept.1
+        (p.raised apart stands sound before importer slot kept.0 raised);
+  }
+
+  -- tasks are performed, the edges of globs among them
+  pub leads_performed : (tasks rest : List Task) (s t : State) → AreFollowed (target_of s.map.id s.targets) tasks → Performs oracle tasks s t → Leads oracle (tasks ++ rest) s rest t
+  leads_performed tasks rest s t followed done = record {
+    runs = done.runs rest;
+    keeps = λ stands sound. done.keeps followed (stands_first rest stands) sound;
+    raised = λ apart stands sound. done.raised rest (stands_first rest stands) sound;
+  }
+
+  -- an item is visited
+  leads_visit : (site : Site) (id : ModItemId) (rest : List Task) (s : State) (effect : Effect) → Does oracle s (Visit site id) effect → Leads oracle (Visit site id ∷ rest) s (effect.tasks ++ rest) effect.state
+  leads_visit site id rest s effect does = record {
+    runs = runs_task (Visit site id) rest s effect does;
+    keeps = λ stands sound.
+        let opened = visits_opened oracle s site id effect does in
+        subst (λ t. AreSound effect.state.map t effect.state.content) (sym opened.targets) (subst (λ c. AreSound effect.state.map s.targets c) (sym opened.content) (sound_larger stands.state sound opened.larger));
+    raised = λ apart stands sound before importer slot kept raised.
+        let opened = visits_opened oracle s site id effect does in
+        elim apart [
+          | inl none ↦ subst (λ c. IsRaisedAt (order effect.state) c importer slot) (sym opened.content) (raised_nowhere (order effect.state) s.content none.0 importer slot)
+          | inr none ↦ absurd cc
+        ];
+  }
+
+  -- an import is recorded
+  pub leads_import : (s : State) (effect : Effect) → ImportStep oracle s effect → Leads oracle [] s (effect.tasks ++ []) effect.state
+  leads_import s effect step = record {
+    runs = λ before. (before ++ effect.events, one (records effect refl step refl));
+    keeps = λ stands sound. import_sound oracle s effect step stands.state sound;
+    raised = λ apart stands sound before importer slot kept raised. import_raised s effect step importer slot raised;
+  }
+
+  -- the bags are put into another order
+  pub leads_rearranged : (tasks : List Task) (s t : State) → Rearranges s t → Leads oracle tasks s tasks t
+  leads_rearranged tasks s t same = record {
+    runs = λ before. (before, one (rearranges t same refl));
+    keeps = λ stands sound. subst IsSound (sym same.rest) sound;
+    raised = λ apart stands sound before importer slot kept raised. subst (λ x. IsRaisedIn x importer slot) (sym same.rest) raised;
+  }
+
+  -- a list is put and travels, and nothing else changes
+  performs_wave : (place : ModuleId) (list : List (Entry Visibility)) (s : State) (c : Content Visibility) → Travels (order s) place list s.content c → Performs oracle (put_each place list ++ []) s (with_content s c)
+  performs_wave place list s c travels = record {
+    runs = runs_wave place list s c travels [];
+    keeps = λ followed stands sound.
+        sound_wave s.map s.targets place list s.content c travels sound (puts_nowhere (target_of s.map.id s.targets) place list (subst (AreFollowed (target_of s.map.id s.targets)) (append-nil (put_each place list)) followed));
+    raised = λ rest stands sound before importer slot kept. wave_raised importer slot oracle place list s c travels [] rest before kept sound;
+  }
+
+  -- a list was put, and what changed has travelled
+  pub performs_updated : (place : ModuleId) (list : List (Entry Visibility)) (s t : State) → Updated place list s t → Performs oracle (put_each place list) s t
+  performs_updated place list s t updated =
+      subst (λ tasks. Performs oracle tasks s t) (append-nil (put_each place list)) (subst (λ u. Performs oracle (put_each place list ++ []) s u) (sym updated.rest) (performs_wave place list s t.content updated.travels))
+
+  -- the same, of a list that is known otherwise
+  pub performs_listed : (place : ModuleId) (list known : List (Entry Visibility)) (s t : State) → list ≡ known → Updated place list s t → Performs oracle (put_each place known) s t
+  performs_listed place list known s t same updated = performs_updated place known s t (subst (λ l. Updated place l s t) same updated)
+
+  -- nothing is performed
+  pub performs_none : (s : State) → Performs oracle [] s s
+  performs_none s = record { runs = λ rest. runs_refl rest s; keeps = λ followed stands sound. sound; raised = λ rest stands sound before importer slot kept raised. raised }
+
+  -- the directory of a walk is stored
+  pub leads_enter : (at : ModuleId) (directory : Directory) (rest : List Task) (s : State) → Leads oracle (Enter at directory ∷ rest) s rest (entered s at directory)
+  leads_enter at directory rest s = record {
+    runs = runs_task (Enter at directory) rest s (only (entered s at directory)) refl;
+    keeps = λ stands sound. sound;
+    raised = λ apart stands sound before importer slot kept raised. raised;
+  }
+
+  -- a visit is followed by its puts, down to the inner tasks
+  leads_done : (site : Site) (id : ModItemId) (rest : List Task) (s t : State) (effect : Effect) (inner : List Task) → Does oracle s (Visit site id) effect → IsDone oracle effect t inner → Leads oracle (Visit site id ∷ rest) s (inner ++ rest) t
+  leads_done site id rest s t effect inner does done =
+      let visited : Leads oracle (Visit site id ∷ rest) s (done.puts ++ (inner ++ rest)) effect.state =
+      subst (λ tasks. Leads oracle (Visit site id ∷ rest) s tasks effect.state) (ap (λ tasks. tasks ++ rest) done.tasks ∙ append_assoc done.puts inner rest) (leads_visit site id rest s effect does) in
+      let plain = plain_first done.puts inner (subst ArePlain done.tasks (visits_opened oracle s site id effect does).plain) in
+      leads_trans visited (leads_performed done.puts (inner ++ rest) effect.state t (plain_followed (target_of effect.state.map.id effect.state.targets) done.puts plain) done.performs)
+
+  -- an item is visited, and what it puts is put
+  pub leads_handled : (s t : State) (site : Site) (id : ModItemId) (item : ItemNode) (inner : List Task) → node_at oracle site.tree id ≡ Some item → disabled_by item.attrs ≡ None → Handled oracle s t site item inner
+      → (rest : List Task) → Leads oracle (Visit site id ∷ rest) s (inner ++ rest) t
+  leads_handled s t site id item inner found on handled rest =
+      let node : VisitsNode oracle s site item (disabled_by item.attrs) handled.effect = subst (λ c. VisitsNode oracle s site item c handled.effect) (sym on) handled.handled in
+      let does : Does oracle s (Visit site id) handled.effect = subst (λ o. VisitsAt oracle s site o handled.effect) (sym found) node in
+      leads_done site id rest s t handled.effect inner does handled.done
+
+  -- an item that cfg disables is reported
+  pub leads_disabled : (s t : State) (site : Site) (id : ModItemId) (item : ItemNode) (cfg : CfgExpr) → node_at oracle site.tree id ≡ Some item → disabled_by item.attrs ≡ Some cfg
+      → t ≡ reported s (diagnostic site item (UnconfiguredCode cfg)) → (rest : List Task) → Leads oracle (Visit site id ∷ rest) s rest t
+  leads_disabled s t site id item cfg found off after rest =
+      let effect : Effect = only t in
+      let node : VisitsNode oracle s site item (disabled_by item.attrs) effect = subst (λ c. VisitsNode oracle s site item c effect) (sym off) (ap only after) in
+      leads_visit site id rest s effect (subst (λ o. VisitsAt oracle s site o effect) (sym found) node)
+
+  -- an item that the tree does not have is nothing
+  pub leads_nothing : (s : State) (site : Site) (id : ModItemId) → node_at oracle site.tree id ≡ None → (rest : List Task) → Leads oracle (Visit site id ∷ rest) s rest s
+  leads_nothing s site id missing rest = leads_visit site id rest s (only s) (subst (λ o. VisitsAt oracle s site o (only s)) (sym missing) refl)

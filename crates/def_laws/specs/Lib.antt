@@ -1,0 +1,9 @@
+pub mod Finished
+pub mod Followed
+pub mod Own
+pub mod Runs
+pub mod Sound
+pub mod Travels
+pub mod Performs
+pub mod Work
+pub mod Turns

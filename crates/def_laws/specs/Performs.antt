@@ -1,0 +1,47 @@
+-- Tasks that are performed together, and what an item leaves to be done.
+use Rattle.std.specs.Prelude.{◌≡◌, List, ◌++◌, Option}
+use Rattle.item_tree.specs.declared.items.ItemNode.{ItemNode}
+use Rattle.def_ids.specs.declared.ids.ModuleId.{ModuleId}
+use Rattle.def_bindings.specs.declared.bindings.Entry.{Entry}
+use Rattle.def_bindings.specs.declared.visibility.Visibility.{Visibility}
+use Rattle.def_oracle.specs.Oracle.{Oracle}
+use Rattle.def_laws.specs.Travels.{Travels}
+use Rattle.def_rules.specs.Items.{HandlesInSession}
+use Rattle.def_rules.specs.State.{State, Site, Task, Effect, order, with_content}
+use Rattle.def_laws.specs.Followed.{AreFollowed}
+use Rattle.def_laws.specs.Sound.{IsSound, KeepsSound}
+use Rattle.def_laws.specs.Own.{Stands}
+use Rattle.def_rules.specs.Targets.{target_of}
+use Rattle.def_laws.specs.Runs.{Runs, StaysRaised}
+use Rattle.item_tree.specs.declared.items.ImportKind.TheVariants as kind
+use Rattle.def_ids.specs.declared.ids.Def.{Def}
+use Rattle.def_ids.specs.declared.ids.GlobId.{GlobId}
+use Rattle.def_rules.specs.Imports.{targets_after}
+
+-- the state in which a glob was recorded with this definition
+abbrev pub target_state : State → GlobId → Option Def → State
+target_state s glob given = record s { targets = targets_after kind.Glob glob given s.targets }
+
+-- these tasks are performed, whatever is to be done behind them; names stay sound where the edges of globs are among the tasks
+pub record Performs (oracle : Oracle) (tasks : List Task) (s t : State) : Type 0 where
+  pub runs : (rest : List Task) → Runs oracle (tasks ++ rest) s rest t
+  pub keeps : AreFollowed (target_of s.map.id s.targets) tasks → KeepsSound tasks s t
+  pub raised : (rest : List Task) → Stands tasks s → IsSound s → StaysRaised (runs rest)
+
+-- a list was put in a module, what changed has travelled along the edges, and nothing else changed
+pub record Updated (at : ModuleId) (list : List (Entry Visibility)) (s t : State) : Type 0 where
+  pub travels : Travels (order s) at list s.content t.content
+  pub rest : t ≡ with_content s t.content
+
+-- what a rule leads to was done up to these inner tasks: the others are puts, were performed, and left the session
+pub record IsDone (oracle : Oracle) (effect : Effect) (t : State) (inner : List Task) : Type 0 where
+  pub puts : List Task
+  pub tasks : effect.tasks ≡ puts ++ inner
+  pub performs : Performs oracle puts effect.state t
+  pub session : t.session ≡ effect.state.session
+
+-- an item was handled, and what it puts was put: its own items are left
+pub record Handled (oracle : Oracle) (s t : State) (site : Site) (item : ItemNode) (inner : List Task) : Type 0 where
+  pub effect : Effect
+  pub handled : HandlesInSession oracle s site item effect
+  pub done : IsDone oracle effect t inner

@@ -1,0 +1,28 @@
+-- Where globs lead.
+use Rattle.std.specs.Prelude.{Bool, false, cond, List, [], ◌∷◌, Option, None, Some, unwrap_or}
+use Rattle.def_ids.specs.declared.ids.Def.{Def}
+use Rattle.def_ids.specs.declared.ids.Def.TheVariants as def
+use Rattle.def_ids.specs.declared.ids.GlobId.{GlobId}
+use Rattle.def_ids.specs.declared.ids.MapId.{MapId}
+use Rattle.def_ids.specs.declared.ids.ModuleId.{ModuleId}
+use Rattle.def_ids.specs.Ids.{is_same_map}
+use Rattle.def_rules.specs.Globs.{Targets}
+
+-- a definition that is a module of this map
+abbrev pub own_module : MapId → Def → Option ModuleId
+own_module id (def.Module source) = cond (is_same_map source.map id) (Some source) None
+own_module id _ = None
+
+-- the module of this map that is the one definition of a list
+abbrev pub own_target : MapId → List Def → Option ModuleId
+own_target id [] = None
+own_target id (d ∷ []) = own_module id d
+own_target id (d ∷ e ∷ others) = None
+
+-- the module of this map that a glob leads to, where it was recorded with this module alone
+abbrev pub target_of : MapId → Targets → GlobId → Option ModuleId
+target_of id targets glob = own_target id (unwrap_or (targets glob) [])
+
+-- no module is left out
+abbrev pub none_left_out : ModuleId → Bool
+none_left_out m = false
