@@ -1,14 +1,8 @@
 -- What a glob brings, gathered entry by entry, and what it was recorded with.
-use Rattle.std.proofs.Common.{◌≡◌, ◌⊎◌, inl, inr, ◌+◌, ◌<◌, ℕ, zero, suc, Bool, true, false, cond, map, take, drop, length, if◌then◌else◌, List, [], ◌∷◌, ◌++◌, Option, Some, None, refl, sym, ap, ◌∙◌, subst, inl, inr, append-nil, append_assoc, add-one}
-use Rattle.std.specs.Prelude.{slice_get, unwrap_or}
-use Rattle.std.specs.List.{flat_map}
-use Rattle.std.proofs.lemmas.Bool.{cases_Bool}
-use Rattle.std.proofs.lemmas.List.{map-append}
-use Rattle.std.proofs.lemmas.Option.{slice_get_within}
+use Rattle.std.proofs.Common.{◌≡◌, ◌⊎◌, inl, inr, ◌+◌, Bool, true, false, map, if◌then◌else◌, List, [], ◌∷◌, ◌++◌, Option, Some, None, refl, sym, ap, ◌∙◌, subst, inl, inr, append-nil}
 use Rattle.def_ids.specs.declared.ids.Def.{Def}
 use Rattle.def_ids.specs.declared.ids.GlobId.{GlobId}
 use Rattle.def_ids.specs.Equality.{glob_eq}
-use Rattle.def_bindings.specs.IdLaws.{glob-eq}
 use Rattle.indexmap.specs.IndexMap.{IndexMap, get}
 use Rattle.item_tree.specs.declared.items.ImportKind.{ImportKind}
 use Rattle.item_tree.specs.declared.items.ImportKind.TheVariants as kind
@@ -18,7 +12,6 @@ use Rattle.def_bindings.specs.declared.bindings.EdgeTo.{EdgeTo}
 use Rattle.def_bindings.specs.declared.bindings.Entry.{Entry}
 use Rattle.def_bindings.specs.declared.visibility.Visibility.{Visibility}
 use Rattle.def_paths.specs.declared.asked.ResolvePathResult.{ResolvePathResult}
-use Rattle.def_modules.specs.KeyedLists.{PushesUnder}
 use Rattle.def_oracle.specs.Oracle.{Oracle}
 use Rattle.def_ids.specs.Ids.{is_same_map}
 use Rattle.def_bindings.specs.Content.{Content}
@@ -27,99 +20,12 @@ use Rattle.def_paths.specs.Paths.{map_of}
 use Rattle.def_paths.specs.Sources.{finished_map}
 use Rattle.def_parts.specs.Globs.{with_recorded}
 use Rattle.def_laws.specs.Performs.{Performs, Updated, target_state}
-use Rattle.def_rules.specs.Globs.{Targets, is_among, module_entries, scope_entries, with_def, with_target}
+use Rattle.def_rules.specs.Globs.{module_entries, scope_entries, with_target}
 use Rattle.def_rules.specs.Imports.{edge_tasks, glob_def, glob_edge, glob_id, glob_tasks, import_vis, is_own_crate, made_prelude, new_prelude, record_effect, record_tasks, targets_after, types_def, unless_prelude, with_new_prelude}
 use Rattle.def_rules.specs.State.{State, AddEdge, PendingImport, map_view, only, order, put_each, with_content, world}
 use Rattle.def_laws.proofs.EdgeLaws.{glob_raised, glob_sound}
 use Rattle.def_laws.proofs.StepsLaws.{performs_listed, performs_none}
 use Rattle.def_laws.proofs.WaveLaws.{runs_task, runs_trans, runs_wave}
-
--- the list from an index on, at an element
-pub from_index : {X : Type 0} (xs : List X) (k : ℕ) (x : X) → Some x ≡ slice_get xs k → drop k xs ≡ x ∷ drop (suc k) xs
-from_index [] k x h = cc
-from_index (y ∷ xs) zero x h = let e : x ≡ y = cc in ap (λ z. z ∷ xs) (sym e)
-from_index (y ∷ xs) (suc k) x h = from_index xs k x h
-
--- and past its end
-pub past_index : {X : Type 0} (xs : List X) (k : ℕ) → None ≡ slice_get xs k → drop k xs ≡ []
-past_index [] zero h = refl
-past_index [] (suc k) h = refl
-past_index (y ∷ xs) zero h = cc
-past_index (y ∷ xs) (suc k) h = past_index xs k h
-
--- an element that is found stands within the list
-pub within_index : {X : Type 0} (xs : List X) (k : ℕ) (x : X) → Some x ≡ slice_get xs k → k < length xs
-within_index xs k x h = slice_get_within xs k x (sym h)
-
-module _ {X Y : Type 0} (f : X → List Y) (xs : List X) where
-  -- one element more was gathered
-  pub gathered_more : (k : ℕ) (x : X) (acc acc' whole : List Y) → Some x ≡ slice_get xs k → acc' ≡ acc ++ f x → acc ++ flat_map f (drop k xs) ≡ whole → acc' ++ flat_map f (drop (k + 1) xs) ≡ whole
-  gathered_more k x acc acc' whole at more so_far =
-      ap (λ l. l ++ flat_map f (drop (k + 1) xs)) more
-      ∙ append_assoc acc (f x) (flat_map f (drop (k + 1) xs))
-      ∙ ap (λ n. acc ++ (f x ++ flat_map f (drop n xs))) (add-one k)
-      ∙ ap (λ l. acc ++ flat_map f l) (sym (from_index xs k x at))
-      ∙ so_far
-
-  -- all were gathered
-  pub gathered_all : (k : ℕ) (acc whole : List Y) → None ≡ slice_get xs k → acc ++ flat_map f (drop k xs) ≡ whole → acc ≡ whole
-  gathered_all k acc whole past so_far = sym (append-nil acc) ∙ ap (λ l. acc ++ flat_map f l) (sym (past_index xs k past)) ∙ so_far
-
-module _ {X Y : Type 0} (f : X → Y) (xs : List X) where
-  -- one element more was listed
-  pub listed_more : (k : ℕ) (x : X) (acc acc' : List Y) → Some x ≡ slice_get xs k → acc' ≡ acc ++ f x ∷ [] → acc ++ map f (drop k xs) ≡ map f xs → acc' ++ map f (drop (k + 1) xs) ≡ map f xs
-  listed_more k x acc acc' at more so_far =
-      ap (λ l. l ++ map f (drop (k + 1) xs)) more
-      ∙ append_assoc acc (f x ∷ []) (map f (drop (k + 1) xs))
-      ∙ ap (λ n. acc ++ (f x ∷ map f (drop n xs))) (add-one k)
-      ∙ ap (λ l. acc ++ map f l) (sym (from_index xs k x at))
-      ∙ so_far
-
-  -- all were listed
-  pub listed_all : (k : ℕ) (acc : List Y) → None ≡ slice_get xs k → acc ++ map f (drop k xs) ≡ map f xs → acc ≡ map f xs
-  listed_all k acc past so_far = sym (append-nil acc) ∙ ap (λ l. acc ++ map f l) (sym (past_index xs k past)) ∙ so_far
-
-take_at : {Y : Type 0} (xs : List Y) (i : ℕ) (y : Y) → Some y ≡ slice_get xs i → take (suc i) xs ≡ take i xs ++ y ∷ []
-take_at [] i y h = cc
-take_at (x ∷ xs) zero y h = let e : y ≡ x = cc in ap (λ z. z ∷ []) (sym e)
-take_at (x ∷ xs) (suc i) y h = ap (λ l. x ∷ l) (take_at xs i y h)
-
--- one element more of those that are shown
-pub taken_more : {X Y : Type 0} (f : X → Y) (list list' : List X) (xs : List Y) (i : ℕ) (x : X) (y : Y) → map f list ≡ take i xs → Some y ≡ slice_get xs i → f x ≡ y → list' ≡ list ++ x ∷ [] → map f list' ≡ take (i + 1) xs
-taken_more f list list' xs i x y so_far at same more =
-    ap (map f) more
-    ∙ map-append f list (x ∷ [])
-    ∙ ap (λ l. l ++ f x ∷ []) so_far
-    ∙ ap (λ z. take i xs ++ z ∷ []) same
-    ∙ sym (take_at xs i y at)
-    ∙ ap (λ n. take n xs) (sym (add-one i))
-
--- What a glob was recorded with
-
-module _ (glob : GlobId) (d : Def) (old : Targets) where
-  with_known : (there : Option (List Def)) → is_among d (unwrap_or there []) ≡ true → there ≡ Some (with_def d (unwrap_or there []))
-  with_known None h = absurd cc
-  with_known (Some defs) h = rw h refl
-
-  -- a definition that a glob was recorded with before
-  pub target_known : is_among d (unwrap_or (old glob) []) ≡ true → old ≡ with_target glob d old
-  target_known h = λ i g. one g i
-    where
-      one : (g : GlobId) → old g ≡ with_target glob d old g
-      one g = elim (cases_Bool (glob_eq glob g)) [
-        | inl same ↦ rw same (ap old (sym (glob-eq glob g same)) ∙ with_known (old glob) h)
-        | inr other ↦ rw other refl
-      ]
-
-  -- a new one
-  pub target_new : (new : Targets) → is_among d (unwrap_or (old glob) []) ≡ false → PushesUnder glob_eq old new glob d → new ≡ with_target glob d old
-  target_new new h pushed = λ i g. one g i
-    where
-      last : with_def d (unwrap_or (old glob) []) ≡ unwrap_or (old glob) [] ++ d ∷ []
-      last = rw h refl
-
-      one : (g : GlobId) → new g ≡ with_target glob d old g
-      one g = pushed g ∙ ap (λ l. cond (glob_eq glob g) (Some l) (old g)) (sym last)
 
 -- no glob was recorded yet
 pub no_targets : {S : Type 0} (m : IndexMap GlobId (List Def) S) → m.entries ≡ [] → get glob_eq m ≡ (λ glob. None)

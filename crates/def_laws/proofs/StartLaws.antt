@@ -1,10 +1,6 @@
 -- What is known before the first item, and the work that a run begins with.
-use Rattle.std.proofs.Common.{Bor, ◌≡◌, ◌<◌, ◌^◌, ℕ, Bool, true, false, cond, ◌&&◌, List, [], ◌∷◌, ◌++◌, Option, Some, None, Result, Ok, Err, option_and_then, option_map, refl, sym, ap, subst, append-nil, is_some, arith, ◌∙◌}
-use Rattle.std.proofs.lemmas.Bool.{lt-ltb, ltb-true}
-use Rattle.std.proofs.lemmas.Str.Parse.{IsNumeralModel, numerals_by_value, tells_all_ascii_digits}
+use Rattle.std.proofs.Common.{Bor, ◌≡◌, ℕ, false, cond, List, [], ◌∷◌, ◌++◌, Option, Some, None, option_and_then, option_map, refl, sym, ap, subst, append-nil, is_some, ◌∙◌}
 use Rattle.std.specs.Option.{option_copied, unwrap_or}
-use Rattle.std.specs.Str.{all_ascii_digits}
-use Rattle.std.specs.Str.Parse.{IsNumeral, ParsesUnsigned, digits_value, without_leading_plus}
 use Rattle.item_tree.specs.declared.attrs.Attr.{Attr}
 use Rattle.item_tree.specs.declared.ids.CfgExpr.{CfgExpr}
 use Rattle.item_tree.specs.declared.ids.ModItemId.{ModItemId}
@@ -21,7 +17,7 @@ use Rattle.def_modules.specs.MapView.{LocalView}
 use Rattle.def_oracle.specs.Oracle.{Oracle}
 use Rattle.def_paths.specs.Paths.{for_module, module_found, module_reached, resolve}
 use Rattle.def_parts.specs.Directories.{Directory, root_directory}
-use Rattle.def_rules.specs.Crates.{digits_u32, prelude_module, prelude_path, read_u32, tree_attrs}
+use Rattle.def_rules.specs.Crates.{prelude_module, prelude_path, tree_attrs}
 use Rattle.def_rules.specs.Items.{top_items, tree_cfg, walk}
 use Rattle.def_rules.specs.Start.{crate_head, first_head, first_reports, first_tasks, first_tree, first_walk, head_of, informed, site_at, started, told, with_attrs, with_deps, with_head, with_prelude}
 use Rattle.def_rules.specs.State.{State, root, module_site, world}
@@ -154,34 +150,3 @@ prelude_found oracle s local path found reached core is answered known written =
     ∙ ap (λ l. module_found (resolve (record (world oracle s) { local = l }) for_module (root s.map) path)) known
     ∙ ap (λ p. module_found (resolve (world oracle s) for_module (root s.map) p)) written
     ∙ sym (ap (λ b. cond b None (module_found (resolve (world oracle s) for_module (root s.map) (prelude_path s)))) core)
-
--- The number that a limit's text reads as
-
-own : IsNumeralModel (λ ds. all_ascii_digits ds ≡ true) (digits_value 10)
-own = numerals_by_value (λ ds. all_ascii_digits ds ≡ true) tells_all_ascii_digits
-
-chosen : (a b : Bool) (v n : ℕ) → a ≡ true → b ≡ true → n ≡ v → Some n ≡ cond (a && b) (Some v) None
-chosen a b v n p q same = ap (λ x. Some x) same ∙ sym (ap (λ x. cond (x && b) (Some v) None) p ∙ ap (λ x. cond x (Some v) None) q)
-
-refused : (a b : Bool) (v : ℕ) → (a ≡ true → b ≡ true → ⊥) → None ≡ cond (a && b) (Some v) None
-refused true true v wrong = absurd (wrong refl refl)
-refused true false v wrong = refl
-refused false b v wrong = refl
-
--- digits of a number of 32 bits are read
-digits_read : (ds : List ℕ) (n : ℕ) → (IsNumeral 10 ds × (digits_value 10 ds < 2 ^ 32)) × (n ≡ digits_value 10 ds) → Some n ≡ digits_u32 ds
-digits_read [] n given = let some : 0 < 0 = given.0.0.0 in absurd (omega arith)
-digits_read (c ∷ cs) n given = chosen _ _ _ n (own.from (c ∷ cs) given.0.0.1) (lt-ltb _ _ given.0.1) given.1
-
--- and nothing else is
-digits_refused : (ds : List ℕ) → ¬ (IsNumeral 10 ds × (digits_value 10 ds < 2 ^ 32)) → None ≡ digits_u32 ds
-digits_refused [] wrong = refl
-digits_refused (c ∷ cs) wrong = refused _ _ _ (λ p q. wrong ((omega arith, own.to (c ∷ cs) p), ltb-true _ _ q))
-
--- a text that is parsed is read
-pub parsed : {E : Type 0} (text : List ℕ) (r : Result ℕ E) (n : ℕ) → ParsesUnsigned 32 10 text r → r ≡ Ok n → Some n ≡ read_u32 text
-parsed text r n by is = digits_read (without_leading_plus text) n (subst (ParsesUnsigned 32 10 text) is by)
-
--- one that is not parsed is not
-pub unparsed : {E : Type 0} (text : List ℕ) (r : Result ℕ E) (e : E) → ParsesUnsigned 32 10 text r → r ≡ Err e → None ≡ read_u32 text
-unparsed text r e by is = digits_refused (without_leading_plus text) (subst (ParsesUnsigned 32 10 text) is by)

@@ -1,2 +1,5 @@
 pub mod PlacesLemmas
 pub mod OrderLemmas
+pub mod GatherLemmas
+pub mod TargetsLemmas
+pub mod NumbersLemmas

@@ -1,4 +1,4 @@
-use Rattle.def_laws.proofs.StartLaws.{parsed, unparsed}
+use Rattle.def_steps.proofs.NumbersLemmas.{parsed, unparsed}
 use Rattle.def_steps.proofs.crate_attrs.number.Goals as goal
 
 pub returns-in-Ok : goal.returns-in-Ok

@@ -1,7 +1,7 @@
 use Rattle.std.proofs.Common.{sym, ◌∙◌}
 use Rattle.indexmap.specs.IndexMap.{get}
 use Rattle.def_ids.specs.Equality.{glob_eq}
-use Rattle.def_laws.proofs.GlobsLaws.{target_known, target_new}
+use Rattle.def_steps.proofs.TargetsLemmas.{target_known, target_new}
 use Rattle.def_steps.proofs.targets.add_target.Goals as goal
 
 pub returns-then-is_recorded : goal.returns-then-is_recorded

@@ -1,7 +1,7 @@
 use Rattle.std.proofs.Common.{◌<◌, ◌^◌, arith, length}
 use Rattle.def_bindings.specs.NumberedTable.{all_edges}
 use Rattle.def_steps.specs.Shown.{shown_edge}
-use Rattle.def_laws.proofs.GlobsLaws.{listed_all, listed_more, within_index}
+use Rattle.def_steps.proofs.GatherLemmas.{listed_all, listed_more, within_index}
 use Rattle.def_steps.proofs.targets.edges_of.Goals as goal
 
 pub overflow_add-number : goal.overflow_add-number

@@ -1,6 +1,6 @@
 use Rattle.std.proofs.Common.{◌∙◌}
 use Rattle.def_rules.specs.Report.{shown_targets}
-use Rattle.def_laws.proofs.GlobsLaws.{taken_more}
+use Rattle.def_steps.proofs.GatherLemmas.{taken_more}
 use Rattle.def_steps.proofs.targets.targets_of.Goals as goal
 
 pub targets-preserved : goal.targets-preserved
