@@ -11,7 +11,7 @@ ghost use Rattle.def_walk.specs.Collector.{state_of};
 ghost use Rattle.def_rules.specs.Globs.{module_entries, variant_entries};
 ghost use Rattle.def_rules.specs.Imports.{glob_edge, glob_id, glob_tasks, import_vis, is_own_crate, types_def};
 ghost use Rattle.def_rules.specs.State.{order, with_content, world};
-ghost use Rattle.def_parts.specs.Globs.{with_recorded};
+ghost use Rattle.def_globs.specs.Globs.{with_recorded};
 
 use def_bindings::{EdgeTo, Entry, Visibility};
 use def_ids::{Def, EnumId, Interner, LocationId, ModuleId};

@@ -15,7 +15,7 @@ use Rattle.def_bindings.specs.Puts.{held}
 use Rattle.def_bindings.specs.Tree.{AreParentsLower}
 use Rattle.def_map.specs.Fresh.{IsFresh, fresh_by}
 use Rattle.def_modules.specs.MapState.{MapState}
-use Rattle.def_parts.specs.ListLaws.{none_in}
+use Rattle.def_globs.proofs.ListLaws.{none_in}
 use Rattle.def_oracle.specs.Oracle.{Oracle}
 use Rattle.def_laws.specs.Followed.{AreApart}
 use Rattle.def_laws.specs.Own.{AreOwn, AreOwnTasks, IsOwn, Stands}

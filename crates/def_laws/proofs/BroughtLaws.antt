@@ -27,9 +27,9 @@ use Rattle.def_oracle.specs.declared.source_database.EnumVariant.{EnumVariant}
 use Rattle.def_paths.specs.Answers.{variant_found}
 use Rattle.def_modules.specs.MapView.{MapView}
 use Rattle.def_paths.specs.PerNs.{Item, kept}
-use Rattle.def_parts.specs.ListLaws.{first_in, none_in, only_in, in_cases}
-use Rattle.def_parts.specs.Raised.{HasOneDef, ListsCarried}
-use Rattle.def_parts.specs.Waves.{ListsAll, slots_of}
+use Rattle.def_globs.proofs.ListLaws.{first_in, none_in, only_in, in_cases}
+use Rattle.def_globs.specs.Raised.{HasOneDef, ListsCarried}
+use Rattle.def_globs.specs.Waves.{ListsAll, slots_of}
 use Rattle.def_rules.specs.Globs.{brought, module_entries, name_entries, scope_entries, seen, unnamed_entry, variant_entries}
 
 -- an element of lists in a row is of the list of one element

@@ -22,11 +22,11 @@ use Rattle.def_bindings.specs.Puts.{held, slot_for, slot_of}
 use Rattle.def_oracle.specs.Oracle.{Oracle}
 use Rattle.def_paths.specs.Paths.{map_of}
 use Rattle.def_paths.specs.Sources.{finished_map}
-use Rattle.def_parts.specs.Globs.{with_recorded}
-use Rattle.def_parts.specs.AddingLaws.{adding_raised}
-use Rattle.def_parts.specs.ListLaws.{first_in}
-use Rattle.def_parts.specs.Raised.{HasOneDef, IsRaisedAlong, IsRaisedAt, KeepsDef, ListsCarried}
-use Rattle.def_parts.specs.Waves.{IsClosedTo, ListsAll}
+use Rattle.def_globs.specs.Globs.{with_recorded}
+use Rattle.def_globs.proofs.AddingLaws.{adding_raised}
+use Rattle.def_globs.proofs.ListLaws.{first_in}
+use Rattle.def_globs.specs.Raised.{HasOneDef, IsRaisedAlong, IsRaisedAt, KeepsDef, ListsCarried}
+use Rattle.def_globs.specs.Waves.{IsClosedTo, ListsAll}
 use Rattle.def_laws.specs.Followed.{AreFollowed}
 use Rattle.def_laws.specs.Sound.{IsRaisedIn, IsSound}
 use Rattle.def_laws.specs.Own.{Stands}

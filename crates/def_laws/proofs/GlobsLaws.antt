@@ -18,7 +18,7 @@ use Rattle.def_bindings.specs.Content.{Content}
 use Rattle.def_modules.specs.MapView.{MapView}
 use Rattle.def_paths.specs.Paths.{map_of}
 use Rattle.def_paths.specs.Sources.{finished_map}
-use Rattle.def_parts.specs.Globs.{with_recorded}
+use Rattle.def_globs.specs.Globs.{with_recorded}
 use Rattle.def_laws.specs.Performs.{Performs, Updated, target_state}
 use Rattle.def_rules.specs.Globs.{module_entries, scope_entries, with_target}
 use Rattle.def_rules.specs.Imports.{edge_tasks, glob_def, glob_edge, glob_id, glob_tasks, import_vis, is_own_crate, made_prelude, new_prelude, record_effect, record_tasks, targets_after, types_def, unless_prelude, with_new_prelude}

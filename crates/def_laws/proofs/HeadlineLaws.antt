@@ -2,7 +2,7 @@
 use Rattle.std.proofs.Common.{◌≡◌, [], None, refl, sym, subst}
 use Rattle.def_ids.specs.Session.{Session}
 use Rattle.def_bindings.specs.Closure.{IsClosed, IsCoherent}
-use Rattle.def_parts.specs.Raised.{IsRaisedAt}
+use Rattle.def_globs.specs.Raised.{IsRaisedAt}
 use Rattle.def_laws.specs.Sound.{IsSound}
 use Rattle.def_laws.specs.Own.{Stands}
 use Rattle.def_rules.specs.Targets.{none_left_out, target_of}

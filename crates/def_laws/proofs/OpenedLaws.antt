@@ -33,7 +33,7 @@ use Rattle.def_modules.specs.Maps.{with_module}
 use Rattle.def_oracle.specs.Oracle.{Oracle}
 use Rattle.def_modules.specs.Scopes.{declared_in, with_extern_block, with_extern_crate, with_impl, with_unnamed_const}
 use Rattle.def_parts.specs.Directories.{Directory, FoundFile, descend}
-use Rattle.def_parts.specs.ListLaws.{none_in, in_cases}
+use Rattle.def_globs.proofs.ListLaws.{none_in, in_cases}
 use Rattle.def_rules.specs.declared.diagnostics.DefDiagnosticKind.TheVariants.{UnresolvedModule}
 use Rattle.def_laws.specs.Followed.{AreFollowed}
 use Rattle.def_laws.specs.Own.{AreOwnTasks, IsOwn, IsRecorded}

@@ -20,16 +20,16 @@ use Rattle.def_bindings.specs.IdLaws.{name-eq, name-refl, same_module_equal}
 use Rattle.def_bindings.specs.Order.{Order}
 use Rattle.def_bindings.specs.Puts.{answer, copied, edge_to, fitted, held, joined, offered, put_at, put_entry, settled, slot_of, written}
 use Rattle.def_modules.specs.MapState.{MapState}
-use Rattle.def_parts.specs.BringingLaws.{globs_puts}
-use Rattle.def_parts.specs.CopyingLaws.{copy_cases, edges_copied}
-use Rattle.def_parts.specs.Globs.{with_recorded}
-use Rattle.def_parts.specs.LedLaws.{found_importer}
-use Rattle.def_parts.specs.ListLaws.{first_in, only_in}
-use Rattle.def_parts.specs.PuttingLaws.{edges_put, put_cases}
-use Rattle.def_parts.specs.RecordingLaws.{origin_copies}
-use Rattle.def_parts.specs.Waves as Waves
-use Rattle.def_parts.specs.Waves.{def_at, def_or}
-use Rattle.def_parts.specs.AddingLaws.{in_with_edge}
+use Rattle.def_globs.proofs.BringingLaws.{globs_puts}
+use Rattle.def_globs.proofs.CopyingLaws.{copy_cases, edges_copied}
+use Rattle.def_globs.specs.Globs.{with_recorded}
+use Rattle.def_globs.proofs.LedLaws.{found_importer}
+use Rattle.def_globs.proofs.ListLaws.{first_in, only_in}
+use Rattle.def_globs.proofs.PuttingLaws.{edges_put, put_cases}
+use Rattle.def_globs.proofs.RecordingLaws.{origin_copies}
+use Rattle.def_globs.specs.Waves as Waves
+use Rattle.def_globs.specs.Waves.{def_at, def_or}
+use Rattle.def_globs.proofs.AddingLaws.{in_with_edge}
 use Rattle.def_laws.specs.Own.{AreOwn, AreOwnTasks, IsOwn, IsOwnTask, IsRecorded}
 use Rattle.def_rules.specs.Globs.{Targets}
 use Rattle.def_rules.specs.State.{PartialImport, PendingImport, Task, Enter, Visit, Put, AddEdge}

@@ -22,10 +22,10 @@ use Rattle.def_bindings.specs.Puts.{edge_to, slot_of}
 use Rattle.def_bindings.specs.Tree.{AreParentsLower, chain_of}
 use Rattle.def_bindings.specs.Visibility.{is_visible_from}
 use Rattle.def_modules.specs.MapState.{MapState}
-use Rattle.def_parts.specs.Globs.{with_recorded}
-use Rattle.def_parts.specs.LedLaws.{led_or_home, led_recorded, led_updated, nothing_brought}
-use Rattle.def_parts.specs.Waves.{AddsEdge, AreSingle, BeginsAt, Brings, IsClosedTo, ListsAll}
-use Rattle.def_parts.specs.AddingLaws.{adding_begins, adding_closed, adding_coherent, adding_edge}
+use Rattle.def_globs.specs.Globs.{with_recorded}
+use Rattle.def_globs.proofs.LedLaws.{led_or_home, led_recorded, led_updated, nothing_brought}
+use Rattle.def_globs.specs.Waves.{AddsEdge, AreSingle, BeginsAt, Brings, IsClosedTo, ListsAll}
+use Rattle.def_globs.proofs.AddingLaws.{adding_begins, adding_closed, adding_coherent, adding_edge}
 use Rattle.def_laws.specs.Own.{AreOwn, IsOwn, IsRecorded}
 use Rattle.def_laws.specs.Sound.{AreSound, order_in}
 use Rattle.def_rules.specs.Targets.{none_left_out, own_target, target_of}

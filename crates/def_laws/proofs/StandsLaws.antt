@@ -5,7 +5,7 @@ use Rattle.std.proofs.lemmas.List.Sorted.{Contains-permutation, IsPermutation-sy
 use Rattle.def_modules.specs.MapState.{MapState}
 use Rattle.def_paths.specs.declared.asked.ResolvePathResult.{ResolvePathResult}
 use Rattle.def_oracle.specs.Oracle.{Oracle}
-use Rattle.def_parts.specs.ListLaws.{first_in, later_in, none_in, only_in}
+use Rattle.def_globs.proofs.ListLaws.{first_in, later_in, none_in, only_in}
 use Rattle.def_laws.specs.Own.{AreOwn, IsOwn, IsRecorded, Stands}
 use Rattle.def_laws.specs.Sound.{IsSound}
 use Rattle.def_rules.specs.Imports.{ImportStep, of_pending, of_partial, after_pending, after_partial, answer_now, kept_list, new_prelude, record_effect, record_state, record_tasks, with_new_prelude}

@@ -23,7 +23,7 @@ use Rattle.def_oracle.specs.Oracle.{Oracle}
 use Rattle.def_paths.specs.Answers.{variants_of}
 use Rattle.def_paths.specs.Paths.{for_import, map_of, question}
 use Rattle.def_paths.specs.PerNs.{Item}
-use Rattle.def_parts.specs.ListLaws.{none_in, only_in}
+use Rattle.def_globs.proofs.ListLaws.{none_in, only_in}
 use Rattle.def_laws.specs.Followed.{AreFollowed}
 use Rattle.def_laws.specs.Own.{AreOwn, AreOwnTasks, IsOwn}
 use Rattle.def_laws.specs.Sound.{AreSound}

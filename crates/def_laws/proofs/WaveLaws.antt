@@ -12,10 +12,10 @@ use Rattle.def_bindings.specs.Content.{Content}
 use Rattle.def_bindings.specs.Puts.{copied, held, puts}
 use Rattle.def_bindings.specs.PutsLaws.{bound_stays-put_entry, bound_stays-puts}
 use Rattle.def_oracle.specs.Oracle.{Oracle}
-use Rattle.def_parts.specs.ListLaws.{later_in}
-use Rattle.def_parts.specs.Raised.{KeepsDef, KeepsDefs}
-use Rattle.def_parts.specs.RecordingLaws.{bound_copies}
-use Rattle.def_parts.specs.Waves as Waves
+use Rattle.def_globs.proofs.ListLaws.{later_in}
+use Rattle.def_globs.specs.Raised.{KeepsDef, KeepsDefs}
+use Rattle.def_globs.proofs.RecordingLaws.{bound_copies}
+use Rattle.def_globs.specs.Waves as Waves
 use Rattle.def_laws.specs.Sound.{IsRaisedIn, IsSound}
 use Rattle.def_rules.specs.Targets.{none_left_out}
 use Rattle.def_laws.specs.Travels.{Travels}

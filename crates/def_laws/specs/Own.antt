@@ -14,7 +14,7 @@ use Rattle.def_bindings.specs.Closure.{IsBound}
 use Rattle.def_bindings.specs.Content.{Content, is_listed}
 use Rattle.def_bindings.specs.Tree.{AreParentsLower}
 use Rattle.def_modules.specs.MapState.{MapState}
-use Rattle.def_parts.specs.Waves.{HoldsBy}
+use Rattle.def_globs.specs.Waves.{HoldsBy}
 use Rattle.def_rules.specs.Globs.{Targets}
 use Rattle.def_rules.specs.State.{State, PartialImport, PendingImport, Task, Enter, Visit, Put, AddEdge}
 

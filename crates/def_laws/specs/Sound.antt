@@ -9,8 +9,8 @@ use Rattle.def_bindings.specs.Order.{Order}
 use Rattle.def_bindings.specs.Visibility.{order_over}
 use Rattle.def_modules.specs.MapState.{MapState}
 use Rattle.def_modules.specs.Maps.{facts_in}
-use Rattle.def_parts.specs.Raised.{IsRaisedAt}
-use Rattle.def_parts.specs.Waves.{AreSingle, BeginsAt, Led}
+use Rattle.def_globs.specs.Raised.{IsRaisedAt}
+use Rattle.def_globs.specs.Waves.{AreSingle, BeginsAt, Led}
 use Rattle.def_rules.specs.Globs.{Targets}
 use Rattle.def_rules.specs.State.{State, Task}
 use Rattle.def_rules.specs.Targets.{target_of, none_left_out}

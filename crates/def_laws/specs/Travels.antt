@@ -5,9 +5,9 @@ use Rattle.def_bindings.specs.declared.bindings.Entry.{Entry}
 use Rattle.def_bindings.specs.declared.visibility.Visibility.{Visibility}
 use Rattle.def_bindings.specs.Content.{Content}
 use Rattle.def_bindings.specs.Order.{Order}
-use Rattle.def_parts.specs.Globs.{Updates, ClosesTo, KeepsClosed, KeepsCoherent}
-use Rattle.def_parts.specs.Raised.{KeepsRaised, RaisesTo}
-use Rattle.def_parts.specs.Waves.{KeepsGlobs}
+use Rattle.def_globs.specs.Globs.{Updates, ClosesTo, KeepsClosed, KeepsCoherent}
+use Rattle.def_globs.specs.Raised.{KeepsRaised, RaisesTo}
+use Rattle.def_globs.specs.Waves.{KeepsGlobs}
 
 -- a list was put in a module, and what changed has travelled along the edges to the end: names stay closed and coherent, and raised where they keep their definition
 pub record Travels (o : Order Visibility) (at : ModuleId) (list : List (Entry Visibility)) (old new : Content Visibility) : Type 0 where

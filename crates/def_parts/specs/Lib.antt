@@ -1,17 +1,3 @@
-pub mod Waves
-pub mod Globs
-pub mod Pending
-pub mod Raised
-pub mod RaisedLaws
-pub mod ListLaws
-pub mod SettlingLaws
-pub mod CopyingLaws
-pub mod PuttingLaws
-pub mod BringingLaws
-pub mod RecordingLaws
-pub mod LedLaws
-pub mod EdgesLaws
-pub mod AddingLaws
 pub mod Directories
 pub mod DirectoriesLaws
 pub mod ProcMacros

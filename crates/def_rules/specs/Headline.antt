@@ -4,7 +4,7 @@ use Rattle.def_ids.specs.Session.{Session}
 use Rattle.def_ids.specs.declared.ids.ModuleId.{ModuleId}
 use Rattle.def_bindings.specs.declared.bindings.Slot.{Slot}
 use Rattle.def_bindings.specs.Closure.{IsClosed, IsCoherent}
-use Rattle.def_parts.specs.Raised.{IsRaisedAt}
+use Rattle.def_globs.specs.Raised.{IsRaisedAt}
 use Rattle.def_rules.specs.Targets.{none_left_out, target_of}
 use Rattle.def_rules.specs.State.{Setting, Moment, order}
 use Rattle.def_rules.specs.Steps.{IsKeptAlong, Reaches}

@@ -10,8 +10,8 @@ use Rattle.def_bindings.specs.declared.visibility.Visibility.{Visibility}
 use Rattle.def_bindings.specs.Content.{Content}
 use Rattle.def_bindings.specs.Puts.{copied, glob_of, held, offered, put_entry}
 use Rattle.def_oracle.specs.Oracle.{Oracle}
-use Rattle.def_parts.specs.Globs.{with_recorded}
-use Rattle.def_parts.specs.Raised.{KeepsDef}
+use Rattle.def_globs.specs.Globs.{with_recorded}
+use Rattle.def_globs.specs.Raised.{KeepsDef}
 use Rattle.def_rules.specs.State.{State, Effect, Task, Enter, Visit, Put, AddEdge, Event, PutExplicit, Moment, after, entered, only, with_state, with_content, order, Rearranges}
 use Rattle.def_rules.specs.Imports.{ImportStep}
 use Rattle.def_rules.specs.Items.{Visits}

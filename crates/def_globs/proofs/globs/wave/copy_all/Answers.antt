@@ -1,0 +1,16 @@
+use Rattle.std.proofs.Common.{refl}
+use Rattle.std.specs.Prelude.{option_to_list}
+use Rattle.def_globs.proofs.TurnsLemmas.{stays_reached, copied_noted}
+use Rattle.def_globs.proofs.globs.wave.copy_all.Goals as goal
+
+pub returns-in_err-note-clause-stays : goal.returns-in_err-note-clause-stays
+returns-in_err-note-clause-stays g c =
+    let content = g.T.BindingTable.content in
+    stays_reached (g.O.VisOrder.order c.args.order.now) c.args.source c.args.edge (content c.args.table.now) _ (content c.loop-slot.table) (content c.copy_slot.new.table)
+    c.loop-slot.invariant.stays c.in_ok-copied.ensures.done.1
+
+pub loop-slot-preserved : goal.loop-slot-preserved
+loop-slot-preserved g c =
+    let content = g.T.BindingTable.content in
+    copied_noted (g.O.VisOrder.order c.args.order.now) c.args.source c.args.edge c.args.slots.now (content c.args.table.now) c.loop-slot.slot-index _ _ (option_to_list c.in_ok-copied.copied)
+    c.loop-slot.changed.items c.note.new.changed.items (content c.loop-slot.table) (content c.copy_slot.new.table) c.loop-slot-test.true refl c.in_ok-copied.ensures.done c.in_ok-note.ensures.done c.loop-slot.invariant

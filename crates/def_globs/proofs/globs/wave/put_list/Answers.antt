@@ -1,0 +1,28 @@
+use Rattle.std.proofs.Common.{ap, Vec}
+use Rattle.std.specs.Prelude.{option_to_list}
+use Rattle.def_globs.proofs.TurnsLemmas.{stays_entry, put_noted, put_unnoted}
+use Rattle.def_globs.proofs.globs.wave.put_list.Goals as goal
+use Rattle.def_globs.proofs.globs.wave.put_list.Goals.{then-has_edge+in_ok-note, else-has_edge}
+
+pub returns-in_err-note-clause-stays : goal.returns-in_err-note-clause-stays
+returns-in_err-note-clause-stays g c =
+    let content = g.T.BindingTable.content in
+    stays_entry (g.O.VisOrder.order c.args.order.now) c.args.module (content c.args.table.now) c.entry-item.result (content c.loop-entry.table) (content c.put_entry.new.table)
+    c.loop-entry.invariant.stays c.in_ok-slot.ensures.done.1
+
+pub loop-entry-preserved : goal.loop-entry-preserved
+loop-entry-preserved g c =
+    let content = g.T.BindingTable.content in
+    let o = g.O.VisOrder.order c.args.order.now in
+    let first = content c.args.table.now in
+    let items = λ (v : Vec _ _). v.items in
+    elim c.if-has_edge.branch [
+      | then-has_edge+in_ok-note w ↦
+          put_noted o c.args.module c.args.list.now c.is_some-has_edge.result first c.loop-entry.entry-index c.entry-item.result (option_to_list c.in_ok-slot.slot) c.loop-entry.changed.items c.if-has_edge.changed.items
+          (content c.loop-entry.table) (content c.put_entry.new.table) c.loop-entry-test.true c.entry-item.is c.in_ok-slot.ensures.done c.loop-entry.invariant
+          w.note.new.changed.items w.if-has_edge.true (ap items w.changed-is) w.in_ok-note.ensures.done
+      | else-has_edge w ↦
+          put_unnoted o c.args.module c.args.list.now c.is_some-has_edge.result first c.loop-entry.entry-index c.entry-item.result (option_to_list c.in_ok-slot.slot) c.loop-entry.changed.items c.if-has_edge.changed.items
+          (content c.loop-entry.table) (content c.put_entry.new.table) c.loop-entry-test.true c.entry-item.is c.in_ok-slot.ensures.done c.loop-entry.invariant
+          w.if-has_edge.false (ap items w.changed-is)
+    ]

@@ -1,0 +1,4 @@
+pub mod Waves
+pub mod Globs
+pub mod Pending
+pub mod Raised
