@@ -6,8 +6,6 @@ use Rattle.item_tree.specs.declared.ids.ModItemId.{ModItemId}
 use Rattle.item_tree.specs.declared.items.ItemNode.{ItemNode}
 use Rattle.item_tree.specs.declared.items.ModContents.{ModContents}
 use Rattle.item_tree.specs.declared.items.ModContents.TheVariants.{Inline, Outline}
-use Rattle.item_tree.specs.declared.items.ModItemKind.{ModItemKind}
-use Rattle.item_tree.specs.declared.items.ModItemKind.TheVariants.{Mod, Use, Struct, ExternCrate, ExternBlock, Impl, Union, Enum, Function, Const, Static, Trait, TypeAlias}
 use Rattle.item_tree.specs.declared.items.RawVisibility.{RawVisibility}
 use Rattle.item_tree.specs.declared.items.UseImport.{UseImport}
 use Rattle.item_tree.specs.declared.name.Name.{Name}
@@ -38,7 +36,7 @@ use Rattle.def_rules.specs.declared.diagnostics.DefDiagnosticKind.TheVariants.{U
 use Rattle.def_laws.specs.Followed.{AreFollowed}
 use Rattle.def_laws.specs.Own.{AreOwnTasks, IsOwn, IsRecorded}
 use Rattle.def_rules.specs.Globs.{Targets}
-use Rattle.def_rules.specs.Items.{Declares, Handles, Visits, VisitsAt, VisitsNode, add_module, crate_effect, crate_entry, crate_name, ctor_task, diagnostic, ctor_vis, declared_effect, file_tree, inline_contents, inner_site, is_crate_root, is_prelude_import, module_effect, module_item, name_text, named_crate, naming_crate, next_module, node_at, noted_in, ordered, outline_found, outline_item, pending_imports, position_of, struct_effect, top_items, tree_cfg, visits, walk, written_vis}
+use Rattle.def_rules.specs.Items.{Visits, VisitsAt, VisitsNode, add_module, crate_effect, crate_entry, crate_name, ctor_task, diagnostic, ctor_vis, declared_effect, file_tree, inline_contents, inner_site, is_crate_root, is_prelude_import, module_effect, module_item, name_text, named_crate, naming_crate, next_module, node_at, noted_in, ordered, outline_found, outline_item, pending_imports, position_of, struct_effect, top_items, tree_cfg, visits, walk, written_vis, Rule, Follows, rule_of, declares, declares_struct, opens_module, opens_block, queues, binds_crate, notes_impl, notes_const}
 use Rattle.def_rules.specs.State.{State, Effect, followed_by, PendingImport, Site, Task, Enter, Visit, Put, AddEdge, reported}
 use Rattle.def_laws.proofs.SoundLaws.{IsLarger}
 use Rattle.def_laws.proofs.LargerLaws.{larger_add_module, larger_refl, larger_with_module, own_next}
@@ -157,7 +155,7 @@ contents_opened oracle s site item name vis (Inline children) =
 contents_opened oracle s site item name vis Outline = outline_opened oracle s site item name vis _
 
 module _ (oracle : Oracle) (s : State) (site : Site) (item : ItemNode) where
-  declares_opened : (kind : ItemKind) (d : ℕ → Def) (ns : Namespace) (name : Name) (raw : RawVisibility) (effect : Effect) → Declares oracle s site item kind d ns name raw effect → IsOpened s site effect
+  declares_opened : (kind : ItemKind) (d : ℕ → Def) (ns : Namespace) (name : Name) (raw : RawVisibility) (effect : Effect) → Follows oracle s site item (declares kind d ns name raw) effect → IsOpened s site effect
   declares_opened kind d ns name raw effect does =
       let known : Effect = declared_effect s site.scope name ns (d does.0) (written_vis oracle s site.scope raw) in
       opened_known s site effect known does.2
@@ -222,16 +220,16 @@ module _ (oracle : Oracle) (s : State) (site : Site) (item : ItemNode) where
         plain = (refl, tt);
       }
 
-  handles_opened : (kind : ModItemKind) (effect : Effect) → Handles oracle s site item kind effect → IsOpened s site effect
-  handles_opened (Mod name raw contents) effect does = opened_known s site effect _ does (contents_opened oracle s site item name _ contents)
-  handles_opened (Use raw imports) effect does =
+  follows_opened : (rule : Rule) (effect : Effect) → Follows oracle s site item rule effect → IsOpened s site effect
+  follows_opened (opens_module name raw contents) effect does = opened_known s site effect _ does (contents_opened oracle s site item name _ contents)
+  follows_opened (queues raw imports) effect does =
       let id : UseId = record { 0 = does.0 } in
       let t : State = record s { imports = s.imports ++ pending_imports site item id raw imports } in
       opened_known s site effect _ does.2
       (same_opened s site t refl refl refl (larger_refl s.map)
       (λ p h. elim (Contains-append_cases s.imports (pending_imports site item id raw imports) p h) [ inl old ↦ inl old | inr new ↦ inr (pending_at id raw imports p new) ]))
-  handles_opened (ExternCrate name raw alias) effect does = opened_known s site effect _ does.2 (crate_opened (record { 0 = does.0 }) (crate_name name alias) (written_vis oracle s site.scope raw) (named_crate s name))
-  handles_opened (ExternBlock children) effect does =
+  follows_opened (binds_crate name raw alias) effect does = opened_known s site effect _ does.2 (crate_opened (record { 0 = does.0 }) (crate_name name alias) (written_vis oracle s site.scope raw) (named_crate s name))
+  follows_opened (opens_block children) effect does =
       let id : ExternBlockId = record { 0 = does.0 } in
       let inner : Site = record site { container = contained.ExternBlock id } in
       let known : Effect = followed_by (noted_in s site.scope (with_extern_block id)) (walk oracle inner children) in
@@ -245,8 +243,8 @@ module _ (oracle : Oracle) (s : State) (site : Site) (item : ItemNode) where
         tasks = λ targets even at. own_walk oracle known.state.map targets inner children at;
         plain = plain_walk oracle inner children;
       })
-  handles_opened (Impl of_trait) effect does = opened_known s site effect _ does.2 (let f : ModuleState → ModuleState = with_impl (record { 0 = does.0 }) of_trait in noted_opened (noted_in s site.scope f) site.scope.index f refl)
-  handles_opened (Struct name raw ctor) effect does =
+  follows_opened (notes_impl of_trait) effect does = opened_known s site effect _ does.2 (let f : ModuleState → ModuleState = with_impl (record { 0 = does.0 }) of_trait in noted_opened (noted_in s site.scope f) site.scope.index f refl)
+  follows_opened (declares_struct name raw ctor) effect does =
       let d : Def = def.Struct (record { 0 = does.0 }) in
       let vis : Visibility = written_vis oracle s site.scope raw in
       let known : Effect = struct_effect s site.scope name d vis (ctor_vis oracle s site.scope ctor) in
@@ -260,19 +258,13 @@ module _ (oracle : Oracle) (s : State) (site : Site) (item : ItemNode) where
         tasks = λ targets even at. (put_own s site known.state.map targets None refl at, ctor_own known.state.map targets name d vis (ctor_vis oracle s site.scope ctor) at);
         plain = (refl, ctor_plain name d vis (ctor_vis oracle s site.scope ctor));
       })
-  handles_opened (Union name raw) effect does = declares_opened UnionItem _ Types name raw effect does
-  handles_opened (Enum name raw) effect does = declares_opened EnumItem _ Types name raw effect does
-  handles_opened (Function name raw) effect does = declares_opened FunctionItem _ Values name raw effect does
-  handles_opened (Const (Some name) raw) effect does = declares_opened ConstItem _ Values name raw effect does
-  handles_opened (Const None raw) effect does = opened_known s site effect _ does.2 (let f : ModuleState → ModuleState = with_unnamed_const (record { 0 = does.0 }) in noted_opened (noted_in s site.scope f) site.scope.index f refl)
-  handles_opened (Static name raw) effect does = declares_opened StaticItem _ Values name raw effect does
-  handles_opened (Trait name raw) effect does = declares_opened TraitItem _ Types name raw effect does
-  handles_opened (TypeAlias name raw) effect does = declares_opened TypeAliasItem _ Types name raw effect does
+  follows_opened (declares kind d ns name raw) effect does = declares_opened kind d ns name raw effect does
+  follows_opened notes_const effect does = opened_known s site effect _ does.2 (let f : ModuleState → ModuleState = with_unnamed_const (record { 0 = does.0 }) in noted_opened (noted_in s site.scope f) site.scope.index f refl)
 
 node_opened : (oracle : Oracle) (s : State) (site : Site) (item : ItemNode) (cfg : Option CfgExpr) (effect : Effect) → VisitsNode oracle s site item cfg effect → IsOpened s site effect
 node_opened oracle s site item (Some cfg) effect does = opened_known s site effect _ does (same_opened s site _ refl refl refl (larger_refl s.map) (λ p h. inl h))
 node_opened oracle s site item None effect does =
-    let opened = handles_opened oracle (record s { session = does.0 }) site item item.kind effect does.2 in
+    let opened = follows_opened oracle (record s { session = does.0 }) site item (rule_of item.kind) effect does.2 in
     record { content = opened.content; targets = opened.targets; partial = opened.partial; larger = opened.larger; imports = opened.imports; tasks = opened.tasks; plain = opened.plain }
 
 at_opened : (oracle : Oracle) (s : State) (site : Site) (item : Option ItemNode) (effect : Effect) → VisitsAt oracle s site item effect → IsOpened s site effect

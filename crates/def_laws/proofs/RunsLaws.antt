@@ -6,8 +6,6 @@ use Rattle.item_tree.specs.declared.ids.ModItemId.{ModItemId}
 use Rattle.item_tree.specs.declared.items.ItemNode.{ItemNode}
 use Rattle.item_tree.specs.declared.items.ModContents.{ModContents}
 use Rattle.item_tree.specs.declared.items.ModContents.TheVariants.{Inline, Outline}
-use Rattle.item_tree.specs.declared.items.ModItemKind.{ModItemKind}
-use Rattle.item_tree.specs.declared.items.ModItemKind.TheVariants.{Mod, Use, Struct, ExternCrate, ExternBlock, Impl, Union, Enum, Function, Const, Static, Trait, TypeAlias}
 use Rattle.item_tree.specs.declared.name.Name.{Name}
 use Rattle.item_tree.specs.Attrs.{disabled_by}
 use Rattle.def_ids.specs.declared.ids.ExternCrateId.{ExternCrateId}
@@ -23,7 +21,7 @@ use Rattle.def_modules.specs.Updates.{update_at}
 use Rattle.def_parts.specs.Directories.{FoundFile}
 use Rattle.def_rules.specs.declared.diagnostics.DefDiagnosticKind.TheVariants.{UnresolvedModule}
 use Rattle.def_rules.specs.Imports.{ImportStep, of_pending, of_partial}
-use Rattle.def_rules.specs.Items.{add_module, crate_effect, crate_entry, crate_name, diagnostic, file_tree, is_crate_root, module_effect, module_item, named_crate, naming_crate, node_at, noted_in, outline_found, outline_item, tree_cfg, written_vis, Handles, VisitsAt, VisitsNode, Visits, Declares}
+use Rattle.def_rules.specs.Items.{add_module, crate_effect, crate_entry, crate_name, diagnostic, file_tree, is_crate_root, module_effect, module_item, named_crate, naming_crate, node_at, noted_in, outline_found, outline_item, tree_cfg, written_vis, VisitsAt, VisitsNode, Visits, Rule, Follows, rule_of, declares, declares_struct, opens_module, opens_block, queues, binds_crate, notes_impl, notes_const}
 use Rattle.def_laws.specs.Finished.{NoneFailed}
 use Rattle.def_rules.specs.State.{State, Effect, followed_by, Moment, Site, Task, Enter, Visit, Put, reported, AddEdge}
 use Rattle.def_rules.specs.Steps.{Does, Reaches, Step, here, one, join, performs, copies, rearranges, records}
@@ -98,11 +96,6 @@ contents_leave : (oracle : Oracle) (s : State) (site : Site) (item : ItemNode) (
 contents_leave oracle s site item name vis (Inline children) = module_leaves s s site name vis _ _ refl refl refl
 contents_leave oracle s site item name vis Outline = outline_leaves oracle s site item name vis _
 
-declares_leaves : (oracle : Oracle) (s : State) (site : Site) (item : ItemNode) (kind : ItemKind) (d : ℕ → Def) (ns : Namespace) (name : Name) (raw : RawVisibility) (effect : Effect)
-    → Declares oracle s site item kind d ns name raw effect → Leaves s effect
-declares_leaves oracle s site item kind d ns name raw effect does =
-    leaves_known s effect _ does.2 (record { content = refl; partial = refl; events = refl; none_failed = λ none. none_failed-declare s.map site.scope.index _ none })
-
 -- an extern crate
 crate_leaves : (s : State) (site : Site) (item : ItemNode) (id : ExternCrateId) (name : Option Name) (vis : Visibility) (found : Option ModuleId) → Leaves s (crate_effect (noted_in s site.scope (with_extern_crate id)) site item id name vis found)
 crate_leaves s site item id None vis None = record { content = refl; partial = refl; events = refl; none_failed = λ none. none_failed-with_module s.map site.scope.index (with_extern_crate id) (λ d h. h) none }
@@ -113,31 +106,26 @@ crate_leaves s site item id name vis (Some root) = at (is_crate_root site.scope)
     at false = record { content = refl; partial = refl; events = refl; none_failed = λ none. none_failed-with_module s.map site.scope.index (with_extern_crate id) (λ d h. h) none }
     at true = record { content = refl; partial = refl; events = refl; none_failed = λ none. none_failed-with_module s.map site.scope.index (with_extern_crate id) (λ d h. h) none }
 
-handles_leaves : (oracle : Oracle) (s : State) (site : Site) (item : ItemNode) (kind : ModItemKind) (effect : Effect) → Handles oracle s site item kind effect → Leaves s effect
-handles_leaves oracle s site item (Mod name raw contents) effect does = leaves_known s effect _ does (contents_leave oracle s site item name _ contents)
-handles_leaves oracle s site item (Use raw imports) effect does =
-    leaves_known s effect _ does.2 (record { content = refl; partial = refl; events = refl; none_failed = λ none. none })
-handles_leaves oracle s site item (ExternCrate name raw alias) effect does = leaves_known s effect _ does.2 (crate_leaves s site item (record { 0 = does.0 }) (crate_name name alias) (written_vis oracle s site.scope raw) (named_crate s name))
-handles_leaves oracle s site item (ExternBlock children) effect does =
-    leaves_known s effect _ does.2 (record { content = refl; partial = refl; events = refl; none_failed = λ none. none_failed-with_module s.map site.scope.index (with_extern_block _) (λ d h. h) none })
-handles_leaves oracle s site item (Impl of_trait) effect does =
-    leaves_known s effect _ does.2 (record { content = refl; partial = refl; events = refl; none_failed = λ none. none_failed-with_module s.map site.scope.index (with_impl _ of_trait) (λ d h. h) none })
-handles_leaves oracle s site item (Struct name raw ctor) effect does =
+follows_leaves : (oracle : Oracle) (s : State) (site : Site) (item : ItemNode) (rule : Rule) (effect : Effect) → Follows oracle s site item rule effect → Leaves s effect
+follows_leaves oracle s site item (declares kind d ns name raw) effect does =
     leaves_known s effect _ does.2 (record { content = refl; partial = refl; events = refl; none_failed = λ none. none_failed-declare s.map site.scope.index _ none })
-handles_leaves oracle s site item (Union name raw) effect does = declares_leaves oracle s site item UnionItem _ Types name raw effect does
-handles_leaves oracle s site item (Enum name raw) effect does = declares_leaves oracle s site item EnumItem _ Types name raw effect does
-handles_leaves oracle s site item (Function name raw) effect does = declares_leaves oracle s site item FunctionItem _ Values name raw effect does
-handles_leaves oracle s site item (Const (Some name) raw) effect does = declares_leaves oracle s site item ConstItem _ Values name raw effect does
-handles_leaves oracle s site item (Const None raw) effect does =
+follows_leaves oracle s site item (declares_struct name raw ctor) effect does =
+    leaves_known s effect _ does.2 (record { content = refl; partial = refl; events = refl; none_failed = λ none. none_failed-declare s.map site.scope.index _ none })
+follows_leaves oracle s site item (opens_module name raw contents) effect does = leaves_known s effect _ does (contents_leave oracle s site item name _ contents)
+follows_leaves oracle s site item (opens_block children) effect does =
+    leaves_known s effect _ does.2 (record { content = refl; partial = refl; events = refl; none_failed = λ none. none_failed-with_module s.map site.scope.index (with_extern_block _) (λ d h. h) none })
+follows_leaves oracle s site item (queues raw imports) effect does =
+    leaves_known s effect _ does.2 (record { content = refl; partial = refl; events = refl; none_failed = λ none. none })
+follows_leaves oracle s site item (binds_crate name raw alias) effect does = leaves_known s effect _ does.2 (crate_leaves s site item (record { 0 = does.0 }) (crate_name name alias) (written_vis oracle s site.scope raw) (named_crate s name))
+follows_leaves oracle s site item (notes_impl of_trait) effect does =
+    leaves_known s effect _ does.2 (record { content = refl; partial = refl; events = refl; none_failed = λ none. none_failed-with_module s.map site.scope.index (with_impl _ of_trait) (λ d h. h) none })
+follows_leaves oracle s site item notes_const effect does =
     leaves_known s effect _ does.2 (record { content = refl; partial = refl; events = refl; none_failed = λ none. none_failed-with_module s.map site.scope.index (with_unnamed_const _) (λ d h. h) none })
-handles_leaves oracle s site item (Static name raw) effect does = declares_leaves oracle s site item StaticItem _ Values name raw effect does
-handles_leaves oracle s site item (Trait name raw) effect does = declares_leaves oracle s site item TraitItem _ Types name raw effect does
-handles_leaves oracle s site item (TypeAlias name raw) effect does = declares_leaves oracle s site item TypeAliasItem _ Types name raw effect does
 
 node_leaves : (oracle : Oracle) (s : State) (site : Site) (item : ItemNode) (cfg : Option CfgExpr) (effect : Effect) → VisitsNode oracle s site item cfg effect → Leaves s effect
 node_leaves oracle s site item (Some cfg) effect does = leaves_known s effect _ does (record { content = refl; partial = refl; events = refl; none_failed = λ none. none })
 node_leaves oracle s site item None effect does =
-    let leaves = handles_leaves oracle (record s { session = does.0 }) site item item.kind effect does.2 in
+    let leaves = follows_leaves oracle (record s { session = does.0 }) site item (rule_of item.kind) effect does.2 in
     record { content = leaves.content; partial = leaves.partial; events = leaves.events; none_failed = leaves.none_failed }
 
 visits_leaves_at : (oracle : Oracle) (s : State) (site : Site) (item : Option ItemNode) (effect : Effect) → VisitsAt oracle s site item effect → Leaves s effect

@@ -8,7 +8,7 @@ use Rattle.item_tree.specs.declared.items.ItemNode.{ItemNode}
 use Rattle.item_tree.specs.declared.items.ModContents.{ModContents}
 use Rattle.item_tree.specs.declared.items.ModContents.TheVariants.{Inline, Outline}
 use Rattle.item_tree.specs.declared.items.ModItemKind.{ModItemKind}
-use Rattle.item_tree.specs.declared.items.ModItemKind.TheVariants.{Mod, Use, ExternCrate, ExternBlock, Impl, Struct, Union, Enum, Function, Const, Static, Trait, TypeAlias}
+use Rattle.item_tree.specs.declared.items.ModItemKind.TheVariants.{Const, ExternBlock}
 use Rattle.item_tree.specs.declared.tree.ItemTree.{ItemTree}
 use Rattle.item_tree.specs.Trees.{children_of_kind}
 use Rattle.item_tree.specs.TreesLaws.{child_after}
@@ -32,8 +32,8 @@ use Rattle.def_oracle.specs.Oracle.{Oracle}
 use Rattle.def_parts.specs.Directories.{Directory, FoundFile, descend, files_of, resolve_declaration}
 use Rattle.def_rules.specs.declared.diagnostics.DefDiagnosticKind.TheVariants.{UnresolvedModule}
 use Rattle.def_laws.specs.Performs.{Handled}
-use Rattle.def_laws.specs.Work.{Opened, behind, block_at, block_items, file_opened, item_opened, item_work, kind_opened, module_opened, opened_work, task_work, work, work_behind}
-use Rattle.def_rules.specs.Items.{Handles, crate_effect, crate_name, crates_first, ctor_task, diagnostic, file_tree, inline_contents, inner_site, is_crate_root, module_effect, module_item, name_text, named_crate, names_crate, naming_crate, next_module, node_at, noted_in, ordered, outline_found, outline_item, put_declared, top_items, tree_cfg, visits, walk, written_vis}
+use Rattle.def_laws.specs.Work.{Opened, behind, block_at, block_items, file_opened, item_opened, item_work, rule_opened, module_opened, opened_work, task_work, work, work_behind}
+use Rattle.def_rules.specs.Items.{crate_effect, crate_name, crates_first, ctor_task, diagnostic, file_tree, inline_contents, inner_site, is_crate_root, module_effect, module_item, name_text, named_crate, names_crate, naming_crate, next_module, node_at, noted_in, ordered, outline_found, outline_item, put_declared, top_items, tree_cfg, visits, walk, written_vis, Rule, Follows, rule_of, declares, declares_struct, opens_module, opens_block, queues, binds_crate, notes_impl, notes_const}
 use Rattle.def_rules.specs.State.{State, Effect, Site, Task, Enter, Visit, Put, AddEdge, reported, with_missing}
 use Rattle.def_laws.proofs.LevelsLaws.{IsDeeper, declaration_deeper, descend_deeper}
 
@@ -55,26 +55,17 @@ nowhere zero x e = none_is_some e
 nowhere (suc k) x e = none_is_some e
 
 -- the items of an extern block are the items in it
-block_children : (kind : ModItemKind) (k : ℕ) (c : ModItemId) → slice_get (block_items kind) k ≡ Some c → slice_get (children_of_kind kind) k ≡ Some c
+block_children : (kind : ModItemKind) (k : ℕ) (c : ModItemId) → slice_get (block_items (rule_of kind)) k ≡ Some c → slice_get (children_of_kind kind) k ≡ Some c
 block_children (ExternBlock children) k c there = there
-block_children (Mod name raw contents) k c there = absurd (nowhere k c there)
-block_children (Use raw imports) k c there = absurd (nowhere k c there)
-block_children (ExternCrate name raw alias) k c there = absurd (nowhere k c there)
-block_children (Impl of_trait) k c there = absurd (nowhere k c there)
-block_children (Struct name raw ctor) k c there = absurd (nowhere k c there)
-block_children (Union name raw) k c there = absurd (nowhere k c there)
-block_children (Enum name raw) k c there = absurd (nowhere k c there)
-block_children (Function name raw) k c there = absurd (nowhere k c there)
-block_children (Const name raw) k c there = absurd (nowhere k c there)
-block_children (Static name raw) k c there = absurd (nowhere k c there)
-block_children (Trait name raw) k c there = absurd (nowhere k c there)
-block_children (TypeAlias name raw) k c there = absurd (nowhere k c there)
+block_children (Const (Some name) raw) k c there = absurd (nowhere k c there)
+block_children (Const None raw) k c there = absurd (nowhere k c there)
+block_children _ k c there = absurd (nowhere k c there)
 
 -- and come after it
-block_later : (t : ItemTree) (id : ModItemId) (item : ItemNode) → slice_get t.items id.0 ≡ Some item → (k : ℕ) (d : ModItemId) → k < length (block_items item.kind) → id.0 < (get_or (block_items item.kind) k d).0
+block_later : (t : ItemTree) (id : ModItemId) (item : ItemNode) → slice_get t.items id.0 ≡ Some item → (k : ℕ) (d : ModItemId) → k < length (block_items (rule_of item.kind)) → id.0 < (get_or (block_items (rule_of item.kind)) k d).0
 block_later t id item there k d within =
-    child_after t.items t.top id.0 k item (get_or (block_items item.kind) k d) t.sound there
-    (block_children item.kind k (get_or (block_items item.kind) k d) (slice_get-get_or (block_items item.kind) k d within))
+    child_after t.items t.top id.0 k item (get_or (block_items (rule_of item.kind)) k d) t.sound there
+    (block_children item.kind k (get_or (block_items (rule_of item.kind)) k d) (slice_get-get_or (block_items (rule_of item.kind)) k d within))
 
 -- each of these tasks is a put
 abbrev ArePuts : List Task → Type 0
@@ -201,23 +192,23 @@ module _ (oracle : Oracle) (texts : Name → List ℕ) where
 
   -- the items of a block stand behind it
   block_within : (tree : TreeId) (directory : Directory) (id : ModItemId) (item : ItemNode) (t : ItemTree) → oracle.item_tree tree ≡ Some t → slice_get t.items id.0 ≡ Some item
-      → block_total tree directory (block_items item.kind) ≤ sum_by (work_behind oracle texts (deeper_work (33 - directory.depth)) (length t.items - suc id.0) tree directory) (block_items item.kind)
+      → block_total tree directory (block_items (rule_of item.kind)) ≤ sum_by (work_behind oracle texts (deeper_work (33 - directory.depth)) (length t.items - suc id.0) tree directory) (block_items (rule_of item.kind))
   block_within tree directory id item t known there =
       let deeper : TreeId → Directory → ModItemId → ℕ = deeper_work (33 - directory.depth) in
-      let each : All (λ c. item_work oracle texts (33 - directory.depth) tree directory c ≤ work_behind oracle texts deeper (length t.items - suc id.0) tree directory c) (block_items item.kind) =
+      let each : All (λ c. item_work oracle texts (33 - directory.depth) tree directory c ≤ work_behind oracle texts deeper (length t.items - suc id.0) tree directory c) (block_items (rule_of item.kind)) =
       λ k d within.
-      let c : ModItemId = get_or (block_items item.kind) k d in
+      let c : ModItemId = get_or (block_items (rule_of item.kind)) k d in
       let later : id.0 < c.0 = block_later t id item there k d within in
       let behind_is : behind oracle tree c ≡ length t.items - c.0 = ap (λ o. option_map_or (λ (u : ItemTree). length u.items - c.0) o 0) known in
       let more = work_behind-more deeper (behind oracle tree c) (length t.items - suc id.0) tree directory c (omega (arith, later, behind_is)) in
       let same = item_work-is (33 - directory.depth) tree directory c in
       omega (arith, more, same) in
-      sums_le (item_work oracle texts (33 - directory.depth) tree directory) (work_behind oracle texts deeper (length t.items - suc id.0) tree directory) (block_items item.kind) each
+      sums_le (item_work oracle texts (33 - directory.depth) tree directory) (work_behind oracle texts deeper (length t.items - suc id.0) tree directory) (block_items (rule_of item.kind)) each
 
   -- an item of a tree is more work than what it opens, and one
   opened_less_in : (site : Site) (id : ModItemId) (item : ItemNode) (opened : Option Opened) (tree : Option ItemTree) → oracle.item_tree site.tree ≡ tree → option_and_then (λ t. slice_get t.items id.0) tree ≡ Some item
-      → node_at oracle site.tree id ≡ Some item → kind_opened oracle texts site.tree site.directory item item.kind ≡ opened → LiesDeeper site.directory opened
-      → 1 + (opened_total opened + block_total site.tree site.directory (block_items item.kind)) < item_work oracle texts (33 - site.directory.depth) site.tree site.directory id
+      → node_at oracle site.tree id ≡ Some item → rule_opened oracle texts site.tree site.directory item (rule_of item.kind) ≡ opened → LiesDeeper site.directory opened
+      → 1 + (opened_total opened + block_total site.tree site.directory (block_items (rule_of item.kind))) < item_work oracle texts (33 - site.directory.depth) site.tree site.directory id
   opened_less_in site id item opened None known there found is lies = absurd (none_is_some there)
   opened_less_in site id item opened (Some t) known there found is lies =
       let deeper : TreeId → Directory → ModItemId → ℕ = deeper_work (33 - site.directory.depth) in
@@ -225,18 +216,18 @@ module _ (oracle : Oracle) (texts : Name → List ℕ) where
       let within : id.0 < length t.items = slice_get_within t.items id.0 item there in
       let behind_is : behind oracle site.tree id ≡ suc rest = ap (λ o. option_map_or (λ (u : ItemTree). length u.items - id.0) o 0) known ∙ omega (arith, within) in
       let whole : item_work oracle texts (33 - site.directory.depth) site.tree site.directory id
-      ≡ 2 + (opened_work deeper opened + sum_by (work_behind oracle texts deeper rest site.tree site.directory) (block_items item.kind)) =
+      ≡ 2 + (opened_work deeper opened + sum_by (work_behind oracle texts deeper rest site.tree site.directory) (block_items (rule_of item.kind))) =
       item_work-is (33 - site.directory.depth) site.tree site.directory id
       ∙ ap (λ n. work_behind oracle texts deeper n site.tree site.directory id) behind_is
       ∙ work_behind-suc deeper rest site.tree site.directory id
       ∙ ap (λ o. 2 + (opened_work deeper (item_opened oracle texts site.tree site.directory o) + sum_by (work_behind oracle texts deeper rest site.tree site.directory) (block_at o))) found
-      ∙ ap (λ o. 2 + (opened_work deeper o + sum_by (work_behind oracle texts deeper rest site.tree site.directory) (block_items item.kind))) is in
+      ∙ ap (λ o. 2 + (opened_work deeper o + sum_by (work_behind oracle texts deeper rest site.tree site.directory) (block_items (rule_of item.kind)))) is in
       let inside = opened_within site.directory opened lies in
       let beside = block_within site.tree site.directory id item t known there in
       omega (arith, whole, inside, beside)
 
-  pub opened_less : (site : Site) (id : ModItemId) (item : ItemNode) (opened : Option Opened) → node_at oracle site.tree id ≡ Some item → kind_opened oracle texts site.tree site.directory item item.kind ≡ opened → LiesDeeper site.directory opened
-      → 1 + (opened_total opened + block_total site.tree site.directory (block_items item.kind)) < item_work oracle texts (33 - site.directory.depth) site.tree site.directory id
+  pub opened_less : (site : Site) (id : ModItemId) (item : ItemNode) (opened : Option Opened) → node_at oracle site.tree id ≡ Some item → rule_opened oracle texts site.tree site.directory item (rule_of item.kind) ≡ opened → LiesDeeper site.directory opened
+      → 1 + (opened_total opened + block_total site.tree site.directory (block_items (rule_of item.kind))) < item_work oracle texts (33 - site.directory.depth) site.tree site.directory id
   opened_less site id item opened found is lies = opened_less_in site id item opened (oracle.item_tree site.tree) refl found found is lies
 
   -- a module's tasks are the work of its contents
@@ -348,47 +339,35 @@ block_bounded oracle texts site inner effect children same_tree same_directory i
 puts_bounded : (oracle : Oracle) (texts : Name → List ℕ) (site : Site) (effect known : Effect) (block : List ModItemId) → effect ≡ known → ArePuts known.tasks → IsBounded oracle texts site effect None block
 puts_bounded oracle texts site effect known block same puts = bounded oracle texts site effect None block (within_same oracle texts site.directory effect known None same (puts_within oracle texts site.directory known puts))
 
-handles_bounded : (oracle : Oracle) (s : State) (site : Site) (item : ItemNode) (kind : ModItemKind) (effect : Effect) → Handles oracle s site item kind effect
-    → IsBounded oracle (name_text s.session) site effect (kind_opened oracle (name_text s.session) site.tree site.directory item kind) (block_items kind)
-handles_bounded oracle s site item (Mod name raw contents) effect does =
+follows_bounded : (oracle : Oracle) (s : State) (site : Site) (item : ItemNode) (rule : Rule) (effect : Effect) → Follows oracle s site item rule effect
+    → IsBounded oracle (name_text s.session) site effect (rule_opened oracle (name_text s.session) site.tree site.directory item rule) (block_items rule)
+follows_bounded oracle s site item (declares kind d ns name raw) effect does = puts_bounded oracle (name_text s.session) site effect _ [] does.2 tt
+follows_bounded oracle s site item (declares_struct name raw ctor) effect does = puts_bounded oracle (name_text s.session) site effect _ [] does.2 (are_ctor s site.scope name _ _ _)
+follows_bounded oracle s site item (opens_module name raw contents) effect does =
     bounded oracle (name_text s.session) site effect _ [] (within_same oracle _ site.directory effect _ _ does (contents_within oracle s site item name _ contents))
-handles_bounded oracle s site item (Use raw imports) effect does = puts_bounded oracle (name_text s.session) site effect _ [] does.2 tt
-handles_bounded oracle s site item (ExternCrate name raw alias) effect does = puts_bounded oracle (name_text s.session) site effect _ [] does.2 (are_crate (noted_in s site.scope (with_extern_crate (record { 0 = does.0 }))) site item (record { 0 = does.0 }) (crate_name name alias) (written_vis oracle s site.scope raw) (named_crate s name))
-handles_bounded oracle s site item (ExternBlock children) effect does =
+follows_bounded oracle s site item (opens_block children) effect does =
     block_bounded oracle (name_text s.session) site (record site { container = contained.ExternBlock (record { 0 = does.0 }) }) effect children refl refl (ap (λ (e : Effect). e.tasks) does.2)
-handles_bounded oracle s site item (Impl of_trait) effect does = puts_bounded oracle (name_text s.session) site effect _ [] does.2 tt
-handles_bounded oracle s site item (Struct name raw ctor) effect does = puts_bounded oracle (name_text s.session) site effect _ [] does.2 (are_ctor s site.scope name _ _ _)
-handles_bounded oracle s site item (Union name raw) effect does = puts_bounded oracle (name_text s.session) site effect _ [] does.2 tt
-handles_bounded oracle s site item (Enum name raw) effect does = puts_bounded oracle (name_text s.session) site effect _ [] does.2 tt
-handles_bounded oracle s site item (Function name raw) effect does = puts_bounded oracle (name_text s.session) site effect _ [] does.2 tt
-handles_bounded oracle s site item (Const (Some name) raw) effect does = puts_bounded oracle (name_text s.session) site effect _ [] does.2 tt
-handles_bounded oracle s site item (Const None raw) effect does = puts_bounded oracle (name_text s.session) site effect _ [] does.2 tt
-handles_bounded oracle s site item (Static name raw) effect does = puts_bounded oracle (name_text s.session) site effect _ [] does.2 tt
-handles_bounded oracle s site item (Trait name raw) effect does = puts_bounded oracle (name_text s.session) site effect _ [] does.2 tt
-handles_bounded oracle s site item (TypeAlias name raw) effect does = puts_bounded oracle (name_text s.session) site effect _ [] does.2 tt
+follows_bounded oracle s site item (queues raw imports) effect does = puts_bounded oracle (name_text s.session) site effect _ [] does.2 tt
+follows_bounded oracle s site item (binds_crate name raw alias) effect does = puts_bounded oracle (name_text s.session) site effect _ [] does.2 (are_crate (noted_in s site.scope (with_extern_crate (record { 0 = does.0 }))) site item (record { 0 = does.0 }) (crate_name name alias) (written_vis oracle s site.scope raw) (named_crate s name))
+follows_bounded oracle s site item (notes_impl of_trait) effect does = puts_bounded oracle (name_text s.session) site effect _ [] does.2 tt
+follows_bounded oracle s site item notes_const effect does = puts_bounded oracle (name_text s.session) site effect _ [] does.2 tt
 
 -- handling an item keeps the session
-handles_session : (oracle : Oracle) (s : State) (site : Site) (item : ItemNode) (kind : ModItemKind) (effect : Effect) → Handles oracle s site item kind effect → effect.state.session ≡ s.session
-handles_session oracle s site item (Mod name raw contents) effect does = ap (λ (e : Effect). e.state.session) does ∙ contents_session oracle s site item name _ contents
-handles_session oracle s site item (Use raw imports) effect does = ap (λ (e : Effect). e.state.session) does.2
-handles_session oracle s site item (ExternCrate name raw alias) effect does = ap (λ (e : Effect). e.state.session) does.2 ∙ crate_session (noted_in s site.scope (with_extern_crate (record { 0 = does.0 }))) site item (record { 0 = does.0 }) (crate_name name alias) (written_vis oracle s site.scope raw) (named_crate s name)
-handles_session oracle s site item (ExternBlock children) effect does = ap (λ (e : Effect). e.state.session) does.2
-handles_session oracle s site item (Impl of_trait) effect does = ap (λ (e : Effect). e.state.session) does.2
-handles_session oracle s site item (Struct name raw ctor) effect does = ap (λ (e : Effect). e.state.session) does.2
-handles_session oracle s site item (Union name raw) effect does = ap (λ (e : Effect). e.state.session) does.2
-handles_session oracle s site item (Enum name raw) effect does = ap (λ (e : Effect). e.state.session) does.2
-handles_session oracle s site item (Function name raw) effect does = ap (λ (e : Effect). e.state.session) does.2
-handles_session oracle s site item (Const (Some name) raw) effect does = ap (λ (e : Effect). e.state.session) does.2
-handles_session oracle s site item (Const None raw) effect does = ap (λ (e : Effect). e.state.session) does.2
-handles_session oracle s site item (Static name raw) effect does = ap (λ (e : Effect). e.state.session) does.2
-handles_session oracle s site item (Trait name raw) effect does = ap (λ (e : Effect). e.state.session) does.2
-handles_session oracle s site item (TypeAlias name raw) effect does = ap (λ (e : Effect). e.state.session) does.2
+follows_session : (oracle : Oracle) (s : State) (site : Site) (item : ItemNode) (rule : Rule) (effect : Effect) → Follows oracle s site item rule effect → effect.state.session ≡ s.session
+follows_session oracle s site item (declares kind d ns name raw) effect does = ap (λ (e : Effect). e.state.session) does.2
+follows_session oracle s site item (declares_struct name raw ctor) effect does = ap (λ (e : Effect). e.state.session) does.2
+follows_session oracle s site item (opens_module name raw contents) effect does = ap (λ (e : Effect). e.state.session) does ∙ contents_session oracle s site item name _ contents
+follows_session oracle s site item (opens_block children) effect does = ap (λ (e : Effect). e.state.session) does.2
+follows_session oracle s site item (queues raw imports) effect does = ap (λ (e : Effect). e.state.session) does.2
+follows_session oracle s site item (binds_crate name raw alias) effect does = ap (λ (e : Effect). e.state.session) does.2 ∙ crate_session (noted_in s site.scope (with_extern_crate (record { 0 = does.0 }))) site item (record { 0 = does.0 }) (crate_name name alias) (written_vis oracle s site.scope raw) (named_crate s name)
+follows_session oracle s site item (notes_impl of_trait) effect does = ap (λ (e : Effect). e.state.session) does.2
+follows_session oracle s site item notes_const effect does = ap (λ (e : Effect). e.state.session) does.2
 
 less_at : (oracle : Oracle) (texts : Name → List ℕ) (site : Site) (id : ModItemId) (item : ItemNode) (effect : Effect) (puts inner : List Task) → node_at oracle site.tree id ≡ Some item → effect.tasks ≡ puts ++ inner
-    → IsBounded oracle texts site effect (kind_opened oracle texts site.tree site.directory item item.kind) (block_items item.kind)
+    → IsBounded oracle texts site effect (rule_opened oracle texts site.tree site.directory item (rule_of item.kind)) (block_items (rule_of item.kind))
     → 1 + work oracle texts inner < item_work oracle texts (33 - site.directory.depth) site.tree site.directory id
 less_at oracle texts site id item effect puts inner found tasks bounds =
-    let opened : Option Opened = kind_opened oracle texts site.tree site.directory item item.kind in
+    let opened : Option Opened = rule_opened oracle texts site.tree site.directory item (rule_of item.kind) in
     let less = opened_less oracle texts site id item opened found refl bounds.lies in
     let parts : work oracle texts effect.tasks ≡ work oracle texts puts + work oracle texts inner = ap (work oracle texts) tasks ∙ sum_by-append (task_work oracle texts) puts inner in
     let total = bounds.total in
@@ -400,9 +379,9 @@ pub handled_less : (oracle : Oracle) (s t : State) (site : Site) (id : ModItemId
 handled_less oracle s t site id item inner texts found handled known =
     let grown : State = record s { session = handled.handled.0 } in
     let same : name_text handled.handled.0 ≡ texts =
-    ap name_text (sym (handled.done.session ∙ handles_session oracle grown site item item.kind handled.effect handled.handled.2)) ∙ known in
+    ap name_text (sym (handled.done.session ∙ follows_session oracle grown site item (rule_of item.kind) handled.effect handled.handled.2)) ∙ known in
     subst (λ words. 1 + work oracle words inner < task_work oracle words (Visit site id)) same
-    (less_at oracle (name_text handled.handled.0) site id item handled.effect handled.done.puts inner found handled.done.tasks (handles_bounded oracle grown site item item.kind handled.effect handled.handled.2))
+    (less_at oracle (name_text handled.handled.0) site id item handled.effect handled.done.puts inner found handled.done.tasks (follows_bounded oracle grown site item (rule_of item.kind) handled.effect handled.handled.2))
 
 -- an item that leads to nothing is some work
 pub nothing_less : (oracle : Oracle) (texts : Name → List ℕ) (site : Site) (id : ModItemId) → 1 + work oracle texts [] < task_work oracle texts (Visit site id)

@@ -6,13 +6,11 @@ use Rattle.item_tree.specs.declared.items.ItemNode.{ItemNode}
 use Rattle.item_tree.specs.declared.name.Name.{Name}
 use Rattle.item_tree.specs.declared.items.ModContents.TheVariants.{Inline, Outline}
 use Rattle.item_tree.specs.declared.items.ModContents.{ModContents}
-use Rattle.item_tree.specs.declared.items.ModItemKind.TheVariants.{Mod, ExternBlock}
-use Rattle.item_tree.specs.declared.items.ModItemKind.{ModItemKind}
 use Rattle.item_tree.specs.Attrs.{path_attr}
 use Rattle.def_oracle.specs.Oracle.{Oracle}
 use Rattle.def_parts.specs.Directories.{Directory, FoundFile, descend, files_of, resolve_declaration}
 use Rattle.std.specs.Option.{option_map_or}
-use Rattle.def_rules.specs.Items.{file_tree, node_at, top_items}
+use Rattle.def_rules.specs.Items.{Rule, file_tree, node_at, opens_block, opens_module, rule_of, top_items}
 use Rattle.def_rules.specs.State.{Task, Enter, Visit, Put, AddEdge}
 
 -- a list of items that an item opens, with the tree that holds them and their directory
@@ -33,30 +31,30 @@ module_opened oracle text tree directory item (Inline children) =
 module_opened oracle text tree directory item Outline =
     file_opened oracle (resolve_declaration (files_of oracle) tree.file directory text (path_attr item.attrs))
 
--- the list that an item opens, by its kind
-abbrev pub kind_opened : Oracle → (Name → List ℕ) → TreeId → Directory → ItemNode → ModItemKind → Option Opened
-kind_opened oracle texts tree directory item (Mod name raw contents) = module_opened oracle (texts name) tree directory item contents
-kind_opened oracle texts tree directory item _ = None
+-- the list that an item opens, by its rule
+abbrev pub rule_opened : Oracle → (Name → List ℕ) → TreeId → Directory → ItemNode → Rule → Option Opened
+rule_opened oracle texts tree directory item (opens_module name raw contents) = module_opened oracle (texts name) tree directory item contents
+rule_opened oracle texts tree directory item _ = None
 
 -- the list that an item opens, if the item is there
 abbrev pub item_opened : Oracle → (Name → List ℕ) → TreeId → Directory → Option ItemNode → Option Opened
 item_opened oracle texts tree directory None = None
-item_opened oracle texts tree directory (Some item) = kind_opened oracle texts tree directory item item.kind
+item_opened oracle texts tree directory (Some item) = rule_opened oracle texts tree directory item (rule_of item.kind)
 
 -- the work of a list that is opened, by the work of each item
 abbrev pub opened_work : (TreeId → Directory → ModItemId → ℕ) → Option Opened → ℕ
 opened_work each None = 0
 opened_work each (Some opened) = sum_by (each opened.tree opened.directory) opened.items
 
--- the items of an extern block of this kind, which stand in the same directory
-abbrev pub block_items : ModItemKind → List ModItemId
-block_items (ExternBlock children) = children
+-- the items of an extern block by its rule, which stand in the same directory
+abbrev pub block_items : Rule → List ModItemId
+block_items (opens_block children) = children
 block_items _ = []
 
 -- the items of the extern block with this number, if it is one
 abbrev pub block_at : Option ItemNode → List ModItemId
 block_at None = []
-block_at (Some item) = block_items item.kind
+block_at (Some item) = block_items (rule_of item.kind)
 
 -- how many items of a tree stand behind this one, and it
 abbrev pub behind : Oracle → TreeId → ModItemId → ℕ

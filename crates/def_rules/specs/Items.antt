@@ -244,11 +244,6 @@ struct_effect s at name d vis ctor =
 abbrev pub declared_effect : State → ModuleId → Name → Namespace → Def → Visibility → Effect
 declared_effect s at name ns d vis = followed_by (declare s at d) (put_declared at name ns d vis ∷ [])
 
--- an item is numbered, and its definition is declared in one namespace
-abbrev pub Declares : Oracle → State → Site → ItemNode → ItemKind → (ℕ → Def) → Namespace → Name → RawVisibility → Effect → Type 0
-Declares oracle s site item kind d ns name raw effect =
-    (n : ℕ) × IsNumber s kind site item n × (effect ≡ declared_effect s site.scope name ns (d n) (written_vis oracle s site.scope raw))
-
 -- a change of a module's data with nothing to follow
 abbrev pub noted_in : State → ModuleId → (ModuleState → ModuleState) → State
 noted_in s at change = with_map s (with_module s.map at.index change)
@@ -284,31 +279,68 @@ crate_effect s site item id name vis None = only (reported (with_missing name s)
 crate_effect s site item id name vis (Some root) =
     followed_by (naming_crate (is_crate_root site.scope) name (record { root = root; by = Some id }) s) (Put site.scope (crate_entry id name root vis) ∷ [])
 
--- an item is handled, by its kind
-abbrev pub Handles : Oracle → State → Site → ItemNode → ModItemKind → Effect → Type 0
-Handles oracle s site item (Mod name raw contents) effect = effect ≡ module_item oracle s site item name (written_vis oracle s site.scope raw) contents
-Handles oracle s site item (Use raw imports) effect =
-    (n : ℕ) × IsNumber s UseItem site item n × (effect ≡ only (record s { imports = s.imports ++ pending_imports site item (record { 0 = n }) raw imports }))
-Handles oracle s site item (ExternCrate name raw alias) effect =
-    (n : ℕ) × IsNumber s ExternCrateItem site item n
-    × (effect ≡ crate_effect (noted_in s site.scope (with_extern_crate (record { 0 = n }))) site item (record { 0 = n }) (crate_name name alias) (written_vis oracle s site.scope raw) (named_crate s name))
-Handles oracle s site item (ExternBlock children) effect =
-    (n : ℕ) × IsNumber s ExternBlockItem site item n
-    × (effect ≡ followed_by (noted_in s site.scope (with_extern_block (record { 0 = n }))) (walk oracle (record site { container = contained.ExternBlock (record { 0 = n }) }) children))
-Handles oracle s site item (Impl of_trait) effect =
-    (n : ℕ) × IsNumber s ImplItem site item n × (effect ≡ only (noted_in s site.scope (with_impl (record { 0 = n }) of_trait)))
-Handles oracle s site item (Struct name raw ctor) effect =
+-- Rules
+
+-- what is to be done for an item
+pub data Rule : Type 0 where
+  -- the item is numbered, and its definition declared under a name in one namespace
+  declares : ItemKind → (ℕ → Def) → Namespace → Name → RawVisibility → Rule
+  -- a struct is declared, and its constructor
+  declares_struct : Name → RawVisibility → CtorVisibility → Rule
+  -- a module is declared, and its contents walked
+  opens_module : Name → RawVisibility → ModContents → Rule
+  -- the items of an extern block are walked
+  opens_block : List ModItemId → Rule
+  -- imports wait
+  queues : RawVisibility → List UseImport → Rule
+  -- an extern crate is put by its name
+  binds_crate : Name → RawVisibility → Option ImportAlias → Rule
+  -- an impl is recorded, and binds nothing
+  notes_impl : Bool → Rule
+  -- so is a constant without a name
+  notes_const : Rule
+
+-- the rule of an item, by its kind
+abbrev pub rule_of : ModItemKind → Rule
+rule_of (Mod name raw contents) = opens_module name raw contents
+rule_of (Use raw imports) = queues raw imports
+rule_of (ExternCrate name raw alias) = binds_crate name raw alias
+rule_of (ExternBlock children) = opens_block children
+rule_of (Impl of_trait) = notes_impl of_trait
+rule_of (Struct name raw ctor) = declares_struct name raw ctor
+rule_of (Union name raw) = declares UnionItem (λ n. def.Union (record { 0 = n })) Types name raw
+rule_of (Enum name raw) = declares EnumItem (λ n. def.Enum (record { 0 = n })) Types name raw
+rule_of (Function name raw) = declares FunctionItem (λ n. def.Function (record { 0 = n })) Values name raw
+rule_of (Const (Some name) raw) = declares ConstItem (λ n. def.Const (record { 0 = n })) Values name raw
+rule_of (Const None raw) = notes_const
+rule_of (Static name raw) = declares StaticItem (λ n. def.Static (record { 0 = n })) Values name raw
+rule_of (Trait name raw) = declares TraitItem (λ n. def.Trait (record { 0 = n })) Types name raw
+rule_of (TypeAlias name raw) = declares TypeAliasItem (λ n. def.TypeAlias (record { 0 = n })) Types name raw
+
+-- a rule is followed
+abbrev pub Follows : Oracle → State → Site → ItemNode → Rule → Effect → Type 0
+Follows oracle s site item (declares kind d ns name raw) effect =
+    (n : ℕ) × IsNumber s kind site item n × (effect ≡ declared_effect s site.scope name ns (d n) (written_vis oracle s site.scope raw))
+Follows oracle s site item (declares_struct name raw ctor) effect =
     (n : ℕ) × IsNumber s StructItem site item n
     × (effect ≡ struct_effect s site.scope name (def.Struct (record { 0 = n })) (written_vis oracle s site.scope raw) (ctor_vis oracle s site.scope ctor))
-Handles oracle s site item (Union name raw) effect = Declares oracle s site item UnionItem (λ n. def.Union (record { 0 = n })) Types name raw effect
-Handles oracle s site item (Enum name raw) effect = Declares oracle s site item EnumItem (λ n. def.Enum (record { 0 = n })) Types name raw effect
-Handles oracle s site item (Function name raw) effect = Declares oracle s site item FunctionItem (λ n. def.Function (record { 0 = n })) Values name raw effect
-Handles oracle s site item (Const (Some name) raw) effect = Declares oracle s site item ConstItem (λ n. def.Const (record { 0 = n })) Values name raw effect
-Handles oracle s site item (Const None raw) effect =
+Follows oracle s site item (opens_module name raw contents) effect = effect ≡ module_item oracle s site item name (written_vis oracle s site.scope raw) contents
+Follows oracle s site item (opens_block children) effect =
+    (n : ℕ) × IsNumber s ExternBlockItem site item n
+    × (effect ≡ followed_by (noted_in s site.scope (with_extern_block (record { 0 = n }))) (walk oracle (record site { container = contained.ExternBlock (record { 0 = n }) }) children))
+Follows oracle s site item (queues raw imports) effect =
+    (n : ℕ) × IsNumber s UseItem site item n × (effect ≡ only (record s { imports = s.imports ++ pending_imports site item (record { 0 = n }) raw imports }))
+Follows oracle s site item (binds_crate name raw alias) effect =
+    (n : ℕ) × IsNumber s ExternCrateItem site item n
+    × (effect ≡ crate_effect (noted_in s site.scope (with_extern_crate (record { 0 = n }))) site item (record { 0 = n }) (crate_name name alias) (written_vis oracle s site.scope raw) (named_crate s name))
+Follows oracle s site item (notes_impl of_trait) effect =
+    (n : ℕ) × IsNumber s ImplItem site item n × (effect ≡ only (noted_in s site.scope (with_impl (record { 0 = n }) of_trait)))
+Follows oracle s site item notes_const effect =
     (n : ℕ) × IsNumber s ConstItem site item n × (effect ≡ only (noted_in s site.scope (with_unnamed_const (record { 0 = n }))))
-Handles oracle s site item (Static name raw) effect = Declares oracle s site item StaticItem (λ n. def.Static (record { 0 = n })) Values name raw effect
-Handles oracle s site item (Trait name raw) effect = Declares oracle s site item TraitItem (λ n. def.Trait (record { 0 = n })) Types name raw effect
-Handles oracle s site item (TypeAlias name raw) effect = Declares oracle s site item TypeAliasItem (λ n. def.TypeAlias (record { 0 = n })) Types name raw effect
+
+-- an item is handled, by its kind
+abbrev pub Handles : Oracle → State → Site → ItemNode → ModItemKind → Effect → Type 0
+Handles oracle s site item kind effect = Follows oracle s site item (rule_of kind) effect
 
 -- an item is handled in a session that may have more locations
 abbrev pub HandlesInSession : Oracle → State → Site → ItemNode → Effect → Type 0

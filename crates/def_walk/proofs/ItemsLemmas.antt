@@ -7,7 +7,7 @@ use Rattle.item_tree.specs.declared.items.CtorVisibility.{CtorVisibility}
 use Rattle.item_tree.specs.declared.items.ImportAlias.{ImportAlias}
 use Rattle.item_tree.specs.declared.items.ItemNode.{ItemNode}
 use Rattle.item_tree.specs.declared.items.ModContents.{ModContents}
-use Rattle.item_tree.specs.declared.items.ModItemKind.TheVariants.{Mod, Use, Struct, ExternCrate, ExternBlock, Impl, Union, Enum, Function, Const, Static, Trait, TypeAlias}
+use Rattle.item_tree.specs.declared.items.ModItemKind.TheVariants.{Mod, Use, Struct, ExternCrate, ExternBlock, Impl, Const}
 use Rattle.item_tree.specs.declared.items.RawVisibility.{RawVisibility}
 use Rattle.item_tree.specs.declared.items.UseImport.{UseImport}
 use Rattle.item_tree.specs.declared.name.Name.{Name}
@@ -15,7 +15,7 @@ use Rattle.def_ids.specs.declared.ids.Def.{Def}
 use Rattle.def_ids.specs.declared.ids.Def.TheVariants.{Module}
 use Rattle.def_ids.specs.declared.ids.Def.TheVariants as def
 use Rattle.def_ids.specs.declared.ids.ModuleId.{ModuleId}
-use Rattle.def_ids.specs.Session.{Session, AddsLocations, StructItem, UseItem, in_module, ItemKind, FunctionItem, UnionItem, EnumItem, ConstItem, StaticItem, TraitItem, TypeAliasItem, ImplItem, ExternCrateItem, ExternBlockItem, in_container}
+use Rattle.def_ids.specs.Session.{Session, AddsLocations, StructItem, UseItem, in_module, ItemKind, ConstItem, ImplItem, ExternCrateItem, ExternBlockItem, in_container}
 use Rattle.def_ids.specs.SessionLaws.{adds_refl}
 use Rattle.def_bindings.specs.declared.bindings.Entry.{Entry}
 use Rattle.def_bindings.specs.declared.bindings.Namespace.TheVariants.{Types, Values}
@@ -29,7 +29,7 @@ use Rattle.def_modules.specs.Scopes.{declared_in, empty_module, with_child, with
 use Rattle.def_walk.specs.declared.collector.items.Written.{Written}
 use Rattle.def_laws.specs.Performs.{Handled, IsDone, Performs, Updated}
 use Rattle.def_walk.specs.Collector.{queued}
-use Rattle.def_rules.specs.Items.{add_module, crate_effect, crate_name, ctor_vis, declare, declared_entry, Handles, is_prelude_import, loc_of, module_item, named_crate, next_module, pending_imports, position_of, struct_effect, written_vis, container_of, declared_effect, Declares, noted_in, walk}
+use Rattle.def_rules.specs.Items.{add_module, crate_effect, crate_name, ctor_vis, declare, declared_entry, Handles, is_prelude_import, loc_of, module_item, named_crate, next_module, pending_imports, position_of, struct_effect, written_vis, container_of, declared_effect, Follows, declares, noted_in, rule_of, walk}
 use Rattle.def_parts.specs.Directories.{Directory}
 use Rattle.def_rules.specs.State.{State, Effect, PendingImport, Site, Task, only, with_map, order, followed_by}
 use Rattle.item_tree.specs.declared.ids.ModItemId.{ModItemId}
@@ -137,8 +137,6 @@ handled_struct oracle s t session site item name raw written n position vis ctor
       done = record { puts = effect.tasks; tasks = sym (append-nil effect.tasks); performs = after; session = same };
     }
 
--- A definition was declared in one namespace
-
 module _ (oracle : Oracle) (s t : State) (session : Session) (site : Site) (item : ItemNode) (name : Name) (raw : RawVisibility) (n : ℕ) (position : InFile FileAstId) (vis : Visibility)
     (adds : AddsLocations s.session session) (placed : position ≡ position_of site item) (seen : vis ≡ written_vis oracle (record s { session = session }) site.scope raw) where
   -- the state in the session that has grown
@@ -146,53 +144,18 @@ module _ (oracle : Oracle) (s t : State) (session : Session) (site : Site) (item
   grown = record s { session = session }
 
   -- an item that declares one definition
-  handled_declared : (kind : ItemKind) (d : ℕ → Def) (ns : Namespace) → ((effect : Effect) → Declares oracle grown site item kind d ns name raw effect → Handles oracle grown site item item.kind effect)
+  pub handled_declared : (kind : ItemKind) (d : ℕ → Def) (ns : Namespace) → rule_of item.kind ≡ declares kind d ns name raw
       → session.item kind n ≡ Some (in_container (container_of site kind) position)
       → Performs oracle (declared_effect grown site.scope name ns (d n) vis).tasks (declared_effect grown site.scope name ns (d n) vis).state t → t.session ≡ session
       → Handled oracle s t site item []
-  handled_declared kind d ns handles numbered after same =
+  handled_declared kind d ns rule numbered after same =
       let effect : Effect = declared_effect grown site.scope name ns (d n) vis in
       let number : session.item kind n ≡ Some (loc_of site kind item) = numbered ∙ ap (λ p. Some (in_container (container_of site kind) p)) placed in
       record {
         effect = effect;
-        handled = (session, adds, handles effect (n, number, ap (declared_effect grown site.scope name ns (d n)) seen));
+        handled = (session, adds, subst (λ r. Follows oracle grown site item r effect) (sym rule) (n, number, ap (declared_effect grown site.scope name ns (d n)) seen));
         done = record { puts = effect.tasks; tasks = refl; performs = after; session = same };
       }
-
-  pub handled_union : item.kind ≡ Union name raw → session.item UnionItem n ≡ Some (in_module site.scope position)
-      → Performs oracle (declared_effect grown site.scope name Types (def.Union (record { 0 = n })) vis).tasks (declared_effect grown site.scope name Types (def.Union (record { 0 = n })) vis).state t → t.session ≡ session
-      → Handled oracle s t site item []
-  handled_union kind numbered after same = handled_declared UnionItem (λ i. def.Union (record { 0 = i })) Types (λ effect does. subst (λ k. Handles oracle grown site item k effect) (sym kind) does) numbered after same
-
-  pub handled_enum : item.kind ≡ Enum name raw → session.item EnumItem n ≡ Some (in_module site.scope position)
-      → Performs oracle (declared_effect grown site.scope name Types (def.Enum (record { 0 = n })) vis).tasks (declared_effect grown site.scope name Types (def.Enum (record { 0 = n })) vis).state t → t.session ≡ session
-      → Handled oracle s t site item []
-  handled_enum kind numbered after same = handled_declared EnumItem (λ i. def.Enum (record { 0 = i })) Types (λ effect does. subst (λ k. Handles oracle grown site item k effect) (sym kind) does) numbered after same
-
-  pub handled_function : item.kind ≡ Function name raw → session.item FunctionItem n ≡ Some (in_container site.container position)
-      → Performs oracle (declared_effect grown site.scope name Values (def.Function (record { 0 = n })) vis).tasks (declared_effect grown site.scope name Values (def.Function (record { 0 = n })) vis).state t → t.session ≡ session
-      → Handled oracle s t site item []
-  handled_function kind numbered after same = handled_declared FunctionItem (λ i. def.Function (record { 0 = i })) Values (λ effect does. subst (λ k. Handles oracle grown site item k effect) (sym kind) does) numbered after same
-
-  pub handled_static : item.kind ≡ Static name raw → session.item StaticItem n ≡ Some (in_container site.container position)
-      → Performs oracle (declared_effect grown site.scope name Values (def.Static (record { 0 = n })) vis).tasks (declared_effect grown site.scope name Values (def.Static (record { 0 = n })) vis).state t → t.session ≡ session
-      → Handled oracle s t site item []
-  handled_static kind numbered after same = handled_declared StaticItem (λ i. def.Static (record { 0 = i })) Values (λ effect does. subst (λ k. Handles oracle grown site item k effect) (sym kind) does) numbered after same
-
-  pub handled_trait : item.kind ≡ Trait name raw → session.item TraitItem n ≡ Some (in_module site.scope position)
-      → Performs oracle (declared_effect grown site.scope name Types (def.Trait (record { 0 = n })) vis).tasks (declared_effect grown site.scope name Types (def.Trait (record { 0 = n })) vis).state t → t.session ≡ session
-      → Handled oracle s t site item []
-  handled_trait kind numbered after same = handled_declared TraitItem (λ i. def.Trait (record { 0 = i })) Types (λ effect does. subst (λ k. Handles oracle grown site item k effect) (sym kind) does) numbered after same
-
-  pub handled_type_alias : item.kind ≡ TypeAlias name raw → session.item TypeAliasItem n ≡ Some (in_container site.container position)
-      → Performs oracle (declared_effect grown site.scope name Types (def.TypeAlias (record { 0 = n })) vis).tasks (declared_effect grown site.scope name Types (def.TypeAlias (record { 0 = n })) vis).state t → t.session ≡ session
-      → Handled oracle s t site item []
-  handled_type_alias kind numbered after same = handled_declared TypeAliasItem (λ i. def.TypeAlias (record { 0 = i })) Types (λ effect does. subst (λ k. Handles oracle grown site item k effect) (sym kind) does) numbered after same
-
-  pub handled_const : item.kind ≡ Const (Some name) raw → session.item ConstItem n ≡ Some (in_container site.container position)
-      → Performs oracle (declared_effect grown site.scope name Values (def.Const (record { 0 = n })) vis).tasks (declared_effect grown site.scope name Values (def.Const (record { 0 = n })) vis).state t → t.session ≡ session
-      → Handled oracle s t site item []
-  handled_const kind numbered after same = handled_declared ConstItem (λ i. def.Const (record { 0 = i })) Values (λ effect does. subst (λ k. Handles oracle grown site item k effect) (sym kind) does) numbered after same
 
 -- Something was recorded in the module, and nothing put
 

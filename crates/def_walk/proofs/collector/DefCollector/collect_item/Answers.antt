@@ -1,11 +1,14 @@
 use Rattle.std.proofs.Common.{ap, refl, ◌∙◌}
 use Rattle.std.specs.Prelude.{◌++◌}
-use Rattle.def_ids.specs.Session.{session_of}
+use Rattle.def_ids.specs.declared.ids.Def.TheVariants as def
+use Rattle.def_ids.specs.Session.{session_of, UnionItem, EnumItem, FunctionItem, ConstItem, StaticItem, TraitItem, TypeAliasItem}
+use Rattle.def_bindings.specs.declared.bindings.Namespace.TheVariants.{Types, Values}
 use Rattle.def_modules.specs.Maps.{map_state}
 use Rattle.def_walk.specs.Collector.{inner_of, site_of, state_of}
+use Rattle.def_rules.specs.Items.{rule_of}
 use Rattle.def_rules.specs.State.{State, with_map}
 use Rattle.def_walk.specs.ResultLaws.{if_ok}
-use Rattle.def_walk.proofs.ItemsLemmas.{handled_module, handled_struct, handled_use, imports_at, handled_const, handled_enum, handled_extern_block, handled_extern_crate, handled_function, handled_impl, handled_static, handled_trait, handled_type_alias, handled_union, handled_unnamed_const}
+use Rattle.def_walk.proofs.ItemsLemmas.{handled_module, handled_struct, handled_use, imports_at, handled_declared, handled_extern_block, handled_extern_crate, handled_impl, handled_unnamed_const}
 use Rattle.def_walk.proofs.collector.DefCollector.collect_item.Goals as goal
 use Rattle.item_tree.specs.declared.items.ModItemKind.TheVariants.{Const}
 
@@ -32,51 +35,51 @@ returns-in_ok-define_struct-in-Struct-clause-handled g c =
 pub returns-in_ok-define-in-Union-clause-handled : goal.returns-in_ok-define-in-Union-clause-handled
 returns-in_ok-define-in-Union-clause-handled g c =
     let before : State = state_of c.args.self.now c.args.session.now in
-    handled_union (g.D.SourceDatabase.oracle c.args.db.now) before _ (session_of c.intern-in-Union.new.session) (site_of c.args.site) c.args.node.now _ _ c.in_ok-id-in-Union.id.0 c.position-in-Union.result c.resolve_visibility-vis-in-Union.result
+    handled_declared (g.D.SourceDatabase.oracle c.args.db.now) before _ (session_of c.intern-in-Union.new.session) (site_of c.args.site) c.args.node.now _ _ c.in_ok-id-in-Union.id.0 c.position-in-Union.result c.resolve_visibility-vis-in-Union.result
     c.in_ok-id-in-Union.ensures.adds c.position-in-Union.ensures c.resolve_visibility-vis-in-Union.ensures
-    c.in-Union.is c.in_ok-id-in-Union.ensures.shown (c.in_ok-define-in-Union.ensures (g.D.SourceDatabase.oracle c.args.db.now) c.intern-in-Union.new.session) refl
+    UnionItem (λ i. def.Union (record { 0 = i })) Types (ap rule_of c.in-Union.is) c.in_ok-id-in-Union.ensures.shown (c.in_ok-define-in-Union.ensures (g.D.SourceDatabase.oracle c.args.db.now) c.intern-in-Union.new.session) refl
 
 pub returns-in_ok-define-in-Enum-clause-handled : goal.returns-in_ok-define-in-Enum-clause-handled
 returns-in_ok-define-in-Enum-clause-handled g c =
     let before : State = state_of c.args.self.now c.args.session.now in
-    handled_enum (g.D.SourceDatabase.oracle c.args.db.now) before _ (session_of c.intern-in-Enum.new.session) (site_of c.args.site) c.args.node.now _ _ c.in_ok-id-in-Enum.id.0 c.position-in-Enum.result c.resolve_visibility-vis-in-Enum.result
+    handled_declared (g.D.SourceDatabase.oracle c.args.db.now) before _ (session_of c.intern-in-Enum.new.session) (site_of c.args.site) c.args.node.now _ _ c.in_ok-id-in-Enum.id.0 c.position-in-Enum.result c.resolve_visibility-vis-in-Enum.result
     c.in_ok-id-in-Enum.ensures.adds c.position-in-Enum.ensures c.resolve_visibility-vis-in-Enum.ensures
-    c.in-Enum.is c.in_ok-id-in-Enum.ensures.shown (c.in_ok-define-in-Enum.ensures (g.D.SourceDatabase.oracle c.args.db.now) c.intern-in-Enum.new.session) refl
+    EnumItem (λ i. def.Enum (record { 0 = i })) Types (ap rule_of c.in-Enum.is) c.in_ok-id-in-Enum.ensures.shown (c.in_ok-define-in-Enum.ensures (g.D.SourceDatabase.oracle c.args.db.now) c.intern-in-Enum.new.session) refl
 
 pub returns-in_ok-define-in-Function-clause-handled : goal.returns-in_ok-define-in-Function-clause-handled
 returns-in_ok-define-in-Function-clause-handled g c =
     let before : State = state_of c.args.self.now c.args.session.now in
-    handled_function (g.D.SourceDatabase.oracle c.args.db.now) before _ (session_of c.intern-in-Function.new.session) (site_of c.args.site) c.args.node.now _ _ c.in_ok-id-in-Function.id.0 c.position-in-Function.result c.resolve_visibility-vis-in-Function.result
+    handled_declared (g.D.SourceDatabase.oracle c.args.db.now) before _ (session_of c.intern-in-Function.new.session) (site_of c.args.site) c.args.node.now _ _ c.in_ok-id-in-Function.id.0 c.position-in-Function.result c.resolve_visibility-vis-in-Function.result
     c.in_ok-id-in-Function.ensures.adds c.position-in-Function.ensures c.resolve_visibility-vis-in-Function.ensures
-    c.in-Function.is c.in_ok-id-in-Function.ensures.shown (c.in_ok-define-in-Function.ensures (g.D.SourceDatabase.oracle c.args.db.now) c.intern-in-Function.new.session) refl
+    FunctionItem (λ i. def.Function (record { 0 = i })) Values (ap rule_of c.in-Function.is) c.in_ok-id-in-Function.ensures.shown (c.in_ok-define-in-Function.ensures (g.D.SourceDatabase.oracle c.args.db.now) c.intern-in-Function.new.session) refl
 
 pub returns-in_ok-define-in-Static-clause-handled : goal.returns-in_ok-define-in-Static-clause-handled
 returns-in_ok-define-in-Static-clause-handled g c =
     let before : State = state_of c.args.self.now c.args.session.now in
-    handled_static (g.D.SourceDatabase.oracle c.args.db.now) before _ (session_of c.intern-in-Static.new.session) (site_of c.args.site) c.args.node.now _ _ c.in_ok-id-in-Static.id.0 c.position-in-Static.result c.resolve_visibility-vis-in-Static.result
+    handled_declared (g.D.SourceDatabase.oracle c.args.db.now) before _ (session_of c.intern-in-Static.new.session) (site_of c.args.site) c.args.node.now _ _ c.in_ok-id-in-Static.id.0 c.position-in-Static.result c.resolve_visibility-vis-in-Static.result
     c.in_ok-id-in-Static.ensures.adds c.position-in-Static.ensures c.resolve_visibility-vis-in-Static.ensures
-    c.in-Static.is c.in_ok-id-in-Static.ensures.shown (c.in_ok-define-in-Static.ensures (g.D.SourceDatabase.oracle c.args.db.now) c.intern-in-Static.new.session) refl
+    StaticItem (λ i. def.Static (record { 0 = i })) Values (ap rule_of c.in-Static.is) c.in_ok-id-in-Static.ensures.shown (c.in_ok-define-in-Static.ensures (g.D.SourceDatabase.oracle c.args.db.now) c.intern-in-Static.new.session) refl
 
 pub returns-in_ok-define-in-Trait-clause-handled : goal.returns-in_ok-define-in-Trait-clause-handled
 returns-in_ok-define-in-Trait-clause-handled g c =
     let before : State = state_of c.args.self.now c.args.session.now in
-    handled_trait (g.D.SourceDatabase.oracle c.args.db.now) before _ (session_of c.intern-in-Trait.new.session) (site_of c.args.site) c.args.node.now _ _ c.in_ok-id-in-Trait.id.0 c.position-in-Trait.result c.resolve_visibility-vis-in-Trait.result
+    handled_declared (g.D.SourceDatabase.oracle c.args.db.now) before _ (session_of c.intern-in-Trait.new.session) (site_of c.args.site) c.args.node.now _ _ c.in_ok-id-in-Trait.id.0 c.position-in-Trait.result c.resolve_visibility-vis-in-Trait.result
     c.in_ok-id-in-Trait.ensures.adds c.position-in-Trait.ensures c.resolve_visibility-vis-in-Trait.ensures
-    c.in-Trait.is c.in_ok-id-in-Trait.ensures.shown (c.in_ok-define-in-Trait.ensures (g.D.SourceDatabase.oracle c.args.db.now) c.intern-in-Trait.new.session) refl
+    TraitItem (λ i. def.Trait (record { 0 = i })) Types (ap rule_of c.in-Trait.is) c.in_ok-id-in-Trait.ensures.shown (c.in_ok-define-in-Trait.ensures (g.D.SourceDatabase.oracle c.args.db.now) c.intern-in-Trait.new.session) refl
 
 pub returns-in_ok-define-in-TypeAlias-clause-handled : goal.returns-in_ok-define-in-TypeAlias-clause-handled
 returns-in_ok-define-in-TypeAlias-clause-handled g c =
     let before : State = state_of c.args.self.now c.args.session.now in
-    handled_type_alias (g.D.SourceDatabase.oracle c.args.db.now) before _ (session_of c.intern-in-TypeAlias.new.session) (site_of c.args.site) c.args.node.now _ _ c.in_ok-id-in-TypeAlias.id.0 c.position-in-TypeAlias.result c.resolve_visibility-vis-in-TypeAlias.result
+    handled_declared (g.D.SourceDatabase.oracle c.args.db.now) before _ (session_of c.intern-in-TypeAlias.new.session) (site_of c.args.site) c.args.node.now _ _ c.in_ok-id-in-TypeAlias.id.0 c.position-in-TypeAlias.result c.resolve_visibility-vis-in-TypeAlias.result
     c.in_ok-id-in-TypeAlias.ensures.adds c.position-in-TypeAlias.ensures c.resolve_visibility-vis-in-TypeAlias.ensures
-    c.in-TypeAlias.is c.in_ok-id-in-TypeAlias.ensures.shown (c.in_ok-define-in-TypeAlias.ensures (g.D.SourceDatabase.oracle c.args.db.now) c.intern-in-TypeAlias.new.session) refl
+    TypeAliasItem (λ i. def.TypeAlias (record { 0 = i })) Types (ap rule_of c.in-TypeAlias.is) c.in_ok-id-in-TypeAlias.ensures.shown (c.in_ok-define-in-TypeAlias.ensures (g.D.SourceDatabase.oracle c.args.db.now) c.intern-in-TypeAlias.new.session) refl
 
 pub returns-in_ok-define-in-Const-clause-handled : goal.returns-in_ok-define-in-Const-clause-handled
 returns-in_ok-define-in-Const-clause-handled g c =
     let before : State = state_of c.args.self.now c.args.session.now in
-    handled_const (g.D.SourceDatabase.oracle c.args.db.now) before _ (session_of c.intern-in-Const.new.session) (site_of c.args.site) c.args.node.now _ _ c.in_ok-id-in-Const.id.0 c.position-in-Const.result c.resolve_visibility-vis-in-Const.result
+    handled_declared (g.D.SourceDatabase.oracle c.args.db.now) before _ (session_of c.intern-in-Const.new.session) (site_of c.args.site) c.args.node.now _ _ c.in_ok-id-in-Const.id.0 c.position-in-Const.result c.resolve_visibility-vis-in-Const.result
     c.in_ok-id-in-Const.ensures.adds c.position-in-Const.ensures c.resolve_visibility-vis-in-Const.ensures
-    (c.in-Const.is ∙ ap (λ o. Const o c.in-Const.visibility) c.in-Some.is) c.in_ok-id-in-Const.ensures.shown (c.in_ok-define-in-Const.ensures (g.D.SourceDatabase.oracle c.args.db.now) c.intern-in-Const.new.session) refl
+    ConstItem (λ i. def.Const (record { 0 = i })) Values (ap rule_of (c.in-Const.is ∙ ap (λ o. Const o c.in-Const.visibility) c.in-Some.is)) c.in_ok-id-in-Const.ensures.shown (c.in_ok-define-in-Const.ensures (g.D.SourceDatabase.oracle c.args.db.now) c.intern-in-Const.new.session) refl
 
 pub returns-in_default-clause-handled : goal.returns-in_default-clause-handled
 returns-in_default-clause-handled g c =
