@@ -3,7 +3,7 @@ pub use Rattle.def_rules.specs.Globs
 pub use Rattle.def_rules.specs.State
 pub use Rattle.def_rules.specs.Imports
 pub use Rattle.def_rules.specs.Items
-pub use Rattle.def_rules.specs.Closed
+pub use Rattle.def_rules.specs.Targets
 pub use Rattle.def_rules.specs.Steps
 pub use Rattle.def_rules.specs.Crates
 pub use Rattle.def_rules.specs.Start

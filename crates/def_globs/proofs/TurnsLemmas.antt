@@ -1,6 +1,6 @@
 -- One entry of a list is put, or one slot is copied along an edge, and the rest is left.
 use Rattle.std.proofs.Math.Seq.{drop-cons}
-use Rattle.std.proofs.Common.{◌≡◌, ◌<◌, ◌+◌, ℕ, suc, Bool, true, false, cond, List, [], ◌∷◌, ◌++◌, length, get_or, drop, add-one, append_assoc, is_some, Some, None, refl, sym, ap, ◌∙◌, subst, inl, inr, ◌⊎◌}
+use Rattle.std.proofs.Common.{◌≡◌, ◌<◌, ◌+◌, ℕ, suc, Bool, true, false, cond, List, [], ◌∷◌, ◌++◌, length, get_or, drop, add-one, append_assoc, refl, sym, ap, ◌∙◌, subst}
 use Rattle.std.proofs.lemmas.Bool.{false≢true}
 use Rattle.std.proofs.lemmas.List.{append-nil}
 use Rattle.def_ids.specs.declared.ids.ModuleId.{ModuleId}
@@ -9,7 +9,7 @@ use Rattle.def_bindings.specs.declared.bindings.Entry.{Entry}
 use Rattle.def_bindings.specs.declared.bindings.Slot.{Slot}
 use Rattle.def_bindings.specs.Order.{Order}
 use Rattle.def_bindings.specs.Content.{Content}
-use Rattle.def_bindings.specs.Puts.{held, fitted, settled, slot_of, offered, put, put_at, put_entry, puts, copied}
+use Rattle.def_bindings.specs.Puts.{slot_of, offered, put_entry, puts, copied}
 use Rattle.def_globs.specs.Pending.{changed_at, changed_by, carried_by, is_changed, copied_all, reached}
 use Rattle.def_globs.specs.Globs.{Stays}
 use Rattle.def_globs.proofs.StaysLemmas.{stays_then, stays_put, stays_copied}
