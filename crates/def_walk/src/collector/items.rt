@@ -1,7 +1,8 @@
 //! What each kind of item does.
-ghost use Rattle.std.specs.Prelude.{◌≡◌, ◌∷◌, ◌++◌, [], length, map, IfOk, OnOk};
+ghost use Rattle.std.specs.Prelude.{◌≡◌, ◌∷◌, ◌++◌, [], Some, length, map, IfOk, OnOk};
+ghost use Rattle.item_tree.specs.declared.items.ModItemKind.TheVariants as kinds;
 ghost use Rattle.def_ids.specs.Session.{AddsLocations, session_of};
-ghost use Rattle.def_walk.specs.Collector.{AreKnown, inner_of, queued, site_of, state_of, waiting};
+ghost use Rattle.def_walk.specs.Collector.{AreKnown, inner_of, is_known, queued, site_of, state_of, waiting};
 ghost use Rattle.def_steps.specs.Shown.{pending_of};
 ghost use Rattle.def_laws.specs.Performs.{Handled, Performs, Updated};
 ghost use Rattle.def_rules.specs.State.{order};
@@ -22,7 +23,8 @@ use def_ids::{
 use def_map::{SourceDatabase, resolve_visibility};
 use def_steps::{ImportDirective, crate_name, is_prelude_import};
 use item_tree::{
-    CtorVisibility, FileAstId, InFile, ItemNode, ModItemKind, Name, RawVisibility, UseImport,
+    CtorVisibility, FileAstId, ImportAlias, InFile, ItemNode, ModItemId, ModItemKind, Name,
+    RawVisibility, Seq, UseImport,
 };
 use std::alloc::AllocError;
 
@@ -33,6 +35,31 @@ struct Written<'a> {
     use_id: UseId,
     vis: &'a RawVisibility,
     is_prelude: bool,
+}
+
+/// An extern crate as it is written.
+#[derive(Clone, Copy)]
+struct WrittenCrate<'a> {
+    name: Name,
+    visibility: &'a RawVisibility,
+    alias: Option<ImportAlias>,
+}
+
+/// A struct as it is written.
+#[derive(Clone, Copy)]
+struct WrittenStruct<'a> {
+    name: Name,
+    visibility: &'a RawVisibility,
+    ctor: &'a CtorVisibility,
+}
+
+/// A definition that is declared in one namespace, and its visibility as it is written.
+#[derive(Clone, Copy)]
+struct Declaration<'a> {
+    name: Name,
+    ns: Namespace,
+    def: Def,
+    visibility: &'a RawVisibility,
 }
 
 impl Site<'_> {
@@ -83,20 +110,7 @@ impl<'a> DefCollector<'a> {
                 visibility,
                 imports,
             } => {
-                let position = site.position(node);
-                let use_id = UseLoc {
-                    container: site.module_id,
-                    position,
-                }
-                .intern(session)?;
-                let written = Written {
-                    position,
-                    use_id,
-                    vis: visibility,
-                    is_prelude: is_prelude_import(node),
-                };
-                let waiting = &mut self.unresolved_imports;
-                queue_imports(waiting, site.module_id, written, imports.as_slice())?;
+                self.collect_use(session, site, node, visibility, imports)?;
                 Ok(None)
             }
             ModItemKind::ExternCrate {
@@ -104,49 +118,20 @@ impl<'a> DefCollector<'a> {
                 visibility,
                 alias,
             } => {
-                let id = ExternCrateLoc {
-                    container: site.module_id,
-                    position: site.position(node),
-                }
-                .intern(session)?;
-                let vis = self.resolve_visibility(db, session, site.module_id, visibility);
-                let root = self.named_crate(*name);
-                let module = site.module_id.index;
-                self.def_map.define_extern_crate_decl(module, id)?;
-                let item = CrateItem {
-                    site,
-                    node,
-                    id,
-                    name: crate_name(*name, *alias),
-                    vis,
+                let written = WrittenCrate {
+                    name: *name,
+                    visibility,
+                    alias: *alias,
                 };
-                self.collect_extern_crate(item, root)?;
+                self.collect_crate(db, session, site, node, written)?;
                 Ok(None)
             }
             ModItemKind::ExternBlock { children } => {
-                let id = ExternBlockLoc {
-                    container: site.module_id,
-                    position: site.position(node),
-                }
-                .intern(session)?;
-                self.def_map.define_extern_block(site.module_id.index, id)?;
-                Ok(Some(ItemList {
-                    module_id: site.module_id,
-                    container: ItemContainerId::ExternBlock(id),
-                    tree_id: site.tree_id,
-                    tree: db.item_tree(site.tree_id),
-                    items: children.as_slice(),
-                    dir: site.dir.clone()?,
-                }))
+                let list = self.collect_extern_block(db, session, site, node, children)?;
+                Ok(Some(list))
             }
             ModItemKind::Impl { is_trait_impl } => {
-                let id = ImplLoc {
-                    container: site.module_id,
-                    position: site.position(node),
-                }
-                .intern(session)?;
-                let module = site.module_id.index;
-                self.def_map.define_impl(module, id, *is_trait_impl)?;
+                self.collect_impl(session, site, node, *is_trait_impl)?;
                 Ok(None)
             }
             ModItemKind::Struct {
@@ -154,14 +139,12 @@ impl<'a> DefCollector<'a> {
                 visibility,
                 ctor,
             } => {
-                let id = StructLoc {
-                    container: site.module_id,
-                    position: site.position(node),
-                }
-                .intern(session)?;
-                let vis = self.resolve_visibility(db, session, site.module_id, visibility);
-                let ctor_vis = self.constructor_visibility(db, session, site.module_id, ctor);
-                self.define_struct(site.module_id, *name, Def::Struct(id), vis, ctor_vis)?;
+                let written = WrittenStruct {
+                    name: *name,
+                    visibility,
+                    ctor,
+                };
+                self.collect_struct(db, session, site, node, written)?;
                 Ok(None)
             }
             ModItemKind::Union { name, visibility } => {
@@ -170,8 +153,13 @@ impl<'a> DefCollector<'a> {
                     position: site.position(node),
                 }
                 .intern(session)?;
-                let vis = self.resolve_visibility(db, session, site.module_id, visibility);
-                self.define(site.module_id, *name, Namespace::Types, Def::Union(id), vis)?;
+                let declared = Declaration {
+                    name: *name,
+                    ns: Namespace::Types,
+                    def: Def::Union(id),
+                    visibility,
+                };
+                self.declare(db, session, site.module_id, declared)?;
                 Ok(None)
             }
             ModItemKind::Enum { name, visibility } => {
@@ -180,8 +168,13 @@ impl<'a> DefCollector<'a> {
                     position: site.position(node),
                 }
                 .intern(session)?;
-                let vis = self.resolve_visibility(db, session, site.module_id, visibility);
-                self.define(site.module_id, *name, Namespace::Types, Def::Enum(id), vis)?;
+                let declared = Declaration {
+                    name: *name,
+                    ns: Namespace::Types,
+                    def: Def::Enum(id),
+                    visibility,
+                };
+                self.declare(db, session, site.module_id, declared)?;
                 Ok(None)
             }
             ModItemKind::Function { name, visibility } => {
@@ -190,14 +183,13 @@ impl<'a> DefCollector<'a> {
                     position: site.position(node),
                 }
                 .intern(session)?;
-                let vis = self.resolve_visibility(db, session, site.module_id, visibility);
-                self.define(
-                    site.module_id,
-                    *name,
-                    Namespace::Values,
-                    Def::Function(id),
-                    vis,
-                )?;
+                let declared = Declaration {
+                    name: *name,
+                    ns: Namespace::Values,
+                    def: Def::Function(id),
+                    visibility,
+                };
+                self.declare(db, session, site.module_id, declared)?;
                 Ok(None)
             }
             ModItemKind::Const { name, visibility } => {
@@ -210,8 +202,13 @@ impl<'a> DefCollector<'a> {
                     self.def_map.define_unnamed_const(site.module_id.index, id)?;
                     return Ok(None);
                 };
-                let vis = self.resolve_visibility(db, session, site.module_id, visibility);
-                self.define(site.module_id, name, Namespace::Values, Def::Const(id), vis)?;
+                let declared = Declaration {
+                    name,
+                    ns: Namespace::Values,
+                    def: Def::Const(id),
+                    visibility,
+                };
+                self.declare(db, session, site.module_id, declared)?;
                 Ok(None)
             }
             ModItemKind::Static { name, visibility } => {
@@ -220,14 +217,13 @@ impl<'a> DefCollector<'a> {
                     position: site.position(node),
                 }
                 .intern(session)?;
-                let vis = self.resolve_visibility(db, session, site.module_id, visibility);
-                self.define(
-                    site.module_id,
-                    *name,
-                    Namespace::Values,
-                    Def::Static(id),
-                    vis,
-                )?;
+                let declared = Declaration {
+                    name: *name,
+                    ns: Namespace::Values,
+                    def: Def::Static(id),
+                    visibility,
+                };
+                self.declare(db, session, site.module_id, declared)?;
                 Ok(None)
             }
             ModItemKind::Trait { name, visibility } => {
@@ -236,8 +232,13 @@ impl<'a> DefCollector<'a> {
                     position: site.position(node),
                 }
                 .intern(session)?;
-                let vis = self.resolve_visibility(db, session, site.module_id, visibility);
-                self.define(site.module_id, *name, Namespace::Types, Def::Trait(id), vis)?;
+                let declared = Declaration {
+                    name: *name,
+                    ns: Namespace::Types,
+                    def: Def::Trait(id),
+                    visibility,
+                };
+                self.declare(db, session, site.module_id, declared)?;
                 Ok(None)
             }
             ModItemKind::TypeAlias { name, visibility } => {
@@ -246,17 +247,190 @@ impl<'a> DefCollector<'a> {
                     position: site.position(node),
                 }
                 .intern(session)?;
-                let vis = self.resolve_visibility(db, session, site.module_id, visibility);
-                self.define(
-                    site.module_id,
-                    *name,
-                    Namespace::Types,
-                    Def::TypeAlias(id),
-                    vis,
-                )?;
+                let declared = Declaration {
+                    name: *name,
+                    ns: Namespace::Types,
+                    def: Def::TypeAlias(id),
+                    visibility,
+                };
+                self.declare(db, session, site.module_id, declared)?;
                 Ok(None)
             }
         }
+    }
+
+    /// Queues the imports of a `use` item. On `Err` nothing but safety is promised.
+    fn collect_use(
+        &mut self,
+        session: &mut Interner,
+        site: Site<'_>,
+        node: &ItemNode,
+        visibility: &'a RawVisibility,
+        imports: &'a Seq<UseImport>,
+    ) -> Result<(), AllocError>
+        ensures handled { OnOk result ((oracle : Oracle) →
+            node.now.kind ≡ kinds.Use visibility.now imports.now →
+            Handled oracle (state_of self.old session.old) (state_of self.new session.new)
+            (site_of site.entry) node.now []) }
+        ensures session { AddsLocations (session_of session.old) (session_of session.new) }
+        ensures names { session.new.names ≡ session.old.names }
+    {
+        let position = site.position(node);
+        let use_id = UseLoc {
+            container: site.module_id,
+            position,
+        }
+        .intern(session)?;
+        let written = Written {
+            position,
+            use_id,
+            vis: visibility,
+            is_prelude: is_prelude_import(node),
+        };
+        let waiting = &mut self.unresolved_imports;
+        queue_imports(waiting, site.module_id, written, imports.as_slice())?;
+        Ok(())
+    }
+
+    /// Records an extern crate, and puts it where it is found. On `Err` nothing but safety is
+    /// promised.
+    fn collect_crate<D: SourceDatabase>(
+        &mut self,
+        db: &D,
+        session: &mut Interner,
+        site: Site<'_>,
+        node: &ItemNode,
+        written: WrittenCrate<'_>,
+    ) -> Result<(), AllocError>
+        ensures handled { OnOk result (
+            node.now.kind ≡ kinds.ExternCrate written.entry.name written.entry.visibility.now written.entry.alias →
+            Handled (D.oracle db.now) (state_of self.old session.old) (state_of self.new session.new)
+            (site_of site.entry) node.now []) }
+        ensures session { AddsLocations (session_of session.old) (session_of session.new) }
+        ensures names { session.new.names ≡ session.old.names }
+    {
+        let id = ExternCrateLoc {
+            container: site.module_id,
+            position: site.position(node),
+        }
+        .intern(session)?;
+        let vis = self.resolve_visibility(db, session, site.module_id, written.visibility);
+        let root = self.named_crate(written.name);
+        let module = site.module_id.index;
+        self.def_map.define_extern_crate_decl(module, id)?;
+        let item = CrateItem {
+            site,
+            node,
+            id,
+            name: crate_name(written.name, written.alias),
+            vis,
+        };
+        self.collect_extern_crate(item, root)?;
+        Ok(())
+    }
+
+    /// Records an extern block. Answers the list of its items. On `Err` nothing but safety is
+    /// promised.
+    fn collect_extern_block<D: SourceDatabase>(
+        &mut self,
+        db: &'a D,
+        session: &mut Interner,
+        site: Site<'_>,
+        node: &ItemNode,
+        children: &'a Seq<ModItemId>,
+    ) -> Result<ItemList<'a>, AllocError>
+        ensures handled { IfOk result (λ list. node.now.kind ≡ kinds.ExternBlock children.now →
+            Handled (D.oracle db.now) (state_of self.old session.old) (state_of self.new session.new)
+            (site_of site.entry) node.now (inner_of (D.oracle db.now) (Some list))) }
+        ensures known { IfOk result (λ list. is_known (D.oracle db.now) list) }
+        ensures session { AddsLocations (session_of session.old) (session_of session.new) }
+        ensures names { session.new.names ≡ session.old.names }
+    {
+        let id = ExternBlockLoc {
+            container: site.module_id,
+            position: site.position(node),
+        }
+        .intern(session)?;
+        self.def_map.define_extern_block(site.module_id.index, id)?;
+        Ok(ItemList {
+            module_id: site.module_id,
+            container: ItemContainerId::ExternBlock(id),
+            tree_id: site.tree_id,
+            tree: db.item_tree(site.tree_id),
+            items: children.as_slice(),
+            dir: site.dir.clone()?,
+        })
+    }
+
+    /// Records an impl. On `Err` nothing but safety is promised.
+    fn collect_impl(
+        &mut self,
+        session: &mut Interner,
+        site: Site<'_>,
+        node: &ItemNode,
+        is_trait_impl: bool,
+    ) -> Result<(), AllocError>
+        ensures handled { OnOk result ((oracle : Oracle) → node.now.kind ≡ kinds.Impl is_trait_impl →
+            Handled oracle (state_of self.old session.old) (state_of self.new session.new)
+            (site_of site.entry) node.now []) }
+        ensures session { AddsLocations (session_of session.old) (session_of session.new) }
+        ensures names { session.new.names ≡ session.old.names }
+    {
+        let id = ImplLoc {
+            container: site.module_id,
+            position: site.position(node),
+        }
+        .intern(session)?;
+        self.def_map
+            .define_impl(site.module_id.index, id, is_trait_impl)?;
+        Ok(())
+    }
+
+    /// Declares a struct, and its constructor. On `Err` nothing but safety is promised.
+    fn collect_struct<D: SourceDatabase>(
+        &mut self,
+        db: &D,
+        session: &mut Interner,
+        site: Site<'_>,
+        node: &ItemNode,
+        written: WrittenStruct<'_>,
+    ) -> Result<(), AllocError>
+        ensures handled { OnOk result (
+            node.now.kind ≡ kinds.Struct written.entry.name written.entry.visibility.now written.entry.ctor.now →
+            Handled (D.oracle db.now) (state_of self.old session.old) (state_of self.new session.new)
+            (site_of site.entry) node.now []) }
+        ensures session { AddsLocations (session_of session.old) (session_of session.new) }
+        ensures names { session.new.names ≡ session.old.names }
+    {
+        let id = StructLoc {
+            container: site.module_id,
+            position: site.position(node),
+        }
+        .intern(session)?;
+        let at = site.module_id;
+        let vis = self.resolve_visibility(db, session, at, written.visibility);
+        let ctor_vis = self.constructor_visibility(db, session, at, written.ctor);
+        self.define_struct(at, written.name, Def::Struct(id), vis, ctor_vis)?;
+        Ok(())
+    }
+
+    /// Declares a definition in one namespace, as visible as is written. On `Err` nothing but
+    /// safety is promised.
+    fn declare<D: SourceDatabase>(
+        &mut self,
+        db: &D,
+        session: &Interner,
+        module_id: ModuleId,
+        declared: Declaration<'_>,
+    ) -> Result<(), AllocError>
+        ensures { OnOk result (let s = state_of self.old session.now in
+            let vis = written_vis (D.oracle db.now) s module_id declared.entry.visibility.now in
+            let effect = declared_effect s module_id declared.entry.name declared.entry.ns declared.entry.def vis in
+            Performs (D.oracle db.now) effect.tasks effect.state (state_of self.new session.now)) }
+    {
+        let vis = self.resolve_visibility(db, session, module_id, declared.visibility);
+        self.define(module_id, declared.name, declared.ns, declared.def, vis)?;
+        Ok(())
     }
 
     /// What a written visibility means in a module. It is public where it means nothing.
