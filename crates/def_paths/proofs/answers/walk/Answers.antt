@@ -1,4 +1,5 @@
-use Rattle.std.proofs.Common.{arith, drop, drop-cons, length, ◌≡◌, ◌≢◌, ◌<◌, ◌+◌, ◌||◌, ◌∷◌, ◌∙◌, ap, sym, false, nat_eq, add-one, get_or, length-drop}
+use Rattle.std.proofs.lemmas.Grind.{common_steps}
+use Rattle.std.proofs.Common.{add-one, ap, arith, drop, drop-cons, false, get_or, length, length-drop, nat_eq, sym, ◌+◌, ◌<◌, ◌||◌, ◌∙◌, ◌∷◌, ◌≡◌, ◌≢◌}
 use Rattle.std.proofs.lemmas.Bool.{eq-eqb, false≢true}
 use Rattle.item_tree.specs.declared.name.Name.{Name}
 use Rattle.def_paths.specs.Answers.{is_elsewhere, walk}
@@ -33,3 +34,6 @@ segments-preserved g c =
     (drop-cons c.args.segments.now c.segments.i d c.segments-test.true ∙ ap (λ j. get_or c.args.segments.now c.segments.i d ∷ drop j c.args.segments.now) (sym (add-one c.segments.i)))
     c.in-Some.is c.in-Some-step.is c.step.ensures.types c.step.ensures.last more c.segments.invariant in
     ap (λ b. walk q own b c.in-Some-step.next (c.segments.i + 1) rest) either ∙ next
+
+pub returns-in_default : goal.returns-in_default
+returns-in_default g c = grind (arith, common_steps)

@@ -1,4 +1,4 @@
-use Rattle.std.proofs.Common.{arith}
+use Rattle.std.proofs.Common.{arith, rules}
 use Rattle.item_tree.proofs.TextOrderLemmas.{sound_in_text_order}
 use Rattle.item_tree.proofs.TreesLemmas.{sound_from_below}
 use Rattle.item_tree.proofs.tree.first_fault.Goals as goal
@@ -11,3 +11,9 @@ returns-clause-none c =
     sound_from_below _ _
     (λ fault below. c.loop-i.invariant fault (omega (arith, below, c.loop-i-test.false)))
     (λ wrong. let yes = c.is_any_from.ensures.1 wrong in cc)
+
+pub loop-i-init : goal.loop-i-init
+loop-i-init c = search rules
+
+pub returns-then-is_any_from-clause-some : goal.returns-then-is_any_from-clause-some
+returns-then-is_any_from-clause-some c = search rules

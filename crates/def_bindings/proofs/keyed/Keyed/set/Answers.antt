@@ -1,4 +1,4 @@
-use Rattle.std.proofs.Common.{◌<◌, ap, sym, ◌∙◌, arith}
+use Rattle.std.proofs.Common.{ap, arith, rules, sym, ◌<◌, ◌∙◌}
 use Rattle.std.specs.HashMap.{spare}
 use Rattle.std.specs.Map.{keys_of}
 use Rattle.indexmap.specs.IndexMap.{insert_entry}
@@ -52,3 +52,6 @@ returns-clause-done g c =
 
 pub returns-clause-distinct : goal.returns-clause-distinct
 returns-clause-distinct g c = distinct-own_entries g.K.PartialEq.eq c.args.module c.args.self.now.entries.entries c.len-number.ensures.unique
+
+pub returns-in_err-insert-clause-distinct : goal.returns-in_err-insert-clause-distinct
+returns-in_err-insert-clause-distinct g c = search rules

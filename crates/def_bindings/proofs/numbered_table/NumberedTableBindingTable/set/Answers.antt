@@ -1,4 +1,4 @@
-use Rattle.std.proofs.Common.{◌<◌, Some, None, [], ◌∷◌, ◌++◌, refl, ap, sym, ◌∙◌, arith}
+use Rattle.std.proofs.Common.{None, Some, [], ap, arith, refl, rules, sym, ◌++◌, ◌<◌, ◌∙◌, ◌∷◌}
 use Rattle.std.specs.HashMap.{spare}
 use Rattle.def_bindings.specs.Lists.{lists_of}
 use Rattle.def_bindings.specs.NumberedTable.{content_of}
@@ -54,3 +54,6 @@ returns-clause-done g c =
     let bindings = bindings-begun t.bound c.reserve.new.self c.insert.new.self c.args.module c.args.name c.args.ns c.args.binding c.of.result same none c.in_ok-insert.ensures.updates.0 c.of.ensures in
     let names = numbered-new _ _ (lists_of t.names) t.tied c.args.module c.args.name c.args.ns c.args.binding (lists_of c.push.new.self) bindings (bound-nowhere t.bound c.args.module c.args.name none) c.in_ok-push.ensures.done in
     content-parts (content_of t) _ _ _ _ bindings names.0
+
+pub returns-in_err-insert-clause-refused : goal.returns-in_err-insert-clause-refused
+returns-in_err-insert-clause-refused g c = search rules

@@ -12,3 +12,9 @@ pub returns-in_err-i-clause-fresh : goal.returns-in_err-i-clause-fresh
 returns-in_err-i-clause-fresh g c =
     let absent = absent_from_test g.met.T.Eq.laws c.self.inside.values.keys c.args.value c.in_err-i.ensures.absent in
     rw (← c.self.view_is) (search rules)
+
+pub returns-clause-stored : goal.returns-clause-stored
+returns-clause-stored g c = search rules
+
+pub returns-clause-grown : goal.returns-clause-grown
+returns-clause-grown g c = search rules

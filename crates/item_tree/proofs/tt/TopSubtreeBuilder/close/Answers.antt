@@ -1,4 +1,4 @@
-use Rattle.std.proofs.Common.{arith, ap, refl}
+use Rattle.std.proofs.Common.{ap, arith, refl, rules}
 use Rattle.item_tree.specs.TokenTrees.{depth}
 use Rattle.item_tree.proofs.TokenTreesLemmas.{none_is_open, some_are_open}
 use Rattle.item_tree.proofs.tt.TopSubtreeBuilder.close.Goals as goal
@@ -13,3 +13,6 @@ pub returns-clause-found : goal.returns-clause-found
 returns-clause-found c =
     let some = some_are_open _ _ c.self.invariant (omega (arith, c.if-self-eq0.false)) in
     (λ _. rw (← c.self.view_is) some, λ _. refl)
+
+pub returns-then-self-eq0-clause-text : goal.returns-then-self-eq0-clause-text
+returns-then-self-eq0-clause-text c = search rules
