@@ -11,8 +11,8 @@ use Rattle.def_bindings.specs.declared.visibility.Visibility.TheVariants.{Public
 use Rattle.def_modules.specs.declared.module_data.ModuleOrigin.TheVariants.{Block}
 use Rattle.def_modules.specs.Scopes.{empty_module}
 use Rattle.def_map.specs.declared.block.BlockInfo.{BlockInfo}
-use Rattle.def_map.specs.DefMaps.{info_state, seeded}
-use Rattle.def_map.specs.Fresh.{known_tools}
+use Rattle.def_map.specs.DefMaps.{seeded}
+use Rattle.def_seed.specs.Fresh.{known_tools}
 use Rattle.def_paths.specs.Items.{public_item}
 use Rattle.def_map.specs.ItemScopes.{resolutions_from, unnamed_from}
 use Rattle.def_paths.specs.PerNs.{Item, in_types}
@@ -23,18 +23,8 @@ seeded_crate : ((seeded (record { 0 = 1 }) Edition2015 None).id ≡ record { kra
 seeded_crate = (refl, refl, refl)
 
 -- a block's map is of the block's crate, whichever crate is named, and stands in the block's modules
-seeded_block : (b : BlockInfo) → ((seeded (record { 0 = 1 }) Edition2015 (Some b)).id ≡ record { krate = b.krate; block = Some b.block }) × ((seeded (record { 0 = 1 }) Edition2015 (Some b)).containing ≡ b.containing)
+seeded_block : (b : BlockInfo) → ((seeded (record { 0 = 1 }) Edition2015 (Some b)).id ≡ record { krate = b.data.krate; block = Some b.data.block }) × ((seeded (record { 0 = 1 }) Edition2015 (Some b)).containing ≡ b.data.containing)
 seeded_block b = (refl, refl)
-
--- it has one root, made by the block, and the edition that is asked for
-root_of_info : (b : BlockInfo) → ((info_state Edition2021 b).modules ≡ empty_module None Block Public ∷ []) × ((info_state Edition2021 b).edition ≡ Edition2021)
-root_of_info b = (refl, refl)
-
--- it keeps the crate's limit and tools, and neither its prelude nor a macro that an extern crate brought
-crate_of_info : (b : BlockInfo) (name : Name)
-    → ((info_state Edition2021 b).krate.recursion_limit ≡ b.recursion_limit) × ((info_state Edition2021 b).krate.tools ≡ b.registered_tools)
-    × ((info_state Edition2021 b).krate.prelude ≡ None) × ((info_state Edition2021 b).krate.macro_use name ≡ None)
-crate_of_info b name = (refl, refl, refl, refl)
 
 abbrev root : ModuleId
 root = record { map = record { krate = record { 0 = 0 }; block = None }; index = 0 }

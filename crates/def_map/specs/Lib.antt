@@ -1,4 +1,3 @@
-pub mod Fresh
 pub mod DefMaps
 pub mod ItemScopes
 pub use Rattle.def_modules.specs.MapView
@@ -11,6 +10,8 @@ pub use Rattle.def_modules.specs.Scopes
 pub use Rattle.def_modules.specs.Maps
 pub use Rattle.def_modules.specs.Tables
 pub use Rattle.def_modules.specs.Locals
+pub use Rattle.def_seed.specs.Fresh
+pub use Rattle.def_seed.specs.Seeds
 pub use Rattle.def_oracle.specs.Queries
 pub use Rattle.def_oracle.specs.Oracle
 pub use Rattle.def_paths.specs.PerNs

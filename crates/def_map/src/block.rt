@@ -1,41 +1,24 @@
 //! What the map of a block begins with.
-ghost use Rattle.std.specs.Prelude.{◌≡◌, false, true, Some, IsTrue, IfOk, MatchOption};
-ghost use Rattle.std.specs.Option.{option_map_or};
+ghost use Rattle.std.specs.Prelude.{◌≡◌, false, IfOk, MatchOption};
 ghost use Rattle.def_bindings.specs.Tree.{are_apart};
+ghost use Rattle.def_ids.specs.declared.macro_def.Edition.{Edition};
+ghost use Rattle.def_map.specs.DefMaps.{state_of, info_state};
+ghost use Rattle.def_seed.specs.Fresh.{fresh_state, block_crate};
+ghost use Rattle.def_seed.specs.Seeds.{block_map_id};
 
 use crate::def_map::DefMap;
-use def_bindings::ModuleTree;
-use def_ids::{FunctionId, MacroId, MapId, ModuleId, ProcMacroId};
-use def_modules::{MapData, UnstableFeatures};
-use indexmap::IndexMap;
-use item_tree::{BlockId, Crate, Name, Seq};
+use def_ids::ModuleId;
+use def_seed::BlockData;
+use item_tree::BlockId;
 use std::alloc::{AllocError, Global};
 
 /// A block, the modules that contain it, and what its map takes over of its crate's map.
 #[derive(Drop)]
 pub struct BlockInfo {
-    pub(crate) krate: Crate,
-    pub(crate) block: BlockId,
-    /// The innermost first.
-    pub(crate) containing: Seq<ModuleId>,
-    pub(crate) recursion_limit: Option<u32>,
-    pub(crate) no_core: bool,
-    pub(crate) no_std: bool,
-    pub(crate) rustc_coherence_is_core: bool,
-    pub(crate) features: UnstableFeatures,
-    pub(crate) registered_tools: Seq<Name>,
-    pub(crate) exported_derives: IndexMap<MacroId, Seq<Name>>,
-    pub(crate) fn_as_proc_macro: IndexMap<FunctionId, ProcMacroId>,
-    pub(crate) proc_macro_as_fn: IndexMap<ProcMacroId, FunctionId>,
-    ghost apart: { IsTrue (are_apart (record { krate = krate; block = Some block }) containing) },
+    pub(crate) data: BlockData,
 }
 
 impl BlockInfo {
-    ghost use Rattle.def_map.specs.DefMaps.{state_of, block_map_id, info_state};
-    ghost use Rattle.def_map.specs.Fresh.{fresh_state, block_crate};
-    ghost use Rattle.def_modules.specs.Maps.{map_state};
-    ghost use Rattle.def_ids.specs.declared.macro_def.Edition.{Edition};
-
     /// A block of a map's crate, within these modules, the innermost first. None where two of them
     /// are equal or one is of the block's own map.
     pub fn new(
@@ -49,80 +32,9 @@ impl BlockInfo {
             (λ info. (edition : Edition) → info_state edition info
             ≡ fresh_state (block_map_id (state_of crate_map.now) block) edition containing.items (block_crate (state_of crate_map.now).krate))) }
     {
-        let krate = crate_map.data.tree.map.krate;
-        let map = MapId {
-            krate,
-            block: Some(block),
-        };
-        match ModuleTree::new(alloc, map, Seq::from_vec(containing))? {
+        match BlockData::new(alloc, block, containing, &crate_map.data)? {
+            Some(data) => Ok(Some(BlockInfo { data })),
             None => Ok(None),
-            Some(tree) => match BlockInfo::within(tree, block, &crate_map.data) {
-                Ok(info) => Ok(Some(info)),
-                Err(refused) => Err(refused),
-            },
         }
     }
-
-    /// The block of a tree's root, with what it takes over.
-    fn within(tree: ModuleTree, block: BlockId, from: &MapData) -> Result<BlockInfo, AllocError>
-        requires { tree.map ≡ record { krate = from.now.tree.map.krate; block = Some block } }
-        ensures { IfOk result (λ info. (edition : Edition) → info_state edition info
-            ≡ fresh_state (block_map_id (map_state from.now) block) edition tree.containing (block_crate (map_state from.now).krate)) }
-    {
-        let (registered_tools, exported_derives) = copied_exports(from)?;
-        let (fn_as_proc_macro, proc_macro_as_fn) = copied_pairs(from)?;
-        let features = copied_features(&from.features)?;
-        let ModuleTree {
-            map,
-            parents: _,
-            containing,
-        } = tree;
-        Ok(BlockInfo {
-            krate: map.krate,
-            block,
-            containing,
-            recursion_limit: from.recursion_limit,
-            no_core: from.no_core,
-            no_std: from.no_std,
-            rustc_coherence_is_core: from.rustc_coherence_is_core,
-            features,
-            registered_tools,
-            exported_derives,
-            fn_as_proc_macro,
-            proc_macro_as_fn,
-        })
-    }
-}
-
-/// A copy of the features.
-fn copied_features(features: &UnstableFeatures) -> Result<UnstableFeatures, AllocError>
-    ensures { IfOk result (λ copy. copy.names.keys ≡ features.now.names.keys) }
-{
-    Ok(UnstableFeatures {
-        names: features.names.clone()?,
-    })
-}
-
-/// Copies of the tools and of the exported helpers.
-fn copied_exports(from: &MapData) -> Result<(Seq<Name>, IndexMap<MacroId, Seq<Name>>), AllocError>
-    ensures { IfOk result (λ copy. (copy.0 ≡ from.now.registered_tools) × (copy.1.entries ≡ from.now.exported_derives.entries)) }
-{
-    let tools = from.registered_tools.clone()?;
-    Ok((tools, from.exported_derives.clone()?))
-}
-
-/// Copies of the macros of functions and of the functions of macros.
-fn copied_pairs(
-    from: &MapData,
-) -> Result<
-    (
-        IndexMap<FunctionId, ProcMacroId>,
-        IndexMap<ProcMacroId, FunctionId>,
-    ),
-    AllocError,
->
-    ensures { IfOk result (λ copy. (copy.0.entries ≡ from.now.fn_as_proc_macro.entries) × (copy.1.entries ≡ from.now.proc_macro_as_fn.entries)) }
-{
-    let macros = from.fn_as_proc_macro.clone()?;
-    Ok((macros, from.proc_macro_as_fn.clone()?))
 }

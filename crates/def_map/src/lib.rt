@@ -4,7 +4,6 @@
 mod block;
 mod def_map;
 mod def_map_reads;
-mod fresh;
 mod item_scope;
 mod macro_resolver;
 mod path_resolution;
