@@ -15,7 +15,7 @@ use Rattle.def_steps.specs.declared.directive.PartialDirective.{PartialDirective
 use Rattle.def_rules.specs.declared.diagnostics.DefDiagnostic.{DefDiagnostic}
 use Rattle.def_parts.specs.Directories.{Directory}
 use Rattle.def_steps.specs.Shown.{partial_of, pending_of}
-use Rattle.def_walk.specs.Collector.{waiting}
+use Rattle.def_steps.specs.Waiting.{waiting}
 use Rattle.def_rules.specs.Crates.{deps_by_name, is_proc_macro_crate}
 use Rattle.def_rules.specs.Globs.{Targets}
 use Rattle.def_rules.specs.Headline.{Answers}
@@ -27,7 +27,7 @@ use Rattle.def_rules.specs.State.{Setting, State, PendingImport, PartialImport}
 use Rattle.def_laws.specs.Runs.{Leads}
 use Rattle.def_laws.proofs.BegunLaws.{begins_own}
 use Rattle.def_laws.proofs.HeadlineLaws.{answers}
-use Rattle.def_walk.specs.WaitingLaws.{waiting-nil}
+use Rattle.def_steps.proofs.WaitingLaws.{waiting-nil}
 
 unmarked : (d : ModuleState) → ((name : Name) → d.failed name ≡ false) → All (λ (e : ModuleState). (name : Name) → e.failed name ≡ false) (d ∷ [])
 unmarked d none = All-cons (λ (e : ModuleState). (name : Name) → e.failed name ≡ false) d [] none (All-nil (λ (e : ModuleState). (name : Name) → e.failed name ≡ false))

@@ -1,3 +1,1 @@
-pub mod PassLemmas
-pub mod TriesLemmas
 pub mod CollectLemmas

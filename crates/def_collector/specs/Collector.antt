@@ -1,25 +1,12 @@
--- What a run is given, and what a pass over the imports leaves.
-use Rattle.std.specs.Prelude.{◌≡◌, ℕ, false, List, Option, Some, slice_get}
+-- What a run is given.
+use Rattle.std.specs.Prelude.{Option}
 use Rattle.item_tree.specs.declared.ids.TreeId.{TreeId}
 use Rattle.def_map.specs.declared.def_map.DefMap.{DefMap}
 use Rattle.def_map.specs.DefMaps as whole
 use Rattle.def_map.specs.Oracle.{Oracle}
 use Rattle.def_modules.specs.MapView.{LocalView}
-use Rattle.def_rules.specs.Imports.{answer_now, is_ready, is_ready_again}
-use Rattle.def_rules.specs.State.{Setting, State}
-use Rattle.def_steps.specs.declared.directive.ImportDirective.{ImportDirective}
-use Rattle.def_steps.specs.declared.directive.PartialDirective.{PartialDirective}
-use Rattle.def_steps.specs.Shown.{ns_set, pending_of}
+use Rattle.def_rules.specs.State.{Setting}
 
 -- what a run is given
 abbrev pub setting_of : Oracle → DefMap → TreeId → Option LocalView → Setting
 setting_of oracle m tree local = record { oracle = oracle; seeded = whole.state_of m; tree = tree; crate_local = local }
-
--- the waiting import at this place, if one is there, is not ready
-abbrev pub IsUnready : Oracle → State → List (Option ImportDirective) → ℕ → Type 0
-IsUnready oracle s entries index = (d : ImportDirective) → slice_get entries index ≡ Some (Some d) → is_ready (answer_now oracle s (pending_of d)) ≡ false
-
--- the partial import at this place, if one is there, is not ready again
-abbrev pub IsUnreadyAgain : Oracle → State → List (Option PartialDirective) → ℕ → Type 0
-IsUnreadyAgain oracle s entries index =
-    (d : PartialDirective) → slice_get entries index ≡ Some (Some d) → is_ready_again (ns_set d.recorded) (answer_now oracle s (pending_of d.directive)) ≡ false

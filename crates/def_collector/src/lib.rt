@@ -1,8 +1,6 @@
 //! The definition collector: from item trees to the map of modules and bindings.
 #![tactic(auto)]
 
-mod globs;
-mod imports;
 mod prelude;
 mod run;
 mod seeding;

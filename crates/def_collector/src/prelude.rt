@@ -2,13 +2,13 @@
 ghost use Rattle.std.specs.Prelude.{◌≡◌, ℕ, option_and_then, IfOk, OnOk};
 ghost use Rattle.def_ids.specs.declared.interner.Interner.{Interner};
 ghost use Rattle.def_map.specs.Paths as paths;
-ghost use Rattle.def_walk.specs.Collector.{state_of};
+ghost use Rattle.def_state.specs.Collector.{state_of};
 ghost use Rattle.def_rules.specs.Crates as crates;
 ghost use Rattle.def_rules.specs.Start.{head_of, with_head, with_prelude};
 
 use def_ids::{Def, Edition, Interner, ModuleId};
 use def_map::{BuiltinShadowMode, PerNs, SourceDatabase, resolve_path};
-use def_walk::DefCollector;
+use def_state::DefCollector;
 use item_tree::{ModPath, Name, PathKind, Seq, sym};
 use std::alloc::AllocError;
 

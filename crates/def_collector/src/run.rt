@@ -1,29 +1,30 @@
 //! A whole run: what is known of a crate is read, its items are walked, and imports are recorded
 //! until none resolves any further.
-ghost use Rattle.std.specs.Prelude.{◌≡◌, ◌++◌, [], Some, is_some, option_map, IfOk, OnOk};
+ghost use Rattle.std.specs.Prelude.{◌≡◌, [], is_some, option_map, IfOk, OnOk};
 ghost use Rattle.def_ids.specs.declared.interner.Interner.{Interner};
 ghost use Rattle.def_ids.specs.Session.{AddsLocations, session_of};
 ghost use Rattle.def_map.specs.DefMaps as whole;
 ghost use Rattle.def_map.specs.Fresh.{IsFresh};
 ghost use Rattle.def_modules.specs.Locals.{local_view};
 ghost use Rattle.def_modules.specs.Maps.{map_state};
-ghost use Rattle.def_walk.specs.Collector.{state_of, shown};
+ghost use Rattle.def_state.specs.Collector.{state_of, shown};
 ghost use Rattle.def_collector.specs.Collector.{setting_of};
 ghost use Rattle.def_rules.specs.Headline.{Answers};
 ghost use Rattle.def_rules.specs.Imports.{NoneReady};
-ghost use Rattle.def_rules.specs.Start.{first_reports, first_tasks, first_tree, site_at, started};
+ghost use Rattle.def_rules.specs.Start.{first_tasks, first_tree, started};
 ghost use Rattle.def_laws.specs.Runs.{Leads};
 
-use crate::imports::resolve_imports;
 use crate::seeding::seed;
 use def_ids::{Interner, ItemContainerId, MapId, ModuleId};
+use def_imports::resolve_imports;
 use def_map::{DefMap, LocalDefMap, SourceDatabase};
 use def_parts::{Globs, ModDir};
-use def_rules::{Collected, DefDiagnostic, DefDiagnosticKind};
+use def_rules::Collected;
+use def_state::{DefCollector, ItemList, disabled_by, top_items};
 use def_steps::{MissingCrates, ModDirs, deps_by_name, is_proc_macro_crate, top_attrs};
-use def_walk::{DefCollector, ItemList, disabled_by, top_items};
+use def_walk::walk;
 use indexmap::IndexMap;
-use item_tree::{CfgExpr, FileAstId, HirFileId, InFile, TreeId};
+use item_tree::{HirFileId, TreeId};
 use std::alloc::{AllocError, Global};
 
 /// Collects the definitions of a crate or a block into its seeded map.
@@ -113,9 +114,10 @@ fn seed_with_top_level<'a, D: SourceDatabase>(
     let disabled = disabled_by(tree);
     seed(collector, db, session, top_attrs(tree), disabled)?;
     if let Some(cfg) = disabled {
-        return report_disabled(collector, tree_id, cfg);
+        return collector.report_disabled(tree_id, cfg);
     }
-    collector.walk(
+    walk(
+        collector,
         db,
         session,
         ItemList {
@@ -127,34 +129,6 @@ fn seed_with_top_level<'a, D: SourceDatabase>(
             dir: ModDir::root(collector.alloc),
         },
     )
-}
-
-/// Reports a crate's root file that cfg disables. Of a block nothing is reported. On `Err`
-/// nothing but safety is promised.
-fn report_disabled<'a>(
-    collector: &mut DefCollector<'a>,
-    tree_id: TreeId,
-    cfg: CfgExpr,
-) -> Result<(), AllocError>
-    ensures { OnOk result ((session : Interner) →
-        let s = state_of collector.old session in
-        state_of collector.new session
-        ≡ record s { diagnostics = s.diagnostics ++ first_reports (site_at s.map tree_id) (is_some s.map.id.block) (Some cfg) }) }
-{
-    let map = collector.def_map.tree.map;
-    let in_block = map.block.is_some();
-    if in_block {
-        return Ok(());
-    }
-    collector.diagnostics.push(DefDiagnostic {
-        module: ModuleId { map, index: 0 },
-        ast_id: InFile {
-            file: tree_id.file,
-            value: FileAstId(0),
-        },
-        kind: DefDiagnosticKind::UnconfiguredCode { cfg },
-    })?;
-    Ok(())
 }
 
 /// Records imports until none is ready. On `Err` nothing but safety is promised.

@@ -3,3 +3,5 @@ pub mod OrderLemmas
 pub mod GatherLemmas
 pub mod TargetsLemmas
 pub mod NumbersLemmas
+pub mod WaitingLaws
+pub mod LeftLemmas

@@ -1,4 +1,2 @@
-pub mod FinishLemmas
-pub mod ItemsLemmas
 pub mod VisitLemmas
 pub mod WalkLemmas

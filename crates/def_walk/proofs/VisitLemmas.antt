@@ -14,9 +14,10 @@ use Rattle.std.specs.Prelude.{is_some}
 use Rattle.def_ids.specs.declared.interner.Interner.{Interner}
 use Rattle.def_ids.specs.Session.{session_of}
 use Rattle.def_map.specs.Oracle.{Oracle}
-use Rattle.def_walk.specs.declared.collector.walk.Frame.{Frame}
-use Rattle.def_walk.specs.declared.collector.walk.ItemList.{ItemList}
-use Rattle.def_walk.specs.Collector.{AreKnown, agenda_of, frame_tasks, inner_of, is_frame_known, is_known, left_of, list_site, listed, tree_in, walk_measure}
+use Rattle.def_walk.specs.declared.stack.Frame.{Frame}
+use Rattle.def_state.specs.declared.lists.ItemList.{ItemList}
+use Rattle.def_state.specs.Collector.{list_site, tree_in}
+use Rattle.def_walk.specs.Walk.{AreKnown, agenda_of, frame_tasks, inner_of, is_frame_known, is_known, left_of, listed, walk_measure}
 use Rattle.def_laws.specs.Work.{task_work, work}
 use Rattle.def_rules.specs.Items.{name_text, node_at, ordered, visits, walk}
 use Rattle.def_rules.specs.State.{State, Task, Enter, Visit, entered}

@@ -1,3 +1,1 @@
-pub mod Collector
-pub mod ResultLaws
-pub mod WaitingLaws
+pub mod Walk

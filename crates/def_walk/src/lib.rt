@@ -1,7 +1,8 @@
-//! The collector's data, and the walk over item trees: what each item declares, and the imports
-//! that it leaves to be resolved.
+//! The walk over item trees: each list of items in turn, and what each item declares or opens.
 #![tactic(auto)]
 
-mod collector;
+mod items;
+mod modules;
+mod stack;
 
-pub use collector::{DefCollector, ItemList, disabled_by, top_items};
+pub use stack::walk;

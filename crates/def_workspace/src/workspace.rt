@@ -2,7 +2,7 @@
 
 ghost use Rattle.std.specs.Prelude.{◌≡◌, IfOk};
 ghost use Rattle.def_ids.specs.Session.{AddsLocations, session_of};
-ghost use Rattle.def_walk.specs.Collector.{shown};
+ghost use Rattle.def_state.specs.Collector.{shown};
 ghost use Rattle.def_rules.specs.Headline.{Answers};
 ghost use Rattle.def_workspace.specs.Scripted.{answers_of};
 ghost use Rattle.def_workspace.specs.Workspace.{file_tree, setting};

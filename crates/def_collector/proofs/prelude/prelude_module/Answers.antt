@@ -3,7 +3,7 @@ use Rattle.def_modules.specs.Locals.{local_view}
 use Rattle.def_modules.specs.Maps.{facts_of}
 use Rattle.def_map.specs.Paths.{for_module, resolve}
 use Rattle.def_modules.specs.Tables.{bound_by}
-use Rattle.def_walk.specs.Collector.{state_of}
+use Rattle.def_state.specs.Collector.{state_of}
 use Rattle.def_rules.specs.State.{root, world}
 use Rattle.def_laws.proofs.StartLaws.{prelude_found}
 use Rattle.def_collector.proofs.prelude.prelude_module.Goals as goal

@@ -3,10 +3,10 @@ use Rattle.def_ids.specs.Session.{session_of}
 use Rattle.def_map.specs.DefMaps as whole
 use Rattle.def_modules.specs.Locals.{local_view}
 use Rattle.def_modules.specs.Tables.{bound_by}
-use Rattle.def_walk.specs.Collector.{state_of, shown}
+use Rattle.def_state.specs.Collector.{state_of, shown}
 use Rattle.def_collector.specs.Collector.{setting_of}
 use Rattle.def_rules.specs.Crates.{deps_by_name, is_proc_macro_crate}
-use Rattle.def_walk.specs.ResultLaws.{if_ok}
+use Rattle.def_state.proofs.ResultLaws.{if_ok}
 use Rattle.def_collector.proofs.CollectLemmas.{collected_answers, no_imports, no_partial}
 use Rattle.def_laws.proofs.GlobsLaws.{no_targets}
 use Rattle.def_collector.proofs.run.collect_defs.Goals as goal

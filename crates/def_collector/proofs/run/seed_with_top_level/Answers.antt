@@ -1,5 +1,5 @@
 use Rattle.std.proofs.Common.{◌∙◌}
-use Rattle.def_walk.specs.Collector.{state_of}
+use Rattle.def_state.specs.Collector.{state_of}
 use Rattle.def_laws.proofs.RecordLaws.{on_ok}
 use Rattle.def_laws.proofs.StartLaws.{attrs_of, cfg_of, starts_disabled, starts_walked, tops_of}
 use Rattle.def_collector.proofs.run.seed_with_top_level.Goals as goal
@@ -12,7 +12,7 @@ returns-in-Some-clause-run g c =
     on_ok c.report_disabled.result c.report_disabled.ensures (λ last.
     starts_disabled oracle (state_of c.args.collector.now c.args.session.now) (state_of c.seed.new.collector c.args.session.now) c.args.tree_id first c.top_attrs.result.now c.disabled_by-disabled.result
     c.first_tree-tree_id.ensures c.in_ok-seed.ensures (c.top_attrs.ensures ∙ attrs_of oracle first tree c.item_tree-tree.ensures) (c.disabled_by-disabled.ensures ∙ cfg_of oracle first tree c.item_tree-tree.ensures)
-    (state_of c.report_disabled.new.collector c.args.session.now) c.in-Some.cfg c.in-Some.is (last c.args.session.now))
+    (state_of c.report_disabled.new.self c.args.session.now) c.in-Some.cfg c.in-Some.is (last c.args.session.now))
 
 pub returns-clause-run : goal.returns-clause-run
 returns-clause-run g c =
@@ -22,4 +22,4 @@ returns-clause-run g c =
     on_ok c.walk.result c.walk.ensures.run (λ run.
     starts_walked oracle (state_of c.args.collector.now c.args.session.now) (state_of c.seed.new.collector c.args.session.now) c.args.tree_id first c.top_attrs.result.now c.disabled_by-disabled.result
     c.first_tree-tree_id.ensures c.in_ok-seed.ensures (c.top_attrs.ensures ∙ attrs_of oracle first tree c.item_tree-tree.ensures) (c.disabled_by-disabled.ensures ∙ cfg_of oracle first tree c.item_tree-tree.ensures)
-    (state_of c.walk.new.self c.walk.new.session) c.root.result c.top_items.result.now c.in_default.is c.root.ensures (c.top_items.ensures ∙ tops_of oracle first tree c.item_tree-tree.ensures) run)
+    (state_of c.walk.new.collector c.walk.new.session) c.root.result c.top_items.result.now c.in_default.is c.root.ensures (c.top_items.ensures ∙ tops_of oracle first tree c.item_tree-tree.ensures) run)

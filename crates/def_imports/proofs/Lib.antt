@@ -1,0 +1,2 @@
+pub mod PassLemmas
+pub mod TriesLemmas

@@ -1,0 +1,3 @@
+pub mod FinishLemmas
+pub mod ItemsLemmas
+pub mod ResultLaws

@@ -1,0 +1,2 @@
+pub mod Collector
+pub mod Declarations

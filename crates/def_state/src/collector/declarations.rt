@@ -1,0 +1,310 @@
+//! Names that items declare.
+ghost use Rattle.std.specs.Prelude.{◌≡◌, ◌∷◌, [], true, OnOk};
+ghost use Rattle.item_tree.specs.declared.items.ModItemKind.TheVariants as kinds;
+ghost use Rattle.def_ids.specs.declared.interner.Interner.{Interner};
+ghost use Rattle.def_ids.specs.Session.{AddsLocations, session_of};
+ghost use Rattle.def_map.specs.Oracle.{Oracle};
+ghost use Rattle.def_state.specs.Collector.{site_of, state_of};
+ghost use Rattle.def_state.specs.Declarations.{is_declaring};
+ghost use Rattle.def_laws.specs.Performs.{Handled, Performs, Updated};
+ghost use Rattle.def_rules.specs.Items.{declared_effect, declared_entry, struct_effect, written_vis};
+
+use super::DefCollector;
+use crate::lists::Site;
+use def_bindings::{Entry, Namespace, Visibility, lesser_or_import};
+use def_ids::{
+    ConstLoc, Def, EnumLoc, FunctionLoc, Interner, Location, ModuleId, StaticLoc, StructLoc,
+    TraitLoc, TypeAliasLoc, UnionLoc,
+};
+use def_map::SourceDatabase;
+use item_tree::{CtorVisibility, ItemNode, ModItemKind, Name, RawVisibility};
+use std::alloc::AllocError;
+
+/// A struct as it is written.
+#[derive(Clone, Copy)]
+pub struct WrittenStruct<'a> {
+    pub name: Name,
+    pub visibility: &'a RawVisibility,
+    pub ctor: &'a CtorVisibility,
+}
+
+/// A definition that is declared in one namespace, and its visibility as it is written.
+#[derive(Clone, Copy)]
+struct Declaration<'a> {
+    name: Name,
+    ns: Namespace,
+    def: Def,
+    visibility: &'a RawVisibility,
+}
+
+impl DefCollector<'_> {
+    /// Declares an item of a kind that declares one name in one namespace. A constant without a name
+    /// is recorded in its module and declares none. On `Err` nothing but safety is promised.
+    pub fn collect_declaration<D: SourceDatabase>(
+        &mut self,
+        db: &D,
+        session: &mut Interner,
+        site: Site<'_>,
+        node: &ItemNode,
+    ) -> Result<(), AllocError>
+        ensures handled { OnOk result (is_declaring node.now.kind ≡ true →
+            Handled (D.oracle db.now) (state_of self.old session.old) (state_of self.new session.new)
+            (site_of site.entry) node.now []) }
+        ensures session { AddsLocations (session_of session.old) (session_of session.new) }
+        ensures names { session.new.names ≡ session.old.names }
+    {
+        match &node.kind {
+            ModItemKind::Union { name, visibility } => {
+                let id = UnionLoc {
+                    container: site.module_id,
+                    position: site.position(node),
+                }
+                .intern(session)?;
+                let declared = Declaration {
+                    name: *name,
+                    ns: Namespace::Types,
+                    def: Def::Union(id),
+                    visibility,
+                };
+                self.declare(db, session, site.module_id, declared)?;
+                Ok(())
+            }
+            ModItemKind::Enum { name, visibility } => {
+                let id = EnumLoc {
+                    container: site.module_id,
+                    position: site.position(node),
+                }
+                .intern(session)?;
+                let declared = Declaration {
+                    name: *name,
+                    ns: Namespace::Types,
+                    def: Def::Enum(id),
+                    visibility,
+                };
+                self.declare(db, session, site.module_id, declared)?;
+                Ok(())
+            }
+            ModItemKind::Function { name, visibility } => {
+                let id = FunctionLoc {
+                    container: site.container,
+                    position: site.position(node),
+                }
+                .intern(session)?;
+                let declared = Declaration {
+                    name: *name,
+                    ns: Namespace::Values,
+                    def: Def::Function(id),
+                    visibility,
+                };
+                self.declare(db, session, site.module_id, declared)?;
+                Ok(())
+            }
+            ModItemKind::Const { name, visibility } => {
+                let id = ConstLoc {
+                    container: site.container,
+                    position: site.position(node),
+                }
+                .intern(session)?;
+                let Some(name) = *name else {
+                    self.def_map.define_unnamed_const(site.module_id.index, id)?;
+                    return Ok(());
+                };
+                let declared = Declaration {
+                    name,
+                    ns: Namespace::Values,
+                    def: Def::Const(id),
+                    visibility,
+                };
+                self.declare(db, session, site.module_id, declared)?;
+                Ok(())
+            }
+            ModItemKind::Static { name, visibility } => {
+                let id = StaticLoc {
+                    container: site.container,
+                    position: site.position(node),
+                }
+                .intern(session)?;
+                let declared = Declaration {
+                    name: *name,
+                    ns: Namespace::Values,
+                    def: Def::Static(id),
+                    visibility,
+                };
+                self.declare(db, session, site.module_id, declared)?;
+                Ok(())
+            }
+            ModItemKind::Trait { name, visibility } => {
+                let id = TraitLoc {
+                    container: site.module_id,
+                    position: site.position(node),
+                }
+                .intern(session)?;
+                let declared = Declaration {
+                    name: *name,
+                    ns: Namespace::Types,
+                    def: Def::Trait(id),
+                    visibility,
+                };
+                self.declare(db, session, site.module_id, declared)?;
+                Ok(())
+            }
+            ModItemKind::TypeAlias { name, visibility } => {
+                let id = TypeAliasLoc {
+                    container: site.container,
+                    position: site.position(node),
+                }
+                .intern(session)?;
+                let declared = Declaration {
+                    name: *name,
+                    ns: Namespace::Types,
+                    def: Def::TypeAlias(id),
+                    visibility,
+                };
+                self.declare(db, session, site.module_id, declared)?;
+                Ok(())
+            }
+            ModItemKind::Mod { .. }
+            | ModItemKind::Use { .. }
+            | ModItemKind::ExternCrate { .. }
+            | ModItemKind::ExternBlock { .. }
+            | ModItemKind::Impl { .. }
+            | ModItemKind::Struct { .. } => Ok(()),
+        }
+    }
+
+    /// Declares a struct, and its constructor. On `Err` nothing but safety is promised.
+    pub fn collect_struct<D: SourceDatabase>(
+        &mut self,
+        db: &D,
+        session: &mut Interner,
+        site: Site<'_>,
+        node: &ItemNode,
+        written: WrittenStruct<'_>,
+    ) -> Result<(), AllocError>
+        ensures handled { OnOk result (
+            node.now.kind ≡ kinds.Struct written.entry.name written.entry.visibility.now written.entry.ctor.now →
+            Handled (D.oracle db.now) (state_of self.old session.old) (state_of self.new session.new)
+            (site_of site.entry) node.now []) }
+        ensures session { AddsLocations (session_of session.old) (session_of session.new) }
+        ensures names { session.new.names ≡ session.old.names }
+    {
+        let id = StructLoc {
+            container: site.module_id,
+            position: site.position(node),
+        }
+        .intern(session)?;
+        let at = site.module_id;
+        let vis = self.resolve_visibility(db, session, at, written.visibility);
+        let ctor_vis = self.constructor_visibility(db, session, at, written.ctor);
+        self.define_struct(at, written.name, Def::Struct(id), vis, ctor_vis)?;
+        Ok(())
+    }
+
+    /// Declares a definition in one namespace, as visible as is written. On `Err` nothing but
+    /// safety is promised.
+    fn declare<D: SourceDatabase>(
+        &mut self,
+        db: &D,
+        session: &Interner,
+        module_id: ModuleId,
+        declared: Declaration<'_>,
+    ) -> Result<(), AllocError>
+        ensures { OnOk result (let s = state_of self.old session.now in
+            let vis = written_vis (D.oracle db.now) s module_id declared.entry.visibility.now in
+            let effect = declared_effect s module_id declared.entry.name declared.entry.ns declared.entry.def vis in
+            Performs (D.oracle db.now) effect.tasks effect.state (state_of self.new session.now)) }
+    {
+        let vis = self.resolve_visibility(db, session, module_id, declared.visibility);
+        self.define(module_id, declared.name, declared.ns, declared.def, vis)?;
+        Ok(())
+    }
+
+    /// Puts entries in a module, and lets what changes travel along the edges of globs. On `Err`
+    /// nothing but safety is promised.
+    pub fn put(&mut self, module_id: ModuleId, list: &[Entry<Visibility>]) -> Result<(), AllocError>
+        ensures frame { self.new ≡ record self.old { table = self.new.table } }
+        ensures updated { OnOk result ((session : Interner) →
+            Updated module_id list.now (state_of self.old session) (state_of self.new session)) }
+    {
+        self.table.update(&self.def_map.tree, module_id, list)?;
+        Ok(())
+    }
+
+    /// Puts a declared name. On `Err` nothing but safety is promised.
+    pub(crate) fn put_declared(
+        &mut self,
+        module_id: ModuleId,
+        name: Name,
+        ns: Namespace,
+        def: Def,
+        vis: Visibility,
+    ) -> Result<(), AllocError>
+        ensures { OnOk result ((session : Interner) →
+            Updated module_id (declared_entry name ns def vis ∷ []) (state_of self.old session) (state_of self.new session)) }
+    {
+        self.put(module_id, &[declared(name, ns, def, vis)])?;
+        Ok(())
+    }
+
+    /// Declares a definition in one namespace. On `Err` nothing but safety is promised.
+    fn define(
+        &mut self,
+        module_id: ModuleId,
+        name: Name,
+        ns: Namespace,
+        def: Def,
+        vis: Visibility,
+    ) -> Result<(), AllocError>
+        ensures { OnOk result ((oracle : Oracle) (session : Interner) →
+            let effect = declared_effect (state_of self.old session) module_id name ns def vis in
+            Performs oracle effect.tasks effect.state (state_of self.new session)) }
+    {
+        self.def_map.declare(module_id.index, def)?;
+        self.put_declared(module_id, name, ns, def, vis)?;
+        Ok(())
+    }
+
+    /// Declares a struct in types, and its constructor in values, which is at most as visible as
+    /// the struct. On `Err` nothing but safety is promised.
+    fn define_struct(
+        &mut self,
+        module_id: ModuleId,
+        name: Name,
+        def: Def,
+        vis: Visibility,
+        ctor_vis: Option<Visibility>,
+    ) -> Result<(), AllocError>
+        ensures { OnOk result ((oracle : Oracle) (session : Interner) →
+            let effect = struct_effect (state_of self.old session) module_id name def vis ctor_vis in
+            Performs oracle effect.tasks effect.state (state_of self.new session)) }
+    {
+        let module = module_id.index;
+        self.def_map.declare(module, def)?;
+        let types = declared(name, Namespace::Types, def, vis);
+        match ctor_vis {
+            Some(ctor_vis) => {
+                let vis = lesser_or_import(&self.def_map.tree, ctor_vis, vis);
+                let values = declared(name, Namespace::Values, def, vis);
+                self.put(module_id, &[types, values])?;
+                Ok(())
+            }
+            None => {
+                self.put(module_id, &[types])?;
+                Ok(())
+            }
+        }
+    }
+}
+
+/// The entry of a declaration.
+fn declared(name: Name, ns: Namespace, def: Def, vis: Visibility) -> Entry<Visibility>
+    ensures { result ≡ declared_entry name ns def vis }
+{
+    Entry {
+        name: Some(name),
+        ns,
+        def,
+        vis,
+        origin: None,
+    }
+}
