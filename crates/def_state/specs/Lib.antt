@@ -1,2 +1,3 @@
 pub mod Collector
 pub mod Declarations
+pub mod Lists

@@ -6,6 +6,7 @@ mod crates;
 mod declarations;
 mod finish;
 mod items;
+mod lists;
 mod modules;
 mod visibility;
 

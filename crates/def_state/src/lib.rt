@@ -6,4 +6,4 @@ mod collector;
 mod lists;
 
 pub use collector::{CrateItem, DefCollector, ModuleItem, WrittenCrate, WrittenStruct};
-pub use lists::{ItemList, Site, disabled_by, top_items};
+pub use lists::{Frame, ItemList, Site, disabled_by, top_items};

@@ -1,7 +1,8 @@
 //! Lists of items, and where their items stand.
-ghost use Rattle.std.specs.Prelude.{◌≡◌, [], option_and_then, option_map, unwrap_or};
+ghost use Rattle.std.specs.Prelude.{◌≡◌, ◌<◌, [], true, is_some, option_and_then, option_map, slice_get, unwrap_or};
 ghost use Rattle.item_tree.specs.Attrs.{cfg_in};
 ghost use Rattle.def_state.specs.Collector.{site_of};
+ghost use Rattle.def_state.specs.Lists.{listed};
 ghost use Rattle.def_rules.specs.Items.{position_of};
 
 use def_ids::{ItemContainerId, ModuleId};
@@ -20,6 +21,28 @@ pub struct ItemList<'a> {
     pub items: &'a [ModItemId],
     /// Where the files of the module's children lie.
     pub dir: ModDir,
+}
+
+/// A list that is being walked, from the place `next` on. The last of a stack of frames goes first.
+#[derive(Drop)]
+pub struct Frame<'a> {
+    pub list: ItemList<'a>,
+    /// The items in the order of their visits, where that differs from the list's.
+    pub sorted: Option<Vec<ModItemId>>,
+    pub next: usize,
+}
+
+impl Frame<'_> {
+    /// The next item, if one is left.
+    pub fn next_item(&self) -> Option<ModItemId>
+        ensures item { result ≡ slice_get (listed self.now) self.now.next }
+        ensures room { is_some result ≡ true → self.now.next < usize.MAX }
+    {
+        match &self.sorted {
+            Some(sorted) => sorted.as_slice().get(self.next).copied(),
+            None => self.list.items.get(self.next).copied(),
+        }
+    }
 }
 
 /// Where the items of a list stand: their module, what contains them (the module, or an extern

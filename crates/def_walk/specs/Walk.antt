@@ -1,7 +1,5 @@
 -- Lists that are walked, and what they leave to be visited.
-use Rattle.std.specs.declared.alloc.Global.{Global}
-use Rattle.std.specs.Prelude.{◌≡◌, ℕ, ◌+◌, List, [], ◌∷◌, ◌++◌, length, drop, Option, Some, None, Vec}
-use Rattle.item_tree.specs.declared.ids.ModItemId.{ModItemId}
+use Rattle.std.specs.Prelude.{◌≡◌, ℕ, ◌+◌, List, [], ◌∷◌, ◌++◌, length, Option, Some, None}
 use Rattle.item_tree.specs.declared.name.Name.{Name}
 use Rattle.def_map.specs.Oracle.{Oracle}
 use Rattle.def_parts.specs.Directories.{FoundFile}
@@ -11,24 +9,12 @@ use Rattle.def_laws.specs.Work.{work}
 use Rattle.def_state.specs.declared.lists.ItemList.{ItemList}
 use Rattle.def_state.specs.Collector.{list_site, tree_in}
 use Rattle.def_walk.specs.declared.modules.FoundFile.{FoundFile as FoundInCode}
-use Rattle.def_walk.specs.declared.stack.Frame.{Frame}
+use Rattle.def_state.specs.declared.lists.Frame.{Frame}
+use Rattle.def_state.specs.Lists.{left_of}
 
 -- a file that was found, as it is shown
 abbrev pub found_in : FoundInCode → FoundFile
 found_in found = (found.file, found.is_mod_rs, found.dir)
-
--- the items of a list in the order of their visits
-abbrev pub listed_in : Option (Vec ModItemId Global) → List ModItemId → List ModItemId
-listed_in None ids = ids
-listed_in (Some sorted) ids = sorted.items
-
--- the items of a frame in the order of their visits
-abbrev pub listed : Frame → List ModItemId
-listed frame = listed_in frame.sorted frame.list.items.now
-
--- the items that a frame has left
-abbrev pub left_of : Frame → List ModItemId
-left_of frame = drop frame.next (listed frame)
 
 -- the visits that a frame has left
 abbrev pub frame_tasks : Frame → List Task

@@ -1,46 +1,23 @@
 //! The walk of item trees, over an explicit stack of lists.
-ghost use Rattle.std.specs.Prelude.{◌≡◌, ◌<◌, ◌+◌, ◌++◌, ◌∷◌, [], true, false, List, is_some, option_and_then, slice_get, IfOk, OnOk};
+ghost use Rattle.std.specs.Prelude.{◌≡◌, ◌<◌, ◌+◌, ◌++◌, ◌∷◌, [], true, false, List, is_some, option_and_then, IfOk, OnOk};
 ghost use Rattle.std.specs.Option.{option_copied};
 ghost use Rattle.item_tree.specs.Trees.{item_at};
 ghost use Rattle.def_ids.specs.declared.interner.Interner.{Interner};
 ghost use Rattle.def_ids.specs.Session.{AddsLocations, session_of};
-ghost use Rattle.def_state.specs.Collector.{list_site, state_of, tree_in};
-ghost use Rattle.def_walk.specs.Walk.{AreKnown, frame_tasks, inner_of, is_frame_known, is_known, left_of, listed};
+ghost use Rattle.def_state.specs.Collector.{list_site, state_of};
+ghost use Rattle.def_state.specs.Lists.{left_of};
+ghost use Rattle.def_walk.specs.Walk.{AreKnown, frame_tasks, inner_of, is_frame_known, is_known};
 ghost use Rattle.def_laws.specs.Work.{task_work, work};
-ghost use Rattle.def_rules.specs.Items.{name_text, ordered, walk};
-ghost use Rattle.def_rules.specs.State.{Task, Visit, entered};
+ghost use Rattle.def_rules.specs.Items.{name_text, walk};
+ghost use Rattle.def_rules.specs.State.{Task, Visit};
 ghost use Rattle.def_laws.specs.Runs.{Leads};
 
 use crate::items::collect_item;
 use def_ids::Interner;
 use def_map::SourceDatabase;
-use def_rules::DefDiagnosticKind;
-use def_state::{DefCollector, ItemList, Site};
-use def_steps::{crates_first, is_crate_root};
+use def_state::{DefCollector, Frame, ItemList, Site};
 use item_tree::{ItemNode, ItemTree, ModItemId};
 use std::alloc::AllocError;
-
-/// A list that is being walked, from the place `next` on. The last of a stack of frames goes first.
-#[derive(Drop)]
-struct Frame<'a> {
-    list: ItemList<'a>,
-    /// The items in the order of their visits, where that differs from the list's.
-    sorted: Option<Vec<ModItemId>>,
-    next: usize,
-}
-
-impl Frame<'_> {
-    /// The next item, if one is left.
-    fn next_item(&self) -> Option<ModItemId>
-        ensures item { result ≡ slice_get (listed self.now) self.now.next }
-        ensures room { is_some result ≡ true → self.now.next < usize.MAX }
-    {
-        match &self.sorted {
-            Some(sorted) => sorted.as_slice().get(self.next).copied(),
-            None => self.list.items.get(self.next).copied(),
-        }
-    }
-}
 
 /// Walks a list of items: each is handled, and its own items are walked before the next. The
 /// files of modules that include each other end with the depth of their directories. On `Err`
@@ -56,40 +33,18 @@ pub fn walk<'a, D: SourceDatabase>(
         (state_of collector.old session.old) [] (state_of collector.new session.new)) }
     ensures session { AddsLocations (session_of session.old) (session_of session.new) }
 {
-    let frame = open(collector, first)?;
+    let frame = collector.open(first)?;
     let mut frames = Vec::new(collector.alloc);
     frames.push(frame)?;
     'frames: while let Some(mut frame) = frames.pop() {
         let opened = walk_list(collector, db, session, &mut frame)?;
         if let Some(list) = opened {
             frames.push(frame)?;
-            let inner = open(collector, list)?;
+            let inner = collector.open(list)?;
             frames.push(inner)?;
         }
     }
     Ok(())
-}
-
-/// Begins to walk a list: the directory of its module is stored, and at a crate's root extern
-/// crates are to go first. On `Err` nothing but safety is promised.
-fn open<'a>(collector: &mut DefCollector<'a>, list: ItemList<'a>) -> Result<Frame<'a>, AllocError>
-    ensures list { IfOk result (λ frame. frame.list ≡ list.entry) }
-    ensures left { IfOk result (λ frame. left_of frame ≡ ordered (tree_in list.entry) list.entry.module_id list.entry.items.now) }
-    ensures entered { OnOk result ((session : Interner) →
-        state_of collector.new session ≡ entered (state_of collector.old session) list.entry.module_id list.entry.dir) }
-{
-    let dir = list.dir.clone()?;
-    collector.mod_dirs.insert(list.module_id, dir)?;
-    let sorted = if is_crate_root(list.module_id) {
-        Some(crates_first(collector.alloc, list.tree, list.items)?)
-    } else {
-        None
-    };
-    Ok(Frame {
-        list,
-        sorted,
-        next: 0,
-    })
 }
 
 /// Visits the items that a frame has left, up to one that opens a list, which is answered. The
@@ -156,8 +111,8 @@ fn visit<'a, D: SourceDatabase>(
         tree_id: list.tree_id,
         dir: &list.dir,
     };
-    if let Some(cfg) = node.disabled_by() {
-        collector.report(site, node, DefDiagnosticKind::UnconfiguredCode { cfg })?;
+    let disabled = collector.report_disabled_item(site, node)?;
+    if let Some(_) = disabled {
         return Ok(None);
     }
     collect_item(collector, db, session, site, node)

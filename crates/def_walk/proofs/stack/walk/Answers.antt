@@ -16,7 +16,7 @@ frames-init g c =
     let frame = c.in_ok-frame.frame in
     let one = c.in_ok-push.ensures.items ∙ ap (λ fs. fs ++ frame ∷ []) c.new-frames.ensures.items in
     record {
-      run = walk_begins oracle c.args.first frame c.push.new.self.items (state_of c.args.collector.now c.args.session.now) (state_of c.open.new.collector c.args.session.now)
+      run = walk_begins oracle c.args.first frame c.push.new.self.items (state_of c.args.collector.now c.args.session.now) (state_of c.open.new.self c.args.session.now)
           c.requires c.in_ok-frame.ensures.list c.in_ok-frame.ensures.left one (c.in_ok-frame.ensures.entered c.args.session.now);
       known = all_pushed (is_frame_known oracle) [] c.push.new.self.items frame one (all_none (is_frame_known oracle)) (subst (is_known oracle) (sym c.in_ok-frame.ensures.list) c.requires);
       adds = adds_refl (session_of c.args.session.now);
