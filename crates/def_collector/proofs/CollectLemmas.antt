@@ -19,7 +19,7 @@ use Rattle.def_steps.specs.Waiting.{waiting}
 use Rattle.def_rules.specs.Crates.{deps_by_name, is_proc_macro_crate}
 use Rattle.def_rules.specs.Globs.{Targets}
 use Rattle.def_rules.specs.Headline.{Answers}
-use Rattle.def_rules.specs.Imports.{NoneReady}
+use Rattle.def_rules.specs.Recording.{NoneReady}
 use Rattle.def_rules.specs.Report.{Answer}
 use Rattle.def_laws.specs.Finished.{NoneFailed, IsFinished}
 use Rattle.def_rules.specs.Start.{first_tasks, seeded_state, started}

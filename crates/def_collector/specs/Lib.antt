@@ -2,7 +2,11 @@ pub mod Collector
 pub use Rattle.def_rules.specs.Globs
 pub use Rattle.def_rules.specs.State
 pub use Rattle.def_rules.specs.Imports
+pub use Rattle.def_rules.specs.Recording
 pub use Rattle.def_rules.specs.Items
+pub use Rattle.def_rules.specs.Modules
+pub use Rattle.def_rules.specs.ExternCrates
+pub use Rattle.def_rules.specs.Rules
 pub use Rattle.def_rules.specs.Targets
 pub use Rattle.def_rules.specs.Steps
 pub use Rattle.def_rules.specs.Crates

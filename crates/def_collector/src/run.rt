@@ -10,18 +10,19 @@ ghost use Rattle.def_modules.specs.Maps.{map_state};
 ghost use Rattle.def_state.specs.Collector.{state_of, shown};
 ghost use Rattle.def_collector.specs.Collector.{setting_of};
 ghost use Rattle.def_rules.specs.Headline.{Answers};
-ghost use Rattle.def_rules.specs.Imports.{NoneReady};
+ghost use Rattle.def_rules.specs.Recording.{NoneReady};
 ghost use Rattle.def_rules.specs.Start.{first_tasks, first_tree, started};
 ghost use Rattle.def_laws.specs.Runs.{Leads};
 
 use crate::seeding::seed;
+use def_crates::{MissingCrates, deps_by_name, is_proc_macro_crate, top_attrs};
 use def_ids::{Interner, ItemContainerId, MapId, ModuleId};
 use def_imports::resolve_imports;
+use def_items::{ItemList, ModDirs, disabled_by, report_disabled, top_items};
 use def_map::{DefMap, LocalDefMap, SourceDatabase};
 use def_parts::{Globs, ModDir};
 use def_rules::Collected;
-use def_state::{DefCollector, ItemList, disabled_by, top_items};
-use def_steps::{MissingCrates, ModDirs, deps_by_name, is_proc_macro_crate, top_attrs};
+use def_state::DefCollector;
 use def_walk::walk;
 use indexmap::IndexMap;
 use item_tree::{HirFileId, TreeId};
@@ -114,7 +115,8 @@ fn seed_with_top_level<'a, D: SourceDatabase>(
     let disabled = disabled_by(tree);
     seed(collector, db, session, top_attrs(tree), disabled)?;
     if let Some(cfg) = disabled {
-        return collector.report_disabled(tree_id, cfg);
+        let diagnostics = &mut collector.diagnostics;
+        return report_disabled(diagnostics, &collector.def_map, tree_id, cfg);
     }
     walk(
         collector,

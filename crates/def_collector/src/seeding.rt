@@ -6,10 +6,10 @@ ghost use Rattle.def_state.specs.Collector.{state_of};
 ghost use Rattle.def_rules.specs.Start.{block_head, crate_head, first_head, head_of, with_attrs, with_deps, with_head};
 
 use crate::prelude::inject_prelude;
+use def_crates::{is_proc_macro_with, read_root_file};
 use def_ids::Interner;
 use def_map::SourceDatabase;
 use def_state::DefCollector;
-use def_steps::{add_all, dependencies, is_proc_macro_with, set_attrs};
 use item_tree::{Attr, CfgExpr};
 use std::alloc::AllocError;
 
@@ -64,33 +64,23 @@ fn seed_crate<'a, D: SourceDatabase>(
     ensures { OnOk result (let s = state_of collector.old session.now in
         state_of collector.new session.now ≡ with_head s (crate_head (D.oracle db.now) attrs.now s)) }
 {
-    read_attrs(collector, attrs)?;
-    name_dependencies(collector, db)?;
+    read_root(collector, db, attrs)?;
     inject_prelude(collector, db, session)?;
     Ok(())
 }
 
-/// Reads the attributes of the crate's root file.
-fn read_attrs<'a>(collector: &mut DefCollector<'a>, attrs: &[Attr]) -> Result<(), AllocError>
-    ensures { OnOk result ((session : Interner) →
-        let s = state_of collector.old session in
-        state_of collector.new session ≡ with_head s (with_attrs attrs.now (head_of s))) }
-{
-    collector.is_proc_macro = is_proc_macro_with(collector.is_proc_macro, attrs);
-    set_attrs(&mut collector.def_map, attrs)?;
-    Ok(())
-}
-
-/// Names the crates that the crate depends on.
-fn name_dependencies<'a, D: SourceDatabase>(
+/// Reads the attributes of the crate's root file, and names the crates that the crate depends on.
+fn read_root<'a, D: SourceDatabase>(
     collector: &mut DefCollector<'a>,
     db: &D,
+    attrs: &[Attr],
 ) -> Result<(), AllocError>
     ensures { OnOk result ((session : Interner) →
         let s = state_of collector.old session in
-        state_of collector.new session ≡ with_head s (with_deps (D.oracle db.now) s (head_of s))) }
+        state_of collector.new session ≡ with_head s (with_deps (D.oracle db.now) s (with_attrs attrs.now (head_of s)))) }
 {
-    let deps = dependencies(db, collector.def_map.tree.map.krate);
-    add_all(db, &collector.def_map, &mut collector.local_def_map, deps)?;
+    collector.is_proc_macro = is_proc_macro_with(collector.is_proc_macro, attrs);
+    let local = &mut collector.local_def_map;
+    read_root_file(&mut collector.def_map, local, db, attrs)?;
     Ok(())
 }

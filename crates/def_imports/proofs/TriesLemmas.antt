@@ -10,16 +10,16 @@ use Rattle.def_paths.specs.declared.asked.ResolvePathResult.{ResolvePathResult}
 use Rattle.def_map.specs.Oracle.{Oracle}
 use Rattle.def_state.specs.declared.collector.DefCollector.{DefCollector}
 use Rattle.def_steps.specs.declared.directive.ImportDirective.{ImportDirective}
-use Rattle.def_steps.specs.declared.directive.NamespaceSet.{NamespaceSet}
 use Rattle.def_steps.specs.declared.directive.PartialDirective.{PartialDirective}
 use Rattle.def_state.specs.Collector.{state_of}
 use Rattle.def_steps.specs.Waiting.{waiting}
 use Rattle.def_imports.specs.Passes.{IsUnready, IsUnreadyAgain}
-use Rattle.def_steps.specs.Shown.{kept_of, ns_set, partial_of, pending_of}
+use Rattle.def_steps.specs.Shown.{ns_set, partial_of, pending_of}
 use Rattle.def_laws.specs.Turns.{Moves, missing_from, turns_left}
 use Rattle.def_laws.specs.Performs.{Performs}
-use Rattle.def_rules.specs.Imports.{NoneReady, after_pending, answer_now, is_missing, is_ready, is_ready_again, kept_after, kept_list, no_namespaces, record_effect}
-use Rattle.def_rules.specs.State.{State, PartialImport, PendingImport}
+use Rattle.def_rules.specs.Imports.{answer_now, is_missing, is_ready, is_ready_again, kept_after, no_namespaces}
+use Rattle.def_rules.specs.Recording.{NoneReady, after_pending, kept_list, record_effect}
+use Rattle.def_rules.specs.State.{NsSet, State, PartialImport, PendingImport}
 use Rattle.def_laws.proofs.ImportsLaws.{moves_partial, moves_pending}
 use Rattle.def_steps.proofs.WaitingLaws.{Around, around, waiting-all}
 
@@ -58,13 +58,15 @@ module _ (oracle : Oracle) (s : State) where
   unready_again_left entries shown index same left d here = absurd (none_left entries shown index d same left here)
 
 -- a partial import that stays is shown in its place, and one that left is not
-replaced_partial : (xs : List (Option PartialDirective)) (i : ℕ) (d : PartialDirective) (w : Around xs i d) (recorded : Option NamespaceSet)
-    → map partial_of (waiting (slice_set xs i (option_map (λ r. record { directive = d.directive; recorded = r }) recorded)))
-    ≡ map partial_of w.before ++ (kept_list (pending_of d.directive) (kept_of recorded) ++ map partial_of w.after)
-replaced_partial xs i d w None = ap (map partial_of) w.without ∙ map-append partial_of w.before w.after
-replaced_partial xs i d w (Some r) =
-    let next : PartialDirective = record { directive = d.directive; recorded = r } in
+replaced_partial : (xs : List (Option PartialDirective)) (i : ℕ) (d : PartialDirective) (w : Around xs i d) (entry : Option PartialDirective) (kept : Option NsSet)
+    → option_map partial_of entry ≡ option_map (λ r. record { pending = pending_of d.directive; recorded = r }) kept
+    → map partial_of (waiting (slice_set xs i entry)) ≡ map partial_of w.before ++ (kept_list (pending_of d.directive) kept ++ map partial_of w.after)
+replaced_partial xs i d w None None same = ap (map partial_of) w.without ∙ map-append partial_of w.before w.after
+replaced_partial xs i d w None (Some r) same = absurd cc
+replaced_partial xs i d w (Some next) None same = absurd cc
+replaced_partial xs i d w (Some next) (Some r) same =
     ap (map partial_of) (w.replaced next) ∙ map-append partial_of w.before (next ∷ w.after)
+    ∙ ap (λ p. map partial_of w.before ++ p ∷ map partial_of w.after) (same_Some (partial_of next) (record { pending = pending_of d.directive; recorded = r }) same)
 
 turns_by : (s t : State) → t.imports ≡ s.imports → t.partial ≡ s.partial → turns_left t ≡ turns_left s
 turns_by s t imports partial = λ i. 5 * length (imports i) + sum_by (λ p. 1 + missing_from p.recorded) (partial i)
@@ -86,18 +88,17 @@ turns_partial session old new entries frame =
 
 module _ (oracle : Oracle) (session : Interner) (old new : DefCollector) where
   -- a waiting import left its place, stays partial if it may be recorded again, and was recorded
-  pub moved_unresolved : (kept : DefCollector) (entries : Vec (Option ImportDirective) Global) (i : ℕ) (d : ImportDirective) (answer : ResolvePathResult) (missing : Bool) (recorded : Option NamespaceSet)
+  pub moved_unresolved : (kept : DefCollector) (entries : Vec (Option ImportDirective) Global) (i : ℕ) (d : ImportDirective) (answer : ResolvePathResult) (missing : Bool)
       → slice_get old.unresolved_imports.items i ≡ Some (Some d)
       → answer ≡ answer_now oracle (state_of old session) (pending_of d)
       → missing ≡ is_missing answer → missing ≡ false
       → entries.items ≡ slice_set old.unresolved_imports.items i None
-      → kept_of recorded ≡ kept_after no_namespaces answer
       → kept ≡ record old { unresolved_imports = entries; indeterminate_imports = kept.indeterminate_imports }
-      → map partial_of (waiting kept.indeterminate_imports.items) ≡ map partial_of (waiting old.indeterminate_imports.items) ++ kept_list (pending_of d) (kept_of recorded)
+      → map partial_of (waiting kept.indeterminate_imports.items) ≡ map partial_of (waiting old.indeterminate_imports.items) ++ kept_list (pending_of d) (kept_after no_namespaces answer)
       → (let effect = record_effect oracle (state_of kept session) (pending_of d) answer in Performs oracle effect.tasks effect.state (state_of new session))
       → turns_left (state_of new session) ≡ turns_left (state_of kept session)
       → Moves oracle (state_of old session) (state_of new session)
-  moved_unresolved kept entries i d answer missing recorded here gives asks was left keeps frame more became turns =
+  moved_unresolved kept entries i d answer missing here gives asks was left frame more became turns =
       moves_pending oracle s (state_of new session) pending rest waits ready after (turns ∙ ap turns_left same)
     where
       s : State
@@ -123,7 +124,7 @@ module _ (oracle : Oracle) (session : Interner) (old new : DefCollector) where
       imports = ap (λ l. map pending_of (waiting l)) left ∙ ap (map pending_of) w.without ∙ map-append pending_of w.before w.after
 
       partial : map partial_of (waiting kept.indeterminate_imports.items) ≡ s.partial ++ kept_list pending (kept_after no_namespaces (answer_now oracle s pending))
-      partial = more ∙ ap (λ k. s.partial ++ kept_list pending k) (keeps ∙ ap (kept_after no_namespaces) gives)
+      partial = more ∙ ap (λ a. s.partial ++ kept_list pending (kept_after no_namespaces a)) gives
 
       same : state_of kept session ≡ after_pending s pending rest (answer_now oracle s pending)
       same = ap (λ k. state_of k session) frame
@@ -138,18 +139,17 @@ module _ (oracle : Oracle) (session : Interner) (old new : DefCollector) where
       after = subst (λ a. Recorded (after_pending s pending rest (answer_now oracle s pending)) a) gives (subst (λ u. Recorded u answer) same became)
 
   -- a partial import stays in its place if it may be recorded again, else left it, and was recorded
-  pub moved_indeterminate : (entries : List (Option PartialDirective)) (i : ℕ) (d : PartialDirective) (answer : ResolvePathResult) (ready : Bool) (recorded : Option NamespaceSet) (entry : Option PartialDirective)
+  pub moved_indeterminate : (entries : List (Option PartialDirective)) (i : ℕ) (d : PartialDirective) (answer : ResolvePathResult) (ready : Bool) (entry : Option PartialDirective)
       → slice_get old.indeterminate_imports.items i ≡ Some (Some d)
       → answer ≡ answer_now oracle (state_of old session) (pending_of d.directive)
       → ready ≡ is_ready_again (ns_set d.recorded) answer → ready ≡ true
       → entries ≡ slice_set old.indeterminate_imports.items i entry
-      → entry ≡ option_map (λ r. record { directive = d.directive; recorded = r }) recorded
-      → kept_of recorded ≡ kept_after (ns_set d.recorded) answer
+      → option_map partial_of entry ≡ option_map (λ r. record { pending = pending_of d.directive; recorded = r }) (kept_after (ns_set d.recorded) answer)
       → (let u : State = record (state_of old session) { partial = map partial_of (waiting entries) } in
       let effect = record_effect oracle u (pending_of d.directive) answer in Performs oracle effect.tasks effect.state (state_of new session))
       → turns_left (state_of new session) ≡ turns_left (record (state_of old session) { partial = map partial_of (waiting entries) })
       → Moves oracle (state_of old session) (state_of new session)
-  moved_indeterminate entries i d answer ready recorded entry here gives asks was put becomes keeps became turns =
+  moved_indeterminate entries i d answer ready entry here gives asks was put becomes became turns =
       moves_partial oracle s (state_of new session) (map partial_of w.before) (map partial_of w.after) (partial_of d) stands again after (turns ∙ ap (λ l. turns_left (record s { partial = l })) partial)
     where
       s : State
@@ -171,9 +171,9 @@ module _ (oracle : Oracle) (session : Interner) (old new : DefCollector) where
       kept = map partial_of w.before ++ (kept_list pending (kept_after (ns_set d.recorded) (answer_now oracle s pending)) ++ map partial_of w.after)
 
       partial : map partial_of (waiting entries) ≡ kept
-      partial = ap (λ l. map partial_of (waiting l)) (put ∙ ap (slice_set old.indeterminate_imports.items i) becomes)
-          ∙ replaced_partial old.indeterminate_imports.items i d w recorded
-          ∙ ap (λ k. map partial_of w.before ++ (kept_list pending k ++ map partial_of w.after)) (keeps ∙ ap (kept_after (ns_set d.recorded)) gives)
+      partial = ap (λ l. map partial_of (waiting l)) put
+          ∙ replaced_partial old.indeterminate_imports.items i d w entry (kept_after (ns_set d.recorded) answer) becomes
+          ∙ ap (λ a. map partial_of w.before ++ (kept_list pending (kept_after (ns_set d.recorded) a) ++ map partial_of w.after)) gives
 
       -- an import was recorded in the state with these partial imports, with what its path gave
       Recorded : List PartialImport → ResolvePathResult → Type 0

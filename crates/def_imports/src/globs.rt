@@ -9,7 +9,8 @@ ghost use Rattle.def_laws.specs.Performs.{Performs, target_state};
 ghost use Rattle.def_steps.specs.Shown.{pending_of};
 ghost use Rattle.def_state.specs.Collector.{state_of};
 ghost use Rattle.def_rules.specs.Globs.{module_entries, variant_entries};
-ghost use Rattle.def_rules.specs.Imports.{glob_edge, glob_id, glob_tasks, import_vis, is_own_crate, types_def};
+ghost use Rattle.def_rules.specs.Imports.{import_vis};
+ghost use Rattle.def_rules.specs.Recording.{glob_edge, glob_id, glob_tasks, is_own_crate, types_def};
 ghost use Rattle.def_rules.specs.State.{order, with_content, world};
 ghost use Rattle.def_globs.specs.Globs.{with_recorded};
 

@@ -1,32 +1,27 @@
 //! Imports: each pass records those that are ready.
-ghost use Rattle.std.specs.Prelude.{◌≡◌, ◌<◌, ◌≤◌, ◌++◌, [], ℕ, true, false, length, map, option_map, unwrap_or, vec_len, slice_get, IfOk, IfSome, OnOk, None, Some};
+ghost use Rattle.std.specs.Prelude.{◌≡◌, ◌<◌, [], ℕ, true, false, vec_len, IfOk, OnOk};
 ghost use Rattle.item_tree.specs.declared.items.ImportKind.TheVariants.{Plain};
 ghost use Rattle.def_ids.specs.declared.interner.Interner.{Interner};
-ghost use Rattle.def_bindings.specs.ModuleTree.{chain_in};
-ghost use Rattle.def_bindings.specs.Visibility.{order_over};
 ghost use Rattle.def_state.specs.Collector.{state_of};
-ghost use Rattle.def_steps.specs.Waiting.{waiting};
 ghost use Rattle.def_imports.specs.Passes.{IsUnready, IsUnreadyAgain};
-ghost use Rattle.def_steps.specs.Shown.{kept_of, partial_of, pending_of};
+ghost use Rattle.def_steps.specs.Shown.{pending_of};
 ghost use Rattle.def_laws.specs.Turns.{Moves, turns_left};
 ghost use Rattle.def_laws.specs.Performs.{Performs};
-ghost use Rattle.def_rules.specs.Imports.{answer_now, bound_name, entry_of, import_vis, kept_list, named_entries, record_effect, record_tasks, NoneReady};
-ghost use Rattle.def_rules.specs.State.{order};
+ghost use Rattle.def_rules.specs.Imports.{answer_now};
+ghost use Rattle.def_rules.specs.Recording.{record_effect, record_tasks, NoneReady};
 ghost use Rattle.def_laws.specs.Runs.{Leads};
 
 use crate::globs::record_glob;
-use def_bindings::{Entry, ModuleTree, Namespace, Visibility, lesser_or_import};
 use def_ids::Interner;
 use def_map::{
-    BuiltinShadowMode, Item, ResolveMode, ResolvePathResult, SourceDatabase,
-    resolve_path_fp_with_macro,
+    BuiltinShadowMode, ResolveMode, ResolvePathResult, SourceDatabase, resolve_path_fp_with_macro,
 };
 use def_state::DefCollector;
 use def_steps::{
-    ImportDirective, NamespaceSet, PartialDirective, import_name, is_missing, is_ready_again,
-    keeps_ns, kept_after, kept_item, new_prelude, reexported,
+    ImportDirective, drop_left, is_missing, is_ready_again, named_entries, new_prelude, next_tried,
+    retire, still_partial,
 };
-use item_tree::{ImportKind, Name};
+use item_tree::ImportKind;
 use std::alloc::AllocError;
 
 /// Records each import that is ready, the waiting ones first and then those that gave some
@@ -105,24 +100,6 @@ fn try_indeterminate_imports<'a, D: SourceDatabase>(
     Ok(moved)
 }
 
-/// The next place that a pass over a list tries, from a place on. A pass may pass over only places
-/// whose import is not ready; so far it passes over those that an import has left.
-fn next_tried<T>(entries: &[Option<T>], from: usize) -> Option<usize>
-    // What is answered is a place of the list, at the given one or after it.
-    ensures place { IfSome result (λ i. (from ≤ i) × (i < length entries.now)) }
-
-    // No import stands from the given place up to it, or to the list's end where none is answered.
-    ensures passed { (index : ℕ) → from ≤ index → index < unwrap_or result (length entries.now) →
-        slice_get entries.now index ≡ Some None }
-{
-    'entries: for i in from..entries.len() {
-        if entries[i].is_some() {
-            return Some(i);
-        }
-    }
-    None
-}
-
 /// Records a waiting import, if it is ready. Answers whether it was.
 fn try_unresolved_import<'a, D: SourceDatabase>(
     collector: &mut DefCollector<'a>,
@@ -145,12 +122,9 @@ fn try_unresolved_import<'a, D: SourceDatabase>(
     if is_missing(&answer) {
         return Ok(false);
     }
-    collector.unresolved_imports[i] = None;
-    keep(
-        collector,
-        directive,
-        kept_after(NamespaceSet::NONE, &answer),
-    )?;
+    let unresolved = &mut collector.unresolved_imports;
+    let indeterminate = &mut collector.indeterminate_imports;
+    retire(unresolved, indeterminate, i, directive, &answer)?;
     record_resolved_import(collector, db, session, &directive, &answer)?;
     Ok(true)
 }
@@ -178,32 +152,9 @@ fn try_indeterminate_import<'a, D: SourceDatabase>(
     if !is_ready_again(partial.recorded, &answer) {
         return Ok(false);
     }
-    collector.indeterminate_imports[i] = still_partial(
-        directive,
-        kept_after(partial.recorded, &answer),
-    );
+    collector.indeterminate_imports[i] = still_partial(partial, &answer);
     record_resolved_import(collector, db, session, &directive, &answer)?;
     Ok(true)
-}
-
-/// Appends an import to those that gave some namespaces, if it stays one. On `Err` nothing but
-/// safety is promised.
-fn keep<'a>(
-    collector: &mut DefCollector<'a>,
-    directive: ImportDirective<'a>,
-    recorded: Option<NamespaceSet>,
-) -> Result<(), AllocError>
-    ensures frame { OnOk result (collector.new ≡ record collector.old { indeterminate_imports = collector.new.indeterminate_imports }) }
-    ensures kept { OnOk result (map partial_of (waiting collector.new.indeterminate_imports.items)
-        ≡ map partial_of (waiting collector.old.indeterminate_imports.items) ++ kept_list (pending_of directive.entry) (kept_of recorded)) }
-{
-    if let Some(recorded) = recorded {
-        collector.indeterminate_imports.push(Some(PartialDirective {
-            directive,
-            recorded,
-        }))?;
-    }
-    Ok(())
 }
 
 /// What the path of an import gives now.
@@ -273,43 +224,11 @@ fn record_named<'a, D: SourceDatabase>(
         s (state_of collector.new session.now)) }
     ensures frame { collector.new ≡ record collector.old { table = collector.new.table } }
 {
-    let entries = named_entries(collector, db, session, directive, answer)?;
+    let vis = collector.resolve_visibility(db, session, directive.module_id, directive.vis);
+    let order = &collector.def_map.tree;
+    let entries = named_entries(collector.alloc, order, directive, vis, answer)?;
     collector.put(directive.module_id, entries.as_slice())?;
     Ok(())
-}
-
-/// What an import gives at its name, one entry in each namespace.
-fn named_entries<D: SourceDatabase>(
-    collector: &DefCollector,
-    db: &D,
-    session: &Interner,
-    directive: &ImportDirective,
-    answer: &ResolvePathResult,
-) -> Result<Vec<Entry<Visibility>>, AllocError>
-    ensures { IfOk result (λ entries. let s = state_of collector.now session.now in
-        let pending = pending_of directive.now in
-        entries.items
-        ≡ named_entries (order s) pending (import_vis (D.oracle db.now) s pending) answer.now (bound_name directive.now.import.now)) }
-{
-    let mut entries = Vec::new(collector.alloc);
-    let Some(name) = import_name(directive.import) else {
-        return Ok(entries);
-    };
-    let vis = collector.resolve_visibility(db, session, directive.module_id, directive.vis);
-    let brought = Brought {
-        directive: *directive,
-        name,
-        vis,
-    };
-    let found = &answer.resolved_def;
-    let types = reexported(&directive.import.path, vis, kept_item(answer, found.types));
-    let values = kept_item(answer, found.values);
-    let macros = kept_item(answer, found.macros);
-    let order = &collector.def_map.tree;
-    push_entry(&mut entries, order, brought, Namespace::Types, types)?;
-    push_entry(&mut entries, order, brought, Namespace::Values, values)?;
-    push_entry(&mut entries, order, brought, Namespace::Macros, macros)?;
-    Ok(entries)
 }
 
 /// Drops the entries that imports left behind.
@@ -318,63 +237,4 @@ fn drop_resolved<'a>(collector: &mut DefCollector<'a>)
 {
     drop_left(&mut collector.unresolved_imports);
     drop_left(&mut collector.indeterminate_imports);
-}
-
-/// An import that is recorded, with the name that it binds and its visibility.
-#[derive(Clone, Copy)]
-struct Brought<'a> {
-    directive: ImportDirective<'a>,
-    name: Option<Name>,
-    vis: Visibility,
-}
-
-/// Appends the entry of what an import gives in a namespace, if it gives something there.
-fn push_entry(
-    entries: &mut Vec<Entry<Visibility>>,
-    order: &ModuleTree,
-    brought: Brought,
-    ns: Namespace,
-    item: Option<Item>,
-) -> Result<(), AllocError>
-    ensures { OnOk result (entries.new.items ≡ entries.old.items
-        ++ entry_of (order_over (chain_in order.now)) (pending_of brought.entry.directive)
-        brought.entry.vis brought.entry.name ns item) }
-{
-    let Some(item) = item else {
-        return Ok(());
-    };
-    if !keeps_ns(brought.directive.import.kind, ns) {
-        return Ok(());
-    }
-    entries.push(Entry {
-        name: brought.name,
-        ns,
-        def: item.def,
-        vis: lesser_or_import(order, item.vis, brought.vis),
-        origin: Some(brought.directive.origin()),
-    })?;
-    Ok(())
-}
-
-/// What stands for an import that was recorded once more, if it may be again.
-fn still_partial<'a>(
-    directive: ImportDirective<'a>,
-    recorded: Option<NamespaceSet>,
-) -> Option<PartialDirective<'a>>
-    ensures { result ≡ option_map (λ r. record { directive = directive.entry; recorded = r }) recorded }
-{
-    match recorded {
-        Some(recorded) => Some(PartialDirective {
-            directive,
-            recorded,
-        }),
-        None => None,
-    }
-}
-
-/// Drops the entries that are left.
-fn drop_left<T: Drop>(entries: &mut Vec<Option<T>>)
-    ensures { waiting entries.new.items ≡ waiting entries.old.items }
-{
-    entries.retain(|entry| entry.is_some());
 }

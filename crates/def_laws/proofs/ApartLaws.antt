@@ -18,7 +18,8 @@ use Rattle.def_paths.specs.Sources.{World}
 use Rattle.item_tree.specs.declared.items.ImportKind.{ImportKind}
 use Rattle.item_tree.specs.declared.items.ImportKind.TheVariants as kind
 use Rattle.def_laws.specs.Followed.{AreApart, adds_edge, visits_item}
-use Rattle.def_rules.specs.Imports.{ImportStep, of_pending, of_partial, after_pending, after_partial, answer_now, bound_name, edge_tasks, glob_def, glob_edge, glob_tasks, import_vis, is_own_crate, named_entries, record_effect, record_tasks}
+use Rattle.def_rules.specs.Imports.{answer_now, bound_name, import_vis, named_entries}
+use Rattle.def_rules.specs.Recording.{ImportStep, after_pending, after_partial, edge_tasks, glob_def, glob_edge, glob_tasks, is_own_crate, record_effect, record_tasks, of_pending, of_partial}
 use Rattle.def_rules.specs.Globs.{module_entries, variant_entries}
 use Rattle.def_laws.proofs.OpenedLaws.{ArePlain, visits_opened}
 use Rattle.def_laws.proofs.RunsLaws.{kept_along}

@@ -15,7 +15,8 @@ use Rattle.def_bindings.specs.Puts.{IsExplicit, glob_of, offered, put_entry}
 use Rattle.def_bindings.specs.PutsLaws.{explicit_stays-put_entry, explicit_after-put_entry, explicit_from-put_entry, explicit_from-copied}
 use Rattle.def_oracle.specs.Oracle.{Oracle}
 use Rattle.def_globs.specs.Globs.{with_recorded}
-use Rattle.def_rules.specs.Imports.{ImportStep, answer_now, is_foreign, of_pending, of_partial}
+use Rattle.def_rules.specs.Imports.{answer_now, is_foreign}
+use Rattle.def_rules.specs.Recording.{ImportStep, of_pending, of_partial}
 use Rattle.def_rules.specs.Settled.{IsDeclared, WasPut}
 use Rattle.def_rules.specs.State.{State, Effect, Event, PutExplicit, Recorded, PendingImport, Moment, Task, Enter, Visit, Put, order, AddEdge}
 use Rattle.def_rules.specs.Steps.{Copies, Does, Reaches, Step, performs, copies, rearranges, records, event_of, put_event}

@@ -33,7 +33,7 @@ use Rattle.def_laws.specs.Own.{Stands}
 use Rattle.def_rules.specs.Targets.{own_module, own_target, target_of}
 use Rattle.def_laws.specs.Performs.{Updated}
 use Rattle.def_rules.specs.Globs.{module_entries, scope_entries}
-use Rattle.def_rules.specs.Imports.{is_own_crate}
+use Rattle.def_rules.specs.Recording.{is_own_crate}
 use Rattle.def_rules.specs.State.{State, Event, Task, AddEdge, map_view, order, put_each, with_content, world}
 use Rattle.def_rules.specs.Steps.{IsKeptAlong}
 use Rattle.def_laws.proofs.BroughtLaws.{all_carried, all_listed, entry_shown, module_by, one_listed}

@@ -22,7 +22,8 @@ use Rattle.def_paths.specs.declared.per_ns.PerNs.{PerNs}
 use Rattle.def_oracle.specs.Oracle.{Oracle}
 use Rattle.def_paths.specs.PerNs.{in_namespace}
 use Rattle.def_globs.specs.Globs.{with_recorded}
-use Rattle.def_rules.specs.Imports.{ImportStep, NoneReady, after_partial, after_pending, answer_now, given_set, is_extended, is_foreign, is_full, is_ready, no_namespaces, of_partial, of_pending}
+use Rattle.def_rules.specs.Imports.{answer_now, given_set, is_extended, is_foreign, is_full, is_ready, no_namespaces}
+use Rattle.def_rules.specs.Recording.{ImportStep, NoneReady, after_partial, after_pending, of_partial, of_pending}
 use Rattle.def_rules.specs.Settled.{HasEveryNamespace}
 use Rattle.def_rules.specs.State.{State, Effect, Event, Recorded, NsSet, PendingImport, PartialImport, Moment, Task, Enter, Visit, Put, Rearranges, Site, order, AddEdge}
 use Rattle.def_rules.specs.Steps.{Copies, Does, Reaches, Step, performs, copies, rearranges, records, put_event}

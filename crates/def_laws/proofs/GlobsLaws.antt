@@ -21,7 +21,8 @@ use Rattle.def_paths.specs.Sources.{finished_map}
 use Rattle.def_globs.specs.Globs.{with_recorded}
 use Rattle.def_laws.specs.Performs.{Performs, Updated, target_state}
 use Rattle.def_rules.specs.Globs.{module_entries, scope_entries, with_target}
-use Rattle.def_rules.specs.Imports.{edge_tasks, glob_def, glob_edge, glob_id, glob_tasks, import_vis, is_own_crate, made_prelude, new_prelude, record_effect, record_tasks, targets_after, types_def, unless_prelude, with_new_prelude}
+use Rattle.def_rules.specs.Imports.{import_vis}
+use Rattle.def_rules.specs.Recording.{edge_tasks, glob_def, glob_edge, glob_id, glob_tasks, is_own_crate, made_prelude, new_prelude, record_effect, record_tasks, targets_after, types_def, unless_prelude, with_new_prelude}
 use Rattle.def_rules.specs.State.{State, AddEdge, PendingImport, map_view, only, order, put_each, with_content, world}
 use Rattle.def_laws.proofs.EdgeLaws.{glob_raised, glob_sound}
 use Rattle.def_laws.proofs.StepsLaws.{performs_listed, performs_none}

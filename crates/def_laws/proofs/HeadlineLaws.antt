@@ -7,7 +7,7 @@ use Rattle.def_laws.specs.Sound.{IsSound}
 use Rattle.def_laws.specs.Own.{Stands}
 use Rattle.def_rules.specs.Targets.{none_left_out, target_of}
 use Rattle.def_rules.specs.Headline.{Answers}
-use Rattle.def_rules.specs.Imports.{NoneReady}
+use Rattle.def_rules.specs.Recording.{NoneReady}
 use Rattle.def_rules.specs.Report.{Answer}
 use Rattle.def_laws.specs.Finished.{NoneFailed, IsFinished}
 use Rattle.def_rules.specs.Start.{first_tasks, seeded_state, start, started}

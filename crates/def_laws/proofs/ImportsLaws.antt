@@ -8,7 +8,8 @@ use Rattle.def_paths.specs.declared.asked.ResolvePathResult.{ResolvePathResult}
 use Rattle.def_oracle.specs.Oracle.{Oracle}
 use Rattle.def_laws.specs.Turns.{Moves, missing_from, turns_left}
 use Rattle.def_laws.specs.Performs.{Performs}
-use Rattle.def_rules.specs.Imports.{answer_now, is_ready, is_ready_again, is_extended, is_foreign, is_full, is_missing, given_set, union, no_namespaces, kept_after, kept_list, of_pending, of_partial, after_pending, after_partial, record_effect}
+use Rattle.def_rules.specs.Imports.{answer_now, is_ready, is_ready_again, is_extended, is_foreign, is_full, is_missing, given_set, union, no_namespaces, kept_after}
+use Rattle.def_rules.specs.Recording.{kept_list, after_pending, after_partial, record_effect, of_pending, of_partial}
 use Rattle.def_rules.specs.State.{State, PendingImport, PartialImport, NsSet}
 use Rattle.def_laws.specs.Runs.{Leads}
 use Rattle.def_laws.proofs.StepsLaws.{leads_import, leads_performed, leads_rearranged, leads_trans}

@@ -13,8 +13,8 @@ use Rattle.def_modules.specs.Maps.{known_parent, pushed, with_module}
 use Rattle.def_modules.specs.Scopes.{empty_module}
 use Rattle.def_modules.specs.Updates.{update_at}
 use Rattle.def_laws.specs.Own.{IsOwn}
-use Rattle.def_rules.specs.Imports.{with_new_prelude}
-use Rattle.def_rules.specs.Items.{add_module, next_module}
+use Rattle.def_rules.specs.Recording.{with_new_prelude}
+use Rattle.def_rules.specs.Modules.{add_module, next_module}
 use Rattle.def_rules.specs.State.{State}
 use Rattle.def_laws.proofs.SoundLaws.{IsLarger}
 

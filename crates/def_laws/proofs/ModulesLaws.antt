@@ -17,7 +17,8 @@ use Rattle.def_oracle.specs.Oracle.{Oracle}
 use Rattle.def_parts.specs.Directories.{AnswersFile, Directory, Files, FoundFile, resolve_declaration}
 use Rattle.def_rules.specs.declared.diagnostics.DefDiagnosticKind.TheVariants.{UnconfiguredCode, UnresolvedModule}
 use Rattle.def_laws.specs.Performs.{IsDone, Performs, Updated}
-use Rattle.def_rules.specs.Items.{add_module, declared_entry, diagnostic, file_tree, inline_contents, inner_site, module_effect, next_module, outline_found, outline_item, put_declared, top_items, tree_cfg, walk}
+use Rattle.def_rules.specs.Items.{declared_entry, diagnostic, put_declared, top_items, tree_cfg, walk}
+use Rattle.def_rules.specs.Modules.{add_module, file_tree, inline_contents, inner_site, module_effect, next_module, outline_found, outline_item}
 use Rattle.def_rules.specs.State.{State, Effect, Site, Task, reported, module_site}
 use Rattle.def_laws.proofs.StepsLaws.{performs_none, performs_updated}
 

@@ -36,7 +36,10 @@ use Rattle.def_rules.specs.declared.diagnostics.DefDiagnosticKind.TheVariants.{U
 use Rattle.def_laws.specs.Followed.{AreFollowed}
 use Rattle.def_laws.specs.Own.{AreOwnTasks, IsOwn, IsRecorded}
 use Rattle.def_rules.specs.Globs.{Targets}
-use Rattle.def_rules.specs.Items.{Visits, VisitsAt, VisitsNode, add_module, crate_effect, crate_entry, crate_name, ctor_task, diagnostic, ctor_vis, declared_effect, file_tree, inline_contents, inner_site, is_crate_root, is_prelude_import, module_effect, module_item, name_text, named_crate, naming_crate, next_module, node_at, noted_in, ordered, outline_found, outline_item, pending_imports, position_of, struct_effect, top_items, tree_cfg, visits, walk, written_vis, Rule, Follows, rule_of, declares, declares_struct, opens_module, opens_block, queues, binds_crate, notes_impl, notes_const}
+use Rattle.def_rules.specs.Items.{ctor_task, diagnostic, ctor_vis, declared_effect, is_crate_root, is_prelude_import, node_at, noted_in, ordered, pending_imports, position_of, struct_effect, top_items, tree_cfg, visits, walk, written_vis}
+use Rattle.def_rules.specs.Modules.{add_module, file_tree, inline_contents, inner_site, module_effect, module_item, name_text, next_module, outline_found, outline_item}
+use Rattle.def_rules.specs.ExternCrates.{crate_effect, crate_entry, crate_name, named_crate, naming_crate}
+use Rattle.def_rules.specs.Rules.{Visits, VisitsAt, VisitsNode, Rule, Follows, rule_of, declares, declares_struct, opens_module, opens_block, queues, binds_crate, notes_impl, notes_const}
 use Rattle.def_rules.specs.State.{State, Effect, followed_by, PendingImport, Site, Task, Enter, Visit, Put, AddEdge, reported}
 use Rattle.def_laws.proofs.SoundLaws.{IsLarger}
 use Rattle.def_laws.proofs.LargerLaws.{larger_add_module, larger_refl, larger_with_module, own_next}

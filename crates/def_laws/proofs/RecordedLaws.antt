@@ -16,7 +16,8 @@ use Rattle.def_paths.specs.declared.asked.ResolvePathResult.{ResolvePathResult}
 use Rattle.def_oracle.specs.Oracle.{Oracle}
 use Rattle.def_paths.specs.PerNs.{Item}
 use Rattle.def_rules.specs.Globs.{is_public}
-use Rattle.def_rules.specs.Imports.{bound_name, entry_of, given_set, is_foreign, is_full, keeps_ns, kept_after, kept_item, import_vis, kept_list, name_by, named_entries, no_namespaces, record_tasks, reexported, taken_types, union}
+use Rattle.def_rules.specs.Imports.{bound_name, entry_of, given_set, is_foreign, is_full, keeps_ns, kept_after, kept_item, import_vis, name_by, named_entries, no_namespaces, reexported, taken_types, union}
+use Rattle.def_rules.specs.Recording.{kept_list, record_tasks}
 use Rattle.def_rules.specs.State.{Event, Recorded, NsSet, PendingImport, PartialImport, State, Task, Put, order, put_each}
 use Rattle.def_laws.proofs.ComingLaws.{Covers, HasEach, HasSet, IsAhead, KeepsComing, has_ns, none_ahead}
 use Rattle.def_laws.proofs.ListLaws.{contains_cases}

@@ -20,8 +20,11 @@ use Rattle.def_modules.specs.Scopes.{declared_in, empty_module, with_child, with
 use Rattle.def_modules.specs.Updates.{update_at}
 use Rattle.def_parts.specs.Directories.{FoundFile}
 use Rattle.def_rules.specs.declared.diagnostics.DefDiagnosticKind.TheVariants.{UnresolvedModule}
-use Rattle.def_rules.specs.Imports.{ImportStep, of_pending, of_partial}
-use Rattle.def_rules.specs.Items.{add_module, crate_effect, crate_entry, crate_name, diagnostic, file_tree, is_crate_root, module_effect, module_item, named_crate, naming_crate, node_at, noted_in, outline_found, outline_item, tree_cfg, written_vis, VisitsAt, VisitsNode, Visits, Rule, Follows, rule_of, declares, declares_struct, opens_module, opens_block, queues, binds_crate, notes_impl, notes_const}
+use Rattle.def_rules.specs.Recording.{ImportStep, of_pending, of_partial}
+use Rattle.def_rules.specs.Items.{diagnostic, is_crate_root, node_at, noted_in, tree_cfg, written_vis}
+use Rattle.def_rules.specs.Modules.{add_module, file_tree, module_effect, module_item, outline_found, outline_item}
+use Rattle.def_rules.specs.ExternCrates.{crate_effect, crate_entry, crate_name, named_crate, naming_crate}
+use Rattle.def_rules.specs.Rules.{VisitsAt, VisitsNode, Visits, Rule, Follows, rule_of, declares, declares_struct, opens_module, opens_block, queues, binds_crate, notes_impl, notes_const}
 use Rattle.def_laws.specs.Finished.{NoneFailed}
 use Rattle.def_rules.specs.State.{State, Effect, followed_by, Moment, Site, Task, Enter, Visit, Put, reported, AddEdge}
 use Rattle.def_rules.specs.Steps.{Does, Reaches, Step, here, one, join, performs, copies, rearranges, records}

@@ -8,7 +8,8 @@ use Rattle.def_oracle.specs.Oracle.{Oracle}
 use Rattle.def_globs.proofs.ListLaws.{first_in, later_in, none_in, only_in}
 use Rattle.def_laws.specs.Own.{AreOwn, IsOwn, IsRecorded, Stands}
 use Rattle.def_laws.specs.Sound.{IsSound}
-use Rattle.def_rules.specs.Imports.{ImportStep, of_pending, of_partial, after_pending, after_partial, answer_now, kept_list, new_prelude, record_effect, record_state, record_tasks, with_new_prelude}
+use Rattle.def_rules.specs.Imports.{answer_now}
+use Rattle.def_rules.specs.Recording.{ImportStep, after_pending, after_partial, kept_list, new_prelude, record_effect, record_state, record_tasks, with_new_prelude, of_pending, of_partial}
 use Rattle.def_rules.specs.State.{State, Effect, Moment, NsSet, PartialImport, PendingImport, Task, Enter, Visit, Put, AddEdge, order}
 use Rattle.def_rules.specs.Steps.{Does, Reaches, Step, performs, copies, rearranges, records}
 use Rattle.def_laws.proofs.LargerLaws.{larger_prelude, larger_refl, own_larger}

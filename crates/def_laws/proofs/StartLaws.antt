@@ -8,8 +8,6 @@ use Rattle.item_tree.specs.declared.ids.TreeId.{TreeId}
 use Rattle.item_tree.specs.declared.tree.ItemTree.{ItemTree}
 use Rattle.item_tree.specs.Attrs.{attrs_in, cfg_in}
 use Rattle.item_tree.specs.declared.mod_path.ModPath.{ModPath}
-use Rattle.item_tree.specs.declared.mod_path.PathKind.{PathKind}
-use Rattle.item_tree.specs.declared.name.Name.{Name}
 use Rattle.def_ids.specs.declared.ids.ModuleId.{ModuleId}
 use Rattle.def_paths.specs.declared.per_ns.PerNs.{PerNs}
 use Rattle.def_modules.specs.MapState.{MapState}
@@ -120,33 +118,19 @@ attrs_of oracle id tree known = below tree ∙ ap (λ o. unwrap_or (option_map (
 
 -- What is known of a crate
 
--- attributes, dependencies and the prelude, one after the other
-pub crate_seeded : (oracle : Oracle) (attrs : List Attr) (s s1 s2 s3 : State) → s1 ≡ with_head s (with_attrs attrs (head_of s)) → s2 ≡ with_head s1 (with_deps oracle s1 (head_of s1)) → s3 ≡ with_head s2 (with_prelude oracle s2 (head_of s2))
-    → s3 ≡ with_head s (crate_head oracle attrs s)
-crate_seeded oracle attrs s s1 s2 s3 first second third =
-    third ∙ ap (λ u. with_head u (with_prelude oracle u (head_of u))) (second ∙ ap (λ u. with_head u (with_deps oracle u (head_of u))) first)
-
--- a path of these
-abbrev spelled : PathKind → List Name → ModPath
-spelled kind segments = record { kind = kind; segments = segments }
-
--- a path of three segments that were added in order
-pub path_of_three : (k k' : PathKind) (none one two three : List Name) (a a' b c c' : Name) → none ≡ [] → one ≡ none ++ a ∷ [] → two ≡ one ++ b ∷ [] → three ≡ two ++ c ∷ [] → a ≡ a' → c ≡ c' → k ≡ k'
-    → spelled k three ≡ spelled k' (a' ∷ b ∷ c' ∷ [])
-path_of_three k k' none one two three a a' b c c' empty first second third same-a same-c same-k =
-    let all : three ≡ a' ∷ b ∷ c' ∷ [] =
-    third ∙ ap (λ l. l ++ c ∷ []) (second ∙ ap (λ l. l ++ b ∷ []) (first ∙ ap (λ l. l ++ a ∷ []) empty))
-    ∙ ap (λ n. n ∷ b ∷ c ∷ []) same-a ∙ ap (λ n. a' ∷ b ∷ n ∷ []) same-c in
-    λ i. record { kind = same-k i; segments = all i }
+-- the root file and the dependencies, and then the prelude
+pub crate_seeded : (oracle : Oracle) (attrs : List Attr) (s t u : State) → t ≡ with_head s (with_deps oracle s (with_attrs attrs (head_of s))) → u ≡ with_head t (with_prelude oracle t (head_of t))
+    → u ≡ with_head s (crate_head oracle attrs s)
+crate_seeded oracle attrs s t u read found = found ∙ ap (λ x. with_head x (with_prelude oracle x (head_of x))) read
 
 -- the module that the prelude's path gives
 pub prelude_found : (oracle : Oracle) (s : State) (local : LocalView) (path : ModPath) (found : PerNs × Option ℕ) (reached : Option ModuleId) → s.map.krate.no_core ≡ false
     → reached ≡ module_reached found.0 found.1
     → found ≡ ((resolve (record (world oracle s) { local = local }) for_module (root s.map) path).resolved_def, (resolve (record (world oracle s) { local = local }) for_module (root s.map) path).segment_index)
-    → local ≡ unwrap_or s.outer s.local → path ≡ prelude_path s → reached ≡ prelude_module oracle s
+    → local ≡ unwrap_or s.outer s.local → path ≡ prelude_path s.map.edition s.map.krate.no_std local → reached ≡ prelude_module oracle s
 prelude_found oracle s local path found reached core is answered known written =
     is
     ∙ ap (λ (f : PerNs × Option ℕ). module_reached f.0 f.1) answered
-    ∙ ap (λ l. module_found (resolve (record (world oracle s) { local = l }) for_module (root s.map) path)) known
-    ∙ ap (λ p. module_found (resolve (world oracle s) for_module (root s.map) p)) written
-    ∙ sym (ap (λ b. cond b None (module_found (resolve (world oracle s) for_module (root s.map) (prelude_path s)))) core)
+    ∙ ap (λ p. module_found (resolve (record (world oracle s) { local = local }) for_module (root s.map) p)) written
+    ∙ ap (λ l. module_found (resolve (record (world oracle s) { local = l }) for_module (root s.map) (prelude_path s.map.edition s.map.krate.no_std l))) known
+    ∙ sym (ap (λ b. cond b None (module_found (resolve (world oracle s) for_module (root s.map) (prelude_path s.map.edition s.map.krate.no_std (unwrap_or s.outer s.local))))) core)

@@ -9,7 +9,7 @@ use Rattle.def_bindings.specs.Content.{Content}
 use Rattle.def_bindings.specs.Puts.{IsExplicit}
 use Rattle.def_bindings.specs.PutsLaws.{explicit_stays-put_entry, explicit_stays-copied}
 use Rattle.def_oracle.specs.Oracle.{Oracle}
-use Rattle.def_rules.specs.Imports.{ImportStep, of_pending, of_partial}
+use Rattle.def_rules.specs.Recording.{ImportStep, of_pending, of_partial}
 use Rattle.def_rules.specs.Settled.{ExplicitStays}
 use Rattle.def_rules.specs.State.{State, Effect, Moment, Task, Enter, Visit, Put, order, AddEdge}
 use Rattle.def_rules.specs.Steps.{Copies, Does, Reaches, Step, performs, copies, rearranges, records}

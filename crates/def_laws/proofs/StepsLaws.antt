@@ -19,8 +19,9 @@ use Rattle.def_laws.specs.Sound.{AreSound, IsRaisedIn, IsSound}
 use Rattle.def_rules.specs.Targets.{target_of}
 use Rattle.def_laws.specs.Travels.{Travels}
 use Rattle.def_laws.specs.Performs.{Handled, IsDone, Performs, Updated}
-use Rattle.def_rules.specs.Imports.{ImportStep, of_pending, of_partial}
-use Rattle.def_rules.specs.Items.{diagnostic, node_at, VisitsAt, VisitsNode}
+use Rattle.def_rules.specs.Recording.{ImportStep, of_pending, of_partial}
+use Rattle.def_rules.specs.Items.{diagnostic, node_at}
+use Rattle.def_rules.specs.Rules.{VisitsAt, VisitsNode}
 use Rattle.def_rules.specs.State.{State, Effect, Site, Task, Enter, Visit, Rearranges, entered, only, order, put_each, reported, with_content}
 use Rattle.def_rules.specs.Steps.{Does, one, rearranges, records}
 use Rattle.def_laws.specs.Runs.{Leads}

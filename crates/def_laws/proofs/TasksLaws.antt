@@ -29,7 +29,8 @@ use Rattle.def_laws.specs.Own.{AreOwn, AreOwnTasks, IsOwn}
 use Rattle.def_laws.specs.Sound.{AreSound}
 use Rattle.def_rules.specs.Targets.{own_module, target_of}
 use Rattle.def_rules.specs.Globs.{Targets, module_entries, variant_entries, with_target}
-use Rattle.def_rules.specs.Imports.{bound_name, edge_tasks, entry_of, glob_def, glob_edge, glob_id, glob_tasks, import_vis, is_own_crate, keeps_ns, kept_item, named_entries, origin_of, record_tasks, taken_types, targets_after}
+use Rattle.def_rules.specs.Imports.{bound_name, entry_of, import_vis, keeps_ns, kept_item, named_entries, origin_of, taken_types}
+use Rattle.def_rules.specs.Recording.{edge_tasks, glob_def, glob_edge, glob_id, glob_tasks, is_own_crate, record_tasks, targets_after}
 use Rattle.def_rules.specs.State.{State, PendingImport, PartialImport, Task, AddEdge, order, put_each, world}
 use Rattle.def_laws.proofs.BroughtLaws.{module_by, variants_by}
 use Rattle.def_laws.proofs.OwnLaws.{StayRecorded, own_both}

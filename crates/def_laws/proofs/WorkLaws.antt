@@ -33,7 +33,10 @@ use Rattle.def_parts.specs.Directories.{Directory, FoundFile, descend, files_of,
 use Rattle.def_rules.specs.declared.diagnostics.DefDiagnosticKind.TheVariants.{UnresolvedModule}
 use Rattle.def_laws.specs.Performs.{Handled}
 use Rattle.def_laws.specs.Work.{Opened, behind, block_at, block_items, file_opened, item_opened, item_work, rule_opened, module_opened, opened_work, task_work, work, work_behind}
-use Rattle.def_rules.specs.Items.{crate_effect, crate_name, crates_first, ctor_task, diagnostic, file_tree, inline_contents, inner_site, is_crate_root, module_effect, module_item, name_text, named_crate, names_crate, naming_crate, next_module, node_at, noted_in, ordered, outline_found, outline_item, put_declared, top_items, tree_cfg, visits, walk, written_vis, Rule, Follows, rule_of, declares, declares_struct, opens_module, opens_block, queues, binds_crate, notes_impl, notes_const}
+use Rattle.def_rules.specs.Items.{crates_first, ctor_task, diagnostic, is_crate_root, names_crate, node_at, noted_in, ordered, put_declared, top_items, tree_cfg, visits, walk, written_vis}
+use Rattle.def_rules.specs.Modules.{file_tree, inline_contents, inner_site, module_effect, module_item, name_text, next_module, outline_found, outline_item}
+use Rattle.def_rules.specs.ExternCrates.{crate_effect, crate_name, named_crate, naming_crate}
+use Rattle.def_rules.specs.Rules.{Rule, Follows, rule_of, declares, declares_struct, opens_module, opens_block, queues, binds_crate, notes_impl, notes_const}
 use Rattle.def_rules.specs.State.{State, Effect, Site, Task, Enter, Visit, Put, AddEdge, reported, with_missing}
 use Rattle.def_laws.proofs.LevelsLaws.{IsDeeper, declaration_deeper, descend_deeper}
 

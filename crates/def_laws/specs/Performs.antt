@@ -6,7 +6,7 @@ use Rattle.def_bindings.specs.declared.bindings.Entry.{Entry}
 use Rattle.def_bindings.specs.declared.visibility.Visibility.{Visibility}
 use Rattle.def_oracle.specs.Oracle.{Oracle}
 use Rattle.def_laws.specs.Travels.{Travels}
-use Rattle.def_rules.specs.Items.{HandlesInSession}
+use Rattle.def_rules.specs.Rules.{HandlesInSession}
 use Rattle.def_rules.specs.State.{State, Site, Task, Effect, order, with_content}
 use Rattle.def_laws.specs.Followed.{AreFollowed}
 use Rattle.def_laws.specs.Sound.{IsSound, KeepsSound}
@@ -16,7 +16,7 @@ use Rattle.def_laws.specs.Runs.{Runs, StaysRaised}
 use Rattle.item_tree.specs.declared.items.ImportKind.TheVariants as kind
 use Rattle.def_ids.specs.declared.ids.Def.{Def}
 use Rattle.def_ids.specs.declared.ids.GlobId.{GlobId}
-use Rattle.def_rules.specs.Imports.{targets_after}
+use Rattle.def_rules.specs.Recording.{targets_after}
 
 -- the state in which a glob was recorded with this definition
 abbrev pub target_state : State → GlobId → Option Def → State

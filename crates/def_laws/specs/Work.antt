@@ -10,7 +10,9 @@ use Rattle.item_tree.specs.Attrs.{path_attr}
 use Rattle.def_oracle.specs.Oracle.{Oracle}
 use Rattle.def_parts.specs.Directories.{Directory, FoundFile, descend, files_of, resolve_declaration}
 use Rattle.std.specs.Option.{option_map_or}
-use Rattle.def_rules.specs.Items.{Rule, file_tree, node_at, opens_block, opens_module, rule_of, top_items}
+use Rattle.def_rules.specs.Items.{node_at, top_items}
+use Rattle.def_rules.specs.Modules.{file_tree}
+use Rattle.def_rules.specs.Rules.{Rule, opens_block, opens_module, rule_of}
 use Rattle.def_rules.specs.State.{Task, Enter, Visit, Put, AddEdge}
 
 -- a list of items that an item opens, with the tree that holds them and their directory

@@ -5,6 +5,7 @@ mod dependencies;
 mod directories;
 mod glob_imports;
 mod globs;
+mod plain_table;
 mod prelude_imports;
 mod proc_macros;
 mod rows;

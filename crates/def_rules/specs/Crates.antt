@@ -159,13 +159,15 @@ prelude_kind Edition2021 = Abs
 prelude_kind Edition2024 = Abs
 
 -- the crate of the prelude: `core` with `no_std`; else `std`, or `core` where paths may not begin with `std`
-abbrev pub prelude_crate : State → Name
-prelude_crate s = cond s.map.krate.no_std known.core_name (cond (is_some ((unwrap_or s.outer s.local).extern_prelude known.std_name)) known.std_name known.core_name)
+abbrev pub prelude_crate : Bool → LocalView → Name
+prelude_crate no_std names = cond no_std known.core_name (cond (is_some (names.extern_prelude known.std_name)) known.std_name known.core_name)
 
--- the path of the prelude
-abbrev pub prelude_path : State → ModPath
-prelude_path s = record { kind = prelude_kind s.map.edition; segments = prelude_crate s ∷ known.prelude_name ∷ edition_name s.map.edition ∷ [] }
+-- the path of the prelude, by the edition, whether the crate does without `std`, and the names of crates that its paths may begin with
+abbrev pub prelude_path : Edition → Bool → LocalView → ModPath
+prelude_path edition no_std names = record { kind = prelude_kind edition; segments = prelude_crate no_std names ∷ known.prelude_name ∷ edition_name edition ∷ [] }
 
 -- the prelude: the module that this path gives, if it gives one; none with `no_core`
 abbrev pub prelude_module : Oracle → State → Option ModuleId
-prelude_module oracle s = cond s.map.krate.no_core None (module_found (resolve (world oracle s) for_module (root s.map) (prelude_path s)))
+prelude_module oracle s =
+    cond s.map.krate.no_core None
+    (module_found (resolve (world oracle s) for_module (root s.map) (prelude_path s.map.edition s.map.krate.no_std (unwrap_or s.outer s.local))))

@@ -2,7 +2,11 @@ pub mod Headline
 pub mod State
 pub mod Steps
 pub mod Items
+pub mod Modules
+pub mod ExternCrates
+pub mod Rules
 pub mod Imports
+pub mod Recording
 pub mod Globs
 pub mod Targets
 pub mod Crates

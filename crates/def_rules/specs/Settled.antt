@@ -10,7 +10,8 @@ use Rattle.def_bindings.specs.Puts.{IsExplicit}
 use Rattle.def_oracle.specs.Oracle.{Oracle}
 use Rattle.def_paths.specs.PerNs.{in_namespace}
 use Rattle.def_rules.specs.State.{State, PendingImport, Event, PutExplicit, Recorded, Moment}
-use Rattle.def_rules.specs.Imports.{NoneReady, is_ready, answer_now, bound_name, keeps_ns}
+use Rattle.def_rules.specs.Imports.{is_ready, answer_now, bound_name, keeps_ns}
+use Rattle.def_rules.specs.Recording.{NoneReady}
 
 -- no import is ready
 pub record IsSettled (oracle : Oracle) (end : State) : Type 0 where

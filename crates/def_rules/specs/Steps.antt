@@ -13,8 +13,8 @@ use Rattle.def_oracle.specs.Oracle.{Oracle}
 use Rattle.def_globs.specs.Globs.{with_recorded}
 use Rattle.def_globs.specs.Raised.{KeepsDef}
 use Rattle.def_rules.specs.State.{State, Effect, Task, Enter, Visit, Put, AddEdge, Event, PutExplicit, Moment, after, entered, only, with_state, with_content, order, Rearranges}
-use Rattle.def_rules.specs.Imports.{ImportStep}
-use Rattle.def_rules.specs.Items.{Visits}
+use Rattle.def_rules.specs.Recording.{ImportStep}
+use Rattle.def_rules.specs.Rules.{Visits}
 
 -- a put of a name that no glob brought
 abbrev pub event_of : ModuleId → Entry Visibility → Option GlobId → Option Name → List Event

@@ -1,3 +1,2 @@
 pub mod FinishLemmas
-pub mod ItemsLemmas
 pub mod ResultLaws

@@ -1,3 +1,2 @@
 pub mod Collector
 pub mod Declarations
-pub mod Lists

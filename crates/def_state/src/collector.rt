@@ -6,20 +6,19 @@ mod crates;
 mod declarations;
 mod finish;
 mod items;
-mod lists;
-mod modules;
 mod visibility;
 
-pub use crates::{CrateItem, WrittenCrate};
+pub use crates::WrittenCrate;
 pub use declarations::WrittenStruct;
+use def_crates::MissingCrates;
 use def_ids::{Def, GlobId};
+use def_items::ModDirs;
 use def_map::{LocalDefMap, MapData, Table};
 use def_parts::Globs;
 use def_rules::DefDiagnostic;
-use def_steps::{ImportDirective, MissingCrates, ModDirs, PartialDirective};
+use def_steps::{ImportDirective, PartialDirective};
 use indexmap::IndexMap;
 use item_tree::Seq;
-pub use modules::ModuleItem;
 use std::alloc::Global;
 
 /// What is known so far of a map, while definitions are collected into it.

@@ -3,7 +3,5 @@
 #![tactic(auto)]
 
 mod collector;
-mod lists;
 
-pub use collector::{CrateItem, DefCollector, ModuleItem, WrittenCrate, WrittenStruct};
-pub use lists::{Frame, ItemList, Site, disabled_by, top_items};
+pub use collector::{DefCollector, WrittenCrate, WrittenStruct};

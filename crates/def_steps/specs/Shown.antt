@@ -1,20 +1,12 @@
--- What directives, directories and edges stand for.
-use Rattle.std.specs.Prelude.{Bool, Option, option_map}
-use Rattle.item_tree.specs.declared.name.Name.{Name}
-use Rattle.def_ids.specs.Ids.{is_same_module}
+-- What directives and edges stand for.
+use Rattle.std.specs.Prelude.{Option, option_map}
 use Rattle.def_ids.specs.declared.ids.ModuleId.{ModuleId}
 use Rattle.def_bindings.specs.declared.bindings.EdgeTo.{EdgeTo}
 use Rattle.def_bindings.specs.declared.visibility.Visibility.{Visibility}
-use Rattle.def_bindings.specs.Content.{is_name}
 use Rattle.def_steps.specs.declared.directive.ImportDirective.{ImportDirective}
 use Rattle.def_steps.specs.declared.directive.NamespaceSet.{NamespaceSet}
 use Rattle.def_steps.specs.declared.directive.PartialDirective.{PartialDirective}
-use Rattle.def_steps.specs.declared.missing_crates.MissingCrates.{MissingCrates}
-use Rattle.def_steps.specs.declared.mod_dirs.ModDirs.{ModDirs}
 use Rattle.def_rules.specs.declared.outcome.Edge.{Edge}
-use Rattle.def_parts.specs.Directories.{Directory}
-use Rattle.indexmap.specs.IndexMap.{get}
-use Rattle.indexmap.specs.IndexSet.{contains}
 use Rattle.def_rules.specs.Report.{listed_edge}
 use Rattle.def_rules.specs.State.{NsSet, PendingImport, PartialImport}
 
@@ -33,14 +25,6 @@ kept_of kept = option_map ns_set kept
 -- an import that was recorded, and from which namespaces
 abbrev pub partial_of : PartialDirective → PartialImport
 partial_of d = record { pending = pending_of d.directive; recorded = ns_set d.recorded }
-
--- the directory that is stored for each module
-abbrev pub directories_of : ModDirs → ModuleId → Option Directory
-directories_of d = get is_same_module d.dirs
-
--- the names of the crates that were not found
-abbrev pub missing_in : MissingCrates → Name → Bool
-missing_in m = contains is_name m.names
 
 -- an edge of a table with its source, as it is answered
 abbrev pub shown_edge : ModuleId × EdgeTo Visibility → Edge

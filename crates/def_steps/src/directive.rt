@@ -1,7 +1,9 @@
 //! Imports that wait, and the namespaces that they were recorded from.
 ghost use Rattle.std.specs.Prelude.{◌≡◌, ◌&&◌, true, length, nat_lt, option_map};
 ghost use Rattle.def_rules.specs.Imports as imports;
+ghost use Rattle.def_rules.specs.Recording as recording;
 ghost use Rattle.def_rules.specs.Items as items;
+ghost use Rattle.def_rules.specs.ExternCrates as crate_rules;
 ghost use Rattle.def_steps.specs.Shown.{kept_of, ns_set, pending_of};
 ghost use Rattle.def_rules.specs.Globs.{is_public};
 
@@ -183,7 +185,7 @@ fn is_plain_or_self(kind: PathKind) -> bool
 /// The module that an import makes the prelude: that which the glob of an item with
 /// `#[prelude_import]` leads to.
 pub fn new_prelude(directive: &ImportDirective, answer: &ResolvePathResult) -> Option<ModuleId>
-    ensures { result ≡ imports.new_prelude (pending_of directive.now) answer.now }
+    ensures { result ≡ recording.new_prelude (pending_of directive.now) answer.now }
 {
     match directive.import.kind {
         ImportKind::Plain | ImportKind::TypeOnly => None,
@@ -198,7 +200,7 @@ pub fn new_prelude(directive: &ImportDirective, answer: &ResolvePathResult) -> O
 
 /// The module that was found, if it is one.
 fn module_of(item: Option<Item>) -> Option<ModuleId>
-    ensures { result ≡ imports.module_if true (option_map (λ i. i.def) item) }
+    ensures { result ≡ recording.module_if true (option_map (λ i. i.def) item) }
 {
     match item {
         Some(found) => match found.def {
@@ -255,7 +257,7 @@ pub fn import_name(import: &UseImport) -> Option<Option<Name>>
 
 /// The name that an extern crate binds: its alias, else its own. None is `_`.
 pub fn crate_name(name: Name, alias: Option<ImportAlias>) -> Option<Name>
-    ensures { result ≡ items.crate_name name alias }
+    ensures { result ≡ crate_rules.crate_name name alias }
 {
     match alias {
         Some(ImportAlias::Alias(name)) => Some(name),
@@ -281,7 +283,7 @@ fn plain_name(import: &UseImport) -> Option<Option<Name>>
 impl ImportDirective<'_> {
     /// Its number, as a glob.
     pub fn glob_id(&self) -> GlobId
-        ensures { result ≡ imports.glob_id (pending_of self.now) }
+        ensures { result ≡ recording.glob_id (pending_of self.now) }
     {
         let idx = self.import.idx;
         GlobId {

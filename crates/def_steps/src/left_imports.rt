@@ -4,11 +4,12 @@ ghost use Rattle.std.specs.Prelude.{◌≡◌, ◌++◌, map, OnOk};
 ghost use Rattle.std.specs.List.{flat_map};
 ghost use Rattle.def_modules.specs.Maps.{map_state};
 ghost use Rattle.def_rules.specs.Report.{import_report, left_import};
-ghost use Rattle.def_steps.specs.Shown.{missing_in, pending_of};
+ghost use Rattle.def_crates.specs.Missing.{missing_in};
+ghost use Rattle.def_steps.specs.Shown.{pending_of};
 ghost use Rattle.def_steps.specs.Waiting.{imports_in, left_in, marked_each};
 
 use crate::directive::{ImportDirective, import_name};
-use crate::missing_crates::MissingCrates;
+use def_crates::MissingCrates;
 use def_map::MapData;
 use def_rules::{DefDiagnostic, DefDiagnosticKind, LeftImport};
 use std::alloc::AllocError;

@@ -10,22 +10,25 @@ use Rattle.item_tree.specs.declared.name.Name.{Name}
 use Rattle.item_tree.specs.declared.tree.ItemTree.{ItemTree}
 use Rattle.item_tree.specs.Trees.{item_at}
 use Rattle.std.specs.Option.{unwrap_or}
-use Rattle.std.specs.Prelude.{IfSome, is_some}
+use Rattle.std.specs.declared.alloc.Global.{Global}
+use Rattle.std.specs.Prelude.{IfSome, is_some, Vec}
 use Rattle.def_ids.specs.declared.interner.Interner.{Interner}
 use Rattle.def_ids.specs.Session.{session_of}
 use Rattle.def_map.specs.Oracle.{Oracle}
-use Rattle.def_state.specs.declared.lists.Frame.{Frame}
-use Rattle.def_state.specs.declared.lists.ItemList.{ItemList}
-use Rattle.def_state.specs.Collector.{list_site, tree_in}
+use Rattle.def_items.specs.declared.lists.Frame.{Frame}
+use Rattle.def_items.specs.declared.lists.ItemList.{ItemList}
+use Rattle.def_items.specs.Parts.{list_site, tree_in}
 use Rattle.def_walk.specs.Walk.{AreKnown, agenda_of, frame_tasks, inner_of, is_frame_known, is_known, walk_measure}
-use Rattle.def_state.specs.Lists.{left_of, listed}
+use Rattle.def_items.specs.Lists.{left_of, listed}
 use Rattle.def_laws.specs.Work.{task_work, work}
-use Rattle.def_rules.specs.Items.{diagnostic, name_text, node_at, ordered, visits, walk}
+use Rattle.def_rules.specs.Items.{diagnostic, node_at, ordered, visits, walk}
+use Rattle.def_rules.specs.Modules.{name_text}
+use Rattle.def_rules.specs.declared.diagnostics.DefDiagnostic.{DefDiagnostic}
 use Rattle.def_rules.specs.declared.diagnostics.DefDiagnosticKind.TheVariants.{UnconfiguredCode}
 use Rattle.item_tree.specs.declared.ids.CfgExpr.{CfgExpr}
 use Rattle.item_tree.specs.Attrs.{disabled_by}
 use Rattle.def_state.specs.declared.collector.DefCollector.{DefCollector}
-use Rattle.def_rules.specs.State.{Site, State, Task, Enter, Visit, entered, reported}
+use Rattle.def_rules.specs.State.{Site, State, Task, Enter, Visit, entered}
 use Rattle.def_laws.specs.Runs.{Leads}
 use Rattle.def_laws.proofs.StepsLaws.{leads_disabled, leads_enter, leads_trans}
 use Rattle.def_walk.proofs.WalkLemmas.{after_turn, agenda_of-one, agenda_of-push, frame_tasks-next, left_of-cons, measure_pushed, work_next}
@@ -193,14 +196,15 @@ done_fewer oracle texts all frames frame popped =
     let more : walk_measure oracle texts all ≡ _ = ap (walk_measure oracle texts) popped ∙ measure_pushed oracle texts frames frame in omega (arith, more)
 
 -- an item that cfg disables was reported
-pub visited_disabled : (oracle : Oracle) (before after : Interner → State) (session : Interner) (site : Site) (id : ModItemId) (item : ItemNode) (disabled : Option CfgExpr) (cfg : CfgExpr)
+pub visited_disabled : (oracle : Oracle) (s : State) (told : List DefDiagnostic) (site : Site) (id : ModItemId) (item : ItemNode) (disabled : Option CfgExpr) (cfg : CfgExpr)
     → node_at oracle site.tree id ≡ Some item → disabled ≡ disabled_by item.attrs → disabled ≡ Some cfg
-    → IfSome disabled (λ c. (session : Interner) → after session ≡ reported (before session) (diagnostic site item (UnconfiguredCode c)))
-    → (rest : List Task) → Leads oracle (Visit site id ∷ rest) (before session) rest (after session)
-visited_disabled oracle before after session site id item disabled cfg found known is told =
-    leads_disabled (before session) (after session) site id item cfg found (sym known ∙ is)
-    (subst (λ o. IfSome o (λ c. (session : Interner) → after session ≡ reported (before session) (diagnostic site item (UnconfiguredCode c)))) is told session)
+    → IfSome disabled (λ c. told ≡ s.diagnostics ++ diagnostic site item (UnconfiguredCode c) ∷ [])
+    → (rest : List Task) → Leads oracle (Visit site id ∷ rest) s rest (record s { diagnostics = told })
+visited_disabled oracle s told site id item disabled cfg found known is more =
+    leads_disabled s (record s { diagnostics = told }) site id item cfg found (sym known ∙ is)
+    (ap (λ d. record s { diagnostics = d }) (subst (λ o. IfSome o (λ c. told ≡ s.diagnostics ++ diagnostic site item (UnconfiguredCode c) ∷ [])) is more))
 
 -- where nothing is disabled nothing was reported
-pub not_disabled : (before after : DefCollector) (disabled : Option CfgExpr) → disabled ≡ None → (is_some disabled ≡ false → after ≡ before) → after ≡ before
-not_disabled before after disabled none same = same (ap is_some none)
+pub not_disabled : (before : DefCollector) (told : Vec DefDiagnostic Global) (disabled : Option CfgExpr) → disabled ≡ None → (is_some disabled ≡ false → told ≡ before.diagnostics)
+    → record before { diagnostics = told } ≡ before
+not_disabled before told disabled none same = ap (λ d. record before { diagnostics = d }) (same (ap is_some none))

@@ -7,10 +7,10 @@ use Rattle.std.proofs.Math.Seq.{drop-cons}
 use Rattle.item_tree.specs.declared.ids.ModItemId.{ModItemId}
 use Rattle.item_tree.specs.declared.name.Name.{Name}
 use Rattle.def_map.specs.Oracle.{Oracle}
-use Rattle.def_state.specs.declared.lists.Frame.{Frame}
-use Rattle.def_state.specs.Collector.{list_site}
+use Rattle.def_items.specs.declared.lists.Frame.{Frame}
+use Rattle.def_items.specs.Parts.{list_site}
 use Rattle.def_walk.specs.Walk.{agenda_of, frame_tasks, walk_measure}
-use Rattle.def_state.specs.Lists.{listed, left_of}
+use Rattle.def_items.specs.Lists.{listed, left_of}
 use Rattle.def_laws.specs.Work.{task_work, work}
 use Rattle.def_rules.specs.Items.{visits}
 use Rattle.def_rules.specs.State.{Visit}

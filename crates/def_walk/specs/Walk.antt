@@ -6,11 +6,11 @@ use Rattle.def_parts.specs.Directories.{FoundFile}
 use Rattle.def_rules.specs.Items.{visits, walk}
 use Rattle.def_rules.specs.State.{Task}
 use Rattle.def_laws.specs.Work.{work}
-use Rattle.def_state.specs.declared.lists.ItemList.{ItemList}
-use Rattle.def_state.specs.Collector.{list_site, tree_in}
+use Rattle.def_items.specs.declared.lists.ItemList.{ItemList}
+use Rattle.def_items.specs.Parts.{list_site, tree_in}
 use Rattle.def_walk.specs.declared.modules.FoundFile.{FoundFile as FoundInCode}
-use Rattle.def_state.specs.declared.lists.Frame.{Frame}
-use Rattle.def_state.specs.Lists.{left_of}
+use Rattle.def_items.specs.declared.lists.Frame.{Frame}
+use Rattle.def_items.specs.Lists.{left_of}
 
 -- a file that was found, as it is shown
 abbrev pub found_in : FoundInCode → FoundFile

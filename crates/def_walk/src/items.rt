@@ -2,14 +2,16 @@
 ghost use Rattle.std.specs.Prelude.{◌≡◌, Some, IfOk};
 ghost use Rattle.item_tree.specs.declared.items.ModItemKind.TheVariants as kinds;
 ghost use Rattle.def_ids.specs.Session.{AddsLocations, session_of};
-ghost use Rattle.def_state.specs.Collector.{site_of, state_of};
+ghost use Rattle.def_items.specs.Parts.{site_of};
+ghost use Rattle.def_state.specs.Collector.{state_of};
 ghost use Rattle.def_walk.specs.Walk.{AreKnown, inner_of, is_known};
 ghost use Rattle.def_laws.specs.Performs.{Handled};
 
-use crate::modules::collect_module;
+use crate::modules::{ModuleItem, collect_module};
 use def_ids::{ExternBlockLoc, Interner, ItemContainerId, Location};
+use def_items::{ItemList, Site, define_impl};
 use def_map::SourceDatabase;
-use def_state::{DefCollector, ItemList, ModuleItem, Site, WrittenCrate, WrittenStruct};
+use def_state::{DefCollector, WrittenCrate, WrittenStruct};
 use item_tree::{ItemNode, ModItemId, ModItemKind, Seq};
 use std::alloc::AllocError;
 
@@ -69,7 +71,8 @@ pub(crate) fn collect_item<'a, D: SourceDatabase>(
             Ok(Some(list))
         }
         ModItemKind::Impl { is_trait_impl } => {
-            collector.collect_impl(session, site, node, *is_trait_impl)?;
+            let def_map = &mut collector.def_map;
+            define_impl(def_map, session, site, node, *is_trait_impl)?;
             Ok(None)
         }
         ModItemKind::Struct {

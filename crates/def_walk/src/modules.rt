@@ -1,21 +1,37 @@
 //! Modules: what an item declares, and the list of items that it opens.
-ghost use Rattle.std.specs.Prelude.{◌≡◌, Ok, map, string_bytes, IfOk};
+ghost use Rattle.std.specs.Prelude.{◌≡◌, ◌∷◌, [], Ok, map, string_bytes, IfOk, OnOk};
 ghost use Rattle.item_tree.specs.declared.items.ModContents.TheVariants as contents_kind;
+ghost use Rattle.def_bindings.specs.declared.bindings.Namespace.TheVariants.{Types};
+ghost use Rattle.def_ids.specs.declared.ids.Def.TheVariants as def_kind;
+ghost use Rattle.def_ids.specs.declared.interner.Interner.{Interner};
 ghost use Rattle.def_ids.specs.Session as sessions;
 ghost use Rattle.def_modules.specs.declared.module_data.ModuleOrigin.TheVariants as origin_kind;
-ghost use Rattle.def_state.specs.Collector.{site_of, state_of};
+ghost use Rattle.def_items.specs.Parts.{site_of};
+ghost use Rattle.def_state.specs.Collector.{state_of};
 ghost use Rattle.def_walk.specs.Walk.{AreKnown, found_in, inner_of};
-ghost use Rattle.def_laws.specs.Performs.{IsDone};
+ghost use Rattle.def_laws.specs.Performs.{IsDone, Updated};
 ghost use Rattle.def_rules.specs.Items as items;
-ghost use Rattle.def_rules.specs.Items.{module_item, outline_item};
+ghost use Rattle.def_rules.specs.Modules as module_rules;
+ghost use Rattle.def_rules.specs.Modules.{module_item, outline_item};
 
-use def_ids::{Interner, ItemContainerId};
+use def_bindings::Visibility;
+use def_ids::{Interner, ItemContainerId, ModuleId};
+use def_items::{ChildModule, ItemList, Site, disabled_by, push_child_module, report, top_items};
 use def_map::{ModuleOrigin, SourceDatabase};
 use def_parts::ModDir;
 use def_rules::DefDiagnosticKind;
-use def_state::{DefCollector, ItemList, ModuleItem, disabled_by, top_items};
-use item_tree::{FileId, HirFileId, ModContents, ModItemId, Name, Seq, Text, TreeId};
+use def_state::DefCollector;
+use item_tree::{FileId, HirFileId, ItemNode, ModContents, ModItemId, Name, Seq, Text, TreeId};
 use std::alloc::{AllocError, Global};
+
+/// A module that is declared: its item and where that stands, its name, and its visibility.
+#[derive(Clone, Copy)]
+pub(crate) struct ModuleItem<'a> {
+    pub site: Site<'a>,
+    pub node: &'a ItemNode,
+    pub name: Name,
+    pub vis: Visibility,
+}
 
 /// The file of a module.
 #[derive(Drop)]
@@ -75,7 +91,7 @@ fn collect_inline_module<'a, D: SourceDatabase>(
     let dir = site
         .dir
         .descend_into_definition(text, item.node.path_attr())?;
-    let child = collector.push_child_module(item, inline_origin(item))?;
+    let child = push_module(collector, item, inline_origin(item))?;
     let Some(dir) = dir else {
         return Ok(None);
     };
@@ -119,8 +135,8 @@ fn collect_outline_module<'a, D: SourceDatabase>(
         Err(candidates) => {
             let candidates = texts_of(collector.alloc, candidates.as_slice())?;
             let kind = DefDiagnosticKind::UnresolvedModule { candidates };
-            collector.report(site, item.node, kind)?;
-            collector.push_child_module(item, inline_origin(item))?;
+            report(&mut collector.diagnostics, site, item.node, kind)?;
+            push_module(collector, item, inline_origin(item))?;
             Ok(None)
         }
     }
@@ -146,7 +162,7 @@ fn collect_file_module<'a, D: SourceDatabase>(
     let tree = db.item_tree(tree_id);
     if let Some(cfg) = disabled_by(tree) {
         let kind = DefDiagnosticKind::UnconfiguredCode { cfg };
-        collector.report(item.site, item.node, kind)?;
+        report(&mut collector.diagnostics, item.site, item.node, kind)?;
         return Ok(None);
     }
     let origin = ModuleOrigin::File {
@@ -155,7 +171,7 @@ fn collect_file_module<'a, D: SourceDatabase>(
         file: found.file,
         is_mod_rs: found.is_mod_rs,
     };
-    let child = collector.push_child_module(item, origin)?;
+    let child = push_module(collector, item, origin)?;
     Ok(Some(ItemList {
         module_id: child,
         container: ItemContainerId::Module(child),
@@ -166,9 +182,38 @@ fn collect_file_module<'a, D: SourceDatabase>(
     }))
 }
 
+/// Adds the module of an item as a child of the one that the item stands in, and declares it in
+/// types. Answers the module. On `Err` nothing but safety is promised.
+fn push_module<'a>(
+    collector: &mut DefCollector<'a>,
+    item: ModuleItem<'_>,
+    origin: ModuleOrigin,
+) -> Result<ModuleId, AllocError>
+    ensures child { IfOk result (λ child. (session : Interner) → child ≡ module_rules.next_module (state_of collector.old session)) }
+    ensures added { OnOk result ((session : Interner) →
+        let s = state_of collector.old session in
+        let at = item.entry.site.module_id in
+        Updated at (items.declared_entry item.entry.name Types (def_kind.Module (module_rules.next_module s)) item.entry.vis ∷ [])
+        (module_rules.add_module s at item.entry.name item.entry.vis origin) (state_of collector.new session)) }
+{
+    let added = ChildModule {
+        parent: item.site.module_id,
+        name: item.name,
+        vis: item.vis,
+    };
+    let table = &mut collector.table;
+    push_child_module(
+        collector.alloc,
+        &mut collector.def_map,
+        table,
+        added,
+        origin,
+    )
+}
+
 /// The text of a name. An unknown name has none.
 fn name_text(session: &Interner, name: Name) -> &str
-    ensures { result.now ≡ items.name_text (sessions.session_of session.now) name }
+    ensures { result.now ≡ module_rules.name_text (sessions.session_of session.now) name }
 {
     session.text(name).unwrap_or("")
 }

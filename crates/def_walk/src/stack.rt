@@ -4,18 +4,21 @@ ghost use Rattle.std.specs.Option.{option_copied};
 ghost use Rattle.item_tree.specs.Trees.{item_at};
 ghost use Rattle.def_ids.specs.declared.interner.Interner.{Interner};
 ghost use Rattle.def_ids.specs.Session.{AddsLocations, session_of};
-ghost use Rattle.def_state.specs.Collector.{list_site, state_of};
-ghost use Rattle.def_state.specs.Lists.{left_of};
+ghost use Rattle.def_items.specs.Lists.{left_of};
+ghost use Rattle.def_items.specs.Parts.{list_site};
+ghost use Rattle.def_state.specs.Collector.{state_of};
 ghost use Rattle.def_walk.specs.Walk.{AreKnown, frame_tasks, inner_of, is_frame_known, is_known};
 ghost use Rattle.def_laws.specs.Work.{task_work, work};
-ghost use Rattle.def_rules.specs.Items.{name_text, walk};
+ghost use Rattle.def_rules.specs.Items.{walk};
+ghost use Rattle.def_rules.specs.Modules.{name_text};
 ghost use Rattle.def_rules.specs.State.{Task, Visit};
 ghost use Rattle.def_laws.specs.Runs.{Leads};
 
 use crate::items::collect_item;
 use def_ids::Interner;
+use def_items::{Frame, ItemList, Site, report_disabled_item};
 use def_map::SourceDatabase;
-use def_state::{DefCollector, Frame, ItemList, Site};
+use def_state::DefCollector;
 use item_tree::{ItemNode, ItemTree, ModItemId};
 use std::alloc::AllocError;
 
@@ -33,14 +36,14 @@ pub fn walk<'a, D: SourceDatabase>(
         (state_of collector.old session.old) [] (state_of collector.new session.new)) }
     ensures session { AddsLocations (session_of session.old) (session_of session.new) }
 {
-    let frame = collector.open(first)?;
+    let frame = Frame::open(collector.alloc, &mut collector.mod_dirs, first)?;
     let mut frames = Vec::new(collector.alloc);
     frames.push(frame)?;
     'frames: while let Some(mut frame) = frames.pop() {
         let opened = walk_list(collector, db, session, &mut frame)?;
         if let Some(list) = opened {
             frames.push(frame)?;
-            let inner = collector.open(list)?;
+            let inner = Frame::open(collector.alloc, &mut collector.mod_dirs, list)?;
             frames.push(inner)?;
         }
     }
@@ -111,7 +114,7 @@ fn visit<'a, D: SourceDatabase>(
         tree_id: list.tree_id,
         dir: &list.dir,
     };
-    let disabled = collector.report_disabled_item(site, node)?;
+    let disabled = report_disabled_item(&mut collector.diagnostics, site, node)?;
     if let Some(_) = disabled {
         return Ok(None);
     }

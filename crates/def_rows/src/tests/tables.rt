@@ -1,6 +1,7 @@
-//! One list of calls over both tables.
+//! One list of calls over both tables, and over one that has the required calls alone.
 #![tactic(auto)]
 
+use super::plain_table::PlainTable;
 use def_bindings::{
     Binding, BindingTable, EdgeTo, ImportOrExternCrate, Namespace, NumberedTable, ScopeTable,
 };
@@ -96,13 +97,18 @@ fn are_alike<A: BindingTable<Vis = usize>, B: BindingTable<Vis = usize>>(a: &A, 
 }
 
 #[test]
-fn both_tables_answer_alike(rt: HostRuntime) -> Result<(), Fail> {
+fn tables_answer_alike(rt: HostRuntime) -> Result<(), Fail> {
     let mut scopes: ScopeTable<usize> = ScopeTable::new(rt.alloc())?;
     let mut numbers: NumberedTable<usize> = NumberedTable::new(rt.alloc())?;
+    let mut plain = PlainTable {
+        table: ScopeTable::new(rt.alloc())?,
+    };
     for k in 0..200 {
         call(&mut scopes, k)?;
         call(&mut numbers, k)?;
+        call(&mut plain, k)?;
         assert!(rt; are_alike(&scopes, &numbers), "after call {k}");
+        assert!(rt; are_alike(&plain, &numbers), "after call {k}");
     }
     assert!(rt; numbers.name_at(module(0), 0).is_some());
     assert!(rt; numbers.edge_at(module(0), 0).is_some());

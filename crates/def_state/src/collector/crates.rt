@@ -4,32 +4,34 @@ ghost use Rattle.item_tree.specs.declared.items.ModItemKind.TheVariants as kinds
 ghost use Rattle.def_ids.specs.declared.interner.Interner.{Interner};
 ghost use Rattle.def_ids.specs.Session.{AddsLocations, session_of};
 ghost use Rattle.def_map.specs.Oracle.{Oracle};
-ghost use Rattle.def_state.specs.Collector.{site_of, state_of};
+ghost use Rattle.def_items.specs.Parts.{site_of};
+ghost use Rattle.def_state.specs.Collector.{state_of};
 ghost use Rattle.def_rules.specs.declared.diagnostics.DefDiagnosticKind.TheVariants.{UnresolvedExternCrate};
 ghost use Rattle.def_rules.specs.Items as items;
+ghost use Rattle.def_rules.specs.ExternCrates as crate_rules;
 ghost use Rattle.def_laws.specs.Performs.{Handled, Performs, Updated};
 ghost use Rattle.def_rules.specs.State.{reported, with_missing};
 
 use super::DefCollector;
-use crate::lists::Site;
 use def_bindings::{Entry, ImportOrExternCrate, Namespace, Visibility};
 use def_ids::{Def, ExternCrateId, ExternCrateLoc, Interner, Location, ModuleId};
-use def_map::{ExternPreludeEntry, SourceDatabase};
+use def_items::{Site, name_crate, report};
+use def_map::SourceDatabase;
 use def_rules::DefDiagnosticKind;
-use def_steps::{crate_name, is_crate_root};
+use def_steps::crate_name;
 use item_tree::{ImportAlias, ItemNode, Name, RawVisibility, sym};
 use std::alloc::AllocError;
 
 /// An extern crate: its item and where that stands, its number, the name that it binds, and its
 /// visibility.
 #[derive(Clone, Copy)]
-pub struct CrateItem<'a> {
-    pub site: Site<'a>,
-    pub node: &'a ItemNode,
-    pub id: ExternCrateId,
+struct CrateItem<'a> {
+    site: Site<'a>,
+    node: &'a ItemNode,
+    id: ExternCrateId,
     /// None is `_`.
-    pub name: Option<Name>,
-    pub vis: Visibility,
+    name: Option<Name>,
+    vis: Visibility,
 }
 
 /// An extern crate as it is written.
@@ -80,7 +82,7 @@ impl<'a> DefCollector<'a> {
 
     /// The root of a named crate, if it is found: `self` is this crate, and any other a dependency.
     fn named_crate(&self, name: Name) -> Option<ModuleId>
-        ensures { (session : Interner) → result ≡ items.named_crate (state_of self.now session) name }
+        ensures { (session : Interner) → result ≡ crate_rules.named_crate (state_of self.now session) name }
     {
         if name == sym::SELF {
             return Some(ModuleId::crate_root(self.def_map.tree.map.krate));
@@ -99,7 +101,7 @@ impl<'a> DefCollector<'a> {
         root: Option<ModuleId>,
     ) -> Result<(), AllocError>
         ensures { OnOk result ((oracle : Oracle) (session : Interner) →
-            let effect = items.crate_effect (state_of self.old session) (site_of item.entry.site) item.entry.node.now item.entry.id item.entry.name item.entry.vis root in
+            let effect = crate_rules.crate_effect (state_of self.old session) (site_of item.entry.site) item.entry.node.now item.entry.id item.entry.name item.entry.vis root in
             Performs oracle effect.tasks effect.state (state_of self.new session)) }
     {
         match root {
@@ -117,12 +119,13 @@ impl<'a> DefCollector<'a> {
     /// Puts an extern crate in types. Paths may begin with one that stands at a crate's root.
     fn put_crate(&mut self, item: CrateItem<'_>, root: ModuleId) -> Result<(), AllocError>
         ensures { OnOk result ((session : Interner) →
-            let effect = items.crate_effect (state_of self.old session) (site_of item.entry.site) item.entry.node.now item.entry.id item.entry.name item.entry.vis (Some root) in
-            Updated item.entry.site.module_id (items.crate_entry item.entry.id item.entry.name root item.entry.vis ∷ []) effect.state (state_of self.new session)) }
+            let effect = crate_rules.crate_effect (state_of self.old session) (site_of item.entry.site) item.entry.node.now item.entry.id item.entry.name item.entry.vis (Some root) in
+            Updated item.entry.site.module_id (crate_rules.crate_entry item.entry.id item.entry.name root item.entry.vis ∷ []) effect.state (state_of self.new session)) }
     {
-        self.name_crate(item, root)?;
+        let at = item.site.module_id;
+        name_crate(&mut self.local_def_map, at, item.name, root, item.id)?;
         self.put(
-            item.site.module_id,
+            at,
             &[Entry {
                 name: item.name,
                 ns: Namespace::Types,
@@ -130,28 +133,6 @@ impl<'a> DefCollector<'a> {
                 vis: item.vis,
                 origin: Some(ImportOrExternCrate::ExternCrate(item.id)),
             }],
-        )?;
-        Ok(())
-    }
-
-    /// Lets paths begin with an extern crate, if it stands at a crate's root and has a name.
-    fn name_crate(&mut self, item: CrateItem<'_>, root: ModuleId) -> Result<(), AllocError>
-        ensures { OnOk result ((session : Interner) →
-            state_of self.new session
-            ≡ items.naming_crate (items.is_crate_root item.entry.site.module_id) item.entry.name (record { root = root; by = Some item.entry.id }) (state_of self.old session)) }
-    {
-        if !is_crate_root(item.site.module_id) {
-            return Ok(());
-        }
-        let Some(name) = item.name else {
-            return Ok(());
-        };
-        self.local_def_map.insert(
-            name,
-            ExternPreludeEntry {
-                root,
-                by: Some(item.id),
-            },
         )?;
         Ok(())
     }
@@ -167,7 +148,7 @@ impl<'a> DefCollector<'a> {
             self.missing_crates.insert(name)?;
         }
         let kind = DefDiagnosticKind::UnresolvedExternCrate;
-        self.report(item.site, item.node, kind)?;
+        report(&mut self.diagnostics, item.site, item.node, kind)?;
         Ok(())
     }
 }

@@ -1,21 +1,21 @@
 //! Names that items declare.
-ghost use Rattle.std.specs.Prelude.{◌≡◌, ◌∷◌, [], true, OnOk};
+ghost use Rattle.std.specs.Prelude.{◌≡◌, [], false, true, OnOk};
 ghost use Rattle.item_tree.specs.declared.items.ModItemKind.TheVariants as kinds;
 ghost use Rattle.def_ids.specs.declared.interner.Interner.{Interner};
 ghost use Rattle.def_ids.specs.Session.{AddsLocations, session_of};
-ghost use Rattle.def_map.specs.Oracle.{Oracle};
-ghost use Rattle.def_state.specs.Collector.{site_of, state_of};
+ghost use Rattle.def_items.specs.Parts.{site_of};
+ghost use Rattle.def_state.specs.Collector.{state_of};
 ghost use Rattle.def_state.specs.Declarations.{is_declaring};
 ghost use Rattle.def_laws.specs.Performs.{Handled, Performs, Updated};
-ghost use Rattle.def_rules.specs.Items.{declared_effect, declared_entry, struct_effect, written_vis};
+ghost use Rattle.def_rules.specs.Items.{declared_effect, written_vis};
 
 use super::DefCollector;
-use crate::lists::Site;
-use def_bindings::{Entry, Namespace, Visibility, lesser_or_import};
+use def_bindings::{Entry, Namespace, Visibility};
 use def_ids::{
     ConstLoc, Def, EnumLoc, FunctionLoc, Interner, Location, ModuleId, StaticLoc, StructLoc,
     TraitLoc, TypeAliasLoc, UnionLoc,
 };
+use def_items::{Definition, Site, define, define_struct, put};
 use def_map::SourceDatabase;
 use item_tree::{CtorVisibility, ItemNode, ModItemKind, Name, RawVisibility};
 use std::alloc::AllocError;
@@ -50,6 +50,8 @@ impl DefCollector<'_> {
         ensures handled { OnOk result (is_declaring node.now.kind ≡ true →
             Handled (D.oracle db.now) (state_of self.old session.old) (state_of self.new session.new)
             (site_of site.entry) node.now []) }
+        ensures others { OnOk result (is_declaring node.now.kind ≡ false →
+            state_of self.new session.new ≡ state_of self.old session.old) }
         ensures session { AddsLocations (session_of session.old) (session_of session.new) }
         ensures names { session.new.names ≡ session.old.names }
     {
@@ -194,9 +196,13 @@ impl DefCollector<'_> {
         }
         .intern(session)?;
         let at = site.module_id;
-        let vis = self.resolve_visibility(db, session, at, written.visibility);
         let ctor_vis = self.constructor_visibility(db, session, at, written.ctor);
-        self.define_struct(at, written.name, Def::Struct(id), vis, ctor_vis)?;
+        let defined = Definition {
+            name: written.name,
+            def: Def::Struct(id),
+            vis: self.resolve_visibility(db, session, at, written.visibility),
+        };
+        define_struct(&mut self.def_map, &mut self.table, at, defined, ctor_vis)?;
         Ok(())
     }
 
@@ -215,7 +221,13 @@ impl DefCollector<'_> {
             Performs (D.oracle db.now) effect.tasks effect.state (state_of self.new session.now)) }
     {
         let vis = self.resolve_visibility(db, session, module_id, declared.visibility);
-        self.define(module_id, declared.name, declared.ns, declared.def, vis)?;
+        let defined = Definition {
+            name: declared.name,
+            def: declared.def,
+            vis,
+        };
+        let table = &mut self.table;
+        define(&mut self.def_map, table, module_id, declared.ns, defined)?;
         Ok(())
     }
 
@@ -226,85 +238,7 @@ impl DefCollector<'_> {
         ensures updated { OnOk result ((session : Interner) →
             Updated module_id list.now (state_of self.old session) (state_of self.new session)) }
     {
-        self.table.update(&self.def_map.tree, module_id, list)?;
+        put(&self.def_map, &mut self.table, module_id, list)?;
         Ok(())
-    }
-
-    /// Puts a declared name. On `Err` nothing but safety is promised.
-    pub(crate) fn put_declared(
-        &mut self,
-        module_id: ModuleId,
-        name: Name,
-        ns: Namespace,
-        def: Def,
-        vis: Visibility,
-    ) -> Result<(), AllocError>
-        ensures { OnOk result ((session : Interner) →
-            Updated module_id (declared_entry name ns def vis ∷ []) (state_of self.old session) (state_of self.new session)) }
-    {
-        self.put(module_id, &[declared(name, ns, def, vis)])?;
-        Ok(())
-    }
-
-    /// Declares a definition in one namespace. On `Err` nothing but safety is promised.
-    fn define(
-        &mut self,
-        module_id: ModuleId,
-        name: Name,
-        ns: Namespace,
-        def: Def,
-        vis: Visibility,
-    ) -> Result<(), AllocError>
-        ensures { OnOk result ((oracle : Oracle) (session : Interner) →
-            let effect = declared_effect (state_of self.old session) module_id name ns def vis in
-            Performs oracle effect.tasks effect.state (state_of self.new session)) }
-    {
-        self.def_map.declare(module_id.index, def)?;
-        self.put_declared(module_id, name, ns, def, vis)?;
-        Ok(())
-    }
-
-    /// Declares a struct in types, and its constructor in values, which is at most as visible as
-    /// the struct. On `Err` nothing but safety is promised.
-    fn define_struct(
-        &mut self,
-        module_id: ModuleId,
-        name: Name,
-        def: Def,
-        vis: Visibility,
-        ctor_vis: Option<Visibility>,
-    ) -> Result<(), AllocError>
-        ensures { OnOk result ((oracle : Oracle) (session : Interner) →
-            let effect = struct_effect (state_of self.old session) module_id name def vis ctor_vis in
-            Performs oracle effect.tasks effect.state (state_of self.new session)) }
-    {
-        let module = module_id.index;
-        self.def_map.declare(module, def)?;
-        let types = declared(name, Namespace::Types, def, vis);
-        match ctor_vis {
-            Some(ctor_vis) => {
-                let vis = lesser_or_import(&self.def_map.tree, ctor_vis, vis);
-                let values = declared(name, Namespace::Values, def, vis);
-                self.put(module_id, &[types, values])?;
-                Ok(())
-            }
-            None => {
-                self.put(module_id, &[types])?;
-                Ok(())
-            }
-        }
-    }
-}
-
-/// The entry of a declaration.
-fn declared(name: Name, ns: Namespace, def: Def, vis: Visibility) -> Entry<Visibility>
-    ensures { result ≡ declared_entry name ns def vis }
-{
-    Entry {
-        name: Some(name),
-        ns,
-        def,
-        vis,
-        origin: None,
     }
 }

@@ -1,14 +1,15 @@
-//! Items that declare no name: imports that wait, and impls.
+//! Imports that begin to wait.
 ghost use Rattle.std.specs.Prelude.{◌≡◌, [], OnOk};
 ghost use Rattle.item_tree.specs.declared.items.ModItemKind.TheVariants as kinds;
 ghost use Rattle.def_ids.specs.Session.{AddsLocations, session_of};
 ghost use Rattle.def_map.specs.Oracle.{Oracle};
-ghost use Rattle.def_state.specs.Collector.{site_of, state_of};
+ghost use Rattle.def_items.specs.Parts.{site_of};
+ghost use Rattle.def_state.specs.Collector.{state_of};
 ghost use Rattle.def_laws.specs.Performs.{Handled};
 
 use super::DefCollector;
-use crate::lists::Site;
-use def_ids::{ImplLoc, Interner, Location, UseLoc};
+use def_ids::{Interner, Location, UseLoc};
+use def_items::Site;
 use def_steps::{WrittenUse, is_prelude_import, queue_imports};
 use item_tree::{ItemNode, RawVisibility, Seq, UseImport};
 use std::alloc::AllocError;
@@ -44,30 +45,6 @@ impl<'a> DefCollector<'a> {
         };
         let waiting = &mut self.unresolved_imports;
         queue_imports(waiting, site.module_id, written, imports.as_slice())?;
-        Ok(())
-    }
-
-    /// Records an impl. On `Err` nothing but safety is promised.
-    pub fn collect_impl(
-        &mut self,
-        session: &mut Interner,
-        site: Site<'_>,
-        node: &ItemNode,
-        is_trait_impl: bool,
-    ) -> Result<(), AllocError>
-        ensures handled { OnOk result ((oracle : Oracle) → node.now.kind ≡ kinds.Impl is_trait_impl →
-            Handled oracle (state_of self.old session.old) (state_of self.new session.new)
-            (site_of site.entry) node.now []) }
-        ensures session { AddsLocations (session_of session.old) (session_of session.new) }
-        ensures names { session.new.names ≡ session.old.names }
-    {
-        let id = ImplLoc {
-            container: site.module_id,
-            position: site.position(node),
-        }
-        .intern(session)?;
-        self.def_map
-            .define_impl(site.module_id.index, id, is_trait_impl)?;
         Ok(())
     }
 }

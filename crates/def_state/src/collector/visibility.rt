@@ -7,6 +7,7 @@ ghost use Rattle.def_rules.specs.State.{order};
 use super::DefCollector;
 use def_bindings::{VisOrder, Visibility};
 use def_ids::{Interner, ModuleId};
+use def_items::meant_or_public;
 use def_map::{SourceDatabase, resolve_visibility};
 use item_tree::{CtorVisibility, RawVisibility};
 
@@ -21,7 +22,7 @@ impl DefCollector<'_> {
     ) -> Visibility
         ensures { result ≡ written_vis (D.oracle db.now) (state_of self.now session.now) module_id visibility.now }
     {
-        resolve_visibility(
+        meant_or_public(resolve_visibility(
             &self.def_map,
             self.table.table(),
             self.local(),
@@ -29,8 +30,7 @@ impl DefCollector<'_> {
             session,
             module_id,
             visibility,
-        )
-        .unwrap_or(Visibility::Public)
+        ))
     }
 
     /// The visibility of a struct's constructor, if it has one.

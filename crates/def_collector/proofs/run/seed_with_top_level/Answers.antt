@@ -1,5 +1,6 @@
-use Rattle.std.proofs.Common.{◌∙◌}
+use Rattle.std.proofs.Common.{ap, ◌∙◌}
 use Rattle.def_state.specs.Collector.{state_of}
+use Rattle.def_rules.specs.State.{State}
 use Rattle.def_laws.proofs.RecordLaws.{on_ok}
 use Rattle.def_laws.proofs.StartLaws.{attrs_of, cfg_of, starts_disabled, starts_walked, tops_of}
 use Rattle.def_collector.proofs.run.seed_with_top_level.Goals as goal
@@ -9,10 +10,11 @@ returns-in-Some-clause-run g c =
     let oracle = g.D.SourceDatabase.oracle c.args.db.now in
     let first = c.first_tree-tree_id.result in
     let tree = c.item_tree-tree.result in
+    let seeded : State = state_of c.seed.new.collector c.args.session.now in
     on_ok c.report_disabled.result c.report_disabled.ensures (λ last.
-    starts_disabled oracle (state_of c.args.collector.now c.args.session.now) (state_of c.seed.new.collector c.args.session.now) c.args.tree_id first c.top_attrs.result.now c.disabled_by-disabled.result
+    starts_disabled oracle (state_of c.args.collector.now c.args.session.now) seeded c.args.tree_id first c.top_attrs.result.now c.disabled_by-disabled.result
     c.first_tree-tree_id.ensures c.in_ok-seed.ensures (c.top_attrs.ensures ∙ attrs_of oracle first tree c.item_tree-tree.ensures) (c.disabled_by-disabled.ensures ∙ cfg_of oracle first tree c.item_tree-tree.ensures)
-    (state_of c.report_disabled.new.self c.args.session.now) c.in-Some.cfg c.in-Some.is (last c.args.session.now))
+    (record seeded { diagnostics = c.report_disabled.new.diagnostics.items }) c.in-Some.cfg c.in-Some.is (ap (λ d. record seeded { diagnostics = d }) last))
 
 pub returns-clause-run : goal.returns-clause-run
 returns-clause-run g c =

@@ -1,7 +1,7 @@
 use Rattle.std.proofs.Common.{ap, sym, ◌∙◌}
 use Rattle.def_state.specs.declared.collector.DefCollector.{DefCollector}
 use Rattle.def_state.specs.Collector.{state_of}
-use Rattle.def_rules.specs.Imports.{is_own_crate}
+use Rattle.def_rules.specs.Recording.{is_own_crate}
 use Rattle.def_laws.proofs.GlobsLaws.{performs_foreign, performs_own}
 use Rattle.def_imports.proofs.globs.glob_module.Goals as goal
 

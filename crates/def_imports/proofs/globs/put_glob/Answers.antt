@@ -2,7 +2,7 @@ use Rattle.std.proofs.Common.{◌≡◌, List, [], Some, ap, inl, inr, refl, sub
 use Rattle.def_ids.specs.declared.ids.Def.{Def}
 use Rattle.def_laws.specs.Performs.{Performs}
 use Rattle.def_state.specs.Collector.{state_of}
-use Rattle.def_rules.specs.Imports.{glob_tasks}
+use Rattle.def_rules.specs.Recording.{glob_tasks}
 use Rattle.def_rules.specs.State.{Task, world}
 use Rattle.def_laws.proofs.StepsLaws.{performs_listed, performs_none}
 use Rattle.def_imports.proofs.globs.put_glob.Goals as goal

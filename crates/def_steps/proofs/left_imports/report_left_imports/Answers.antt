@@ -1,6 +1,6 @@
 use Rattle.std.proofs.Common.{arith}
 use Rattle.def_modules.specs.Maps.{map_state}
-use Rattle.def_steps.specs.Shown.{missing_in}
+use Rattle.def_crates.specs.Missing.{missing_in}
 use Rattle.def_steps.proofs.LeftLemmas.{LeftSoFar, left_more, left_none, left_whole}
 use Rattle.def_steps.proofs.left_imports.report_left_imports.Goals as goal
 

@@ -1,8 +1,9 @@
 use Rattle.std.proofs.Common.{ap}
 use Rattle.def_ids.specs.Session.{session_of}
-use Rattle.def_state.specs.Collector.{site_of, state_of}
+use Rattle.def_items.specs.Parts.{site_of}
+use Rattle.def_state.specs.Collector.{state_of}
 use Rattle.def_rules.specs.State.{State, with_map}
-use Rattle.def_state.proofs.ItemsLemmas.{handled_extern_block}
+use Rattle.def_items.proofs.ItemsLemmas.{handled_extern_block}
 use Rattle.def_walk.proofs.items.collect_extern_block.Goals as goal
 
 pub returns-clause-handled : goal.returns-clause-handled

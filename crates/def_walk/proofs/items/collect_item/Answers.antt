@@ -1,8 +1,9 @@
-use Rattle.def_state.specs.Collector.{site_of, state_of}
+use Rattle.def_items.proofs.ItemsLemmas.{handled_module}
+use Rattle.def_items.specs.Parts.{site_of}
+use Rattle.def_state.specs.Collector.{state_of}
 use Rattle.def_walk.specs.Walk.{inner_of}
 use Rattle.def_rules.specs.State.{State}
 use Rattle.def_state.proofs.ResultLaws.{if_ok}
-use Rattle.def_state.proofs.ItemsLemmas.{handled_module}
 use Rattle.def_walk.proofs.items.collect_item.Goals as goal
 
 pub returns-in-Mod-clause-handled : goal.returns-in-Mod-clause-handled
@@ -20,8 +21,8 @@ returns-in_ok-collect_crate-in-ExternCrate-clause-handled g c = c.in_ok-collect_
 pub returns-in_ok-list-in-ExternBlock-clause-handled : goal.returns-in_ok-list-in-ExternBlock-clause-handled
 returns-in_ok-list-in-ExternBlock-clause-handled g c = c.in_ok-list-in-ExternBlock.ensures.handled c.in-ExternBlock.is
 
-pub returns-in_ok-collect_impl-in-Impl-clause-handled : goal.returns-in_ok-collect_impl-in-Impl-clause-handled
-returns-in_ok-collect_impl-in-Impl-clause-handled g c = c.in_ok-collect_impl-in-Impl.ensures.handled (g.D.SourceDatabase.oracle c.args.db.now) c.in-Impl.is
+pub returns-in_ok-define_impl-in-Impl-clause-handled : goal.returns-in_ok-define_impl-in-Impl-clause-handled
+returns-in_ok-define_impl-in-Impl-clause-handled g c = c.in_ok-define_impl-in-Impl.ensures.handled (g.D.SourceDatabase.oracle c.args.db.now) (state_of c.args.collector.now c.args.session.now) c.in-Impl.is
 
 pub returns-in_ok-collect_struct-in-Struct-clause-handled : goal.returns-in_ok-collect_struct-in-Struct-clause-handled
 returns-in_ok-collect_struct-in-Struct-clause-handled g c = c.in_ok-collect_struct-in-Struct.ensures.handled c.in-Struct.is

@@ -1,8 +1,9 @@
 use Rattle.std.proofs.Common.{List, ◌∷◌, ◌++◌, ◌∙◌, subst, sym}
 use Rattle.def_ids.specs.Session.{session_of}
-use Rattle.def_state.specs.Collector.{list_site, state_of}
+use Rattle.def_items.specs.Parts.{list_site}
+use Rattle.def_state.specs.Collector.{state_of}
 use Rattle.def_walk.specs.Walk.{inner_of}
-use Rattle.def_rules.specs.Items.{name_text}
+use Rattle.def_rules.specs.Modules.{name_text}
 use Rattle.def_rules.specs.State.{Task, Visit}
 use Rattle.def_laws.specs.Runs.{Leads}
 use Rattle.def_state.proofs.ResultLaws.{if_ok}
@@ -20,7 +21,7 @@ returns-in_default-clause-fewer g c = nothing_less (g.D.SourceDatabase.oracle c.
 
 pub returns-in-Some-disabled-clause-run : goal.returns-in-Some-disabled-clause-run
 returns-in-Some-disabled-clause-run g c =
-    visited_disabled (g.D.SourceDatabase.oracle c.args.db.now) (state_of c.args.collector.now) (state_of c.report_disabled_item.new.self) c.args.session.now (list_site c.args.list.now) c.args.id c.in-Some.node.now _ _
+    visited_disabled (g.D.SourceDatabase.oracle c.args.db.now) (state_of c.args.collector.now c.args.session.now) c.report_disabled_item.new.diagnostics.items (list_site c.args.list.now) c.args.id c.in-Some.node.now _ _
     (node_of (g.D.SourceDatabase.oracle c.args.db.now) c.args.list.now c.args.id _ c.requires c.in-Some.ensures) c.in_ok-disabled.ensures.cfg c.in-Some-disabled.is c.in_ok-disabled.ensures.reported
 
 pub returns-in-Some-disabled-clause-fewer : goal.returns-in-Some-disabled-clause-fewer
@@ -32,13 +33,13 @@ returns-clause-run g c =
     let after = state_of c.collect_item.new.collector c.collect_item.new.session in
     if_ok c.collect_item.result c.collect_item.ensures.handled (λ opened handled.
     subst (λ x. (rest : List Task) → Leads oracle (Visit (list_site c.args.list.now) c.args.id ∷ rest) (state_of x c.args.session.now) (inner_of oracle opened ++ rest) after)
-    (not_disabled c.args.collector.now c.report_disabled_item.new.self c.in_ok-disabled.disabled c.in_default-disabled.is c.in_ok-disabled.ensures.same)
-    (leads_handled (state_of c.report_disabled_item.new.self c.args.session.now) after (list_site c.args.list.now) c.args.id c.in-Some.node.now (inner_of oracle opened)
+    (not_disabled c.args.collector.now c.report_disabled_item.new.diagnostics c.in_ok-disabled.disabled c.in_default-disabled.is c.in_ok-disabled.ensures.same)
+    (leads_handled (state_of (record c.args.collector.now { diagnostics = c.report_disabled_item.new.diagnostics }) c.args.session.now) after (list_site c.args.list.now) c.args.id c.in-Some.node.now (inner_of oracle opened)
     (node_of oracle c.args.list.now c.args.id _ c.requires c.in-Some.ensures) (sym c.in_ok-disabled.ensures.cfg ∙ c.in_default-disabled.is) handled))
 
 pub returns-clause-fewer : goal.returns-clause-fewer
 returns-clause-fewer g c =
     if_ok c.collect_item.result c.collect_item.ensures.handled (λ opened handled.
-    handled_less (g.D.SourceDatabase.oracle c.args.db.now) (state_of c.report_disabled_item.new.self c.args.session.now) (state_of c.collect_item.new.collector c.collect_item.new.session) (list_site c.args.list.now) c.args.id c.in-Some.node.now (inner_of (g.D.SourceDatabase.oracle c.args.db.now) opened)
+    handled_less (g.D.SourceDatabase.oracle c.args.db.now) (state_of (record c.args.collector.now { diagnostics = c.report_disabled_item.new.diagnostics }) c.args.session.now) (state_of c.collect_item.new.collector c.collect_item.new.session) (list_site c.args.list.now) c.args.id c.in-Some.node.now (inner_of (g.D.SourceDatabase.oracle c.args.db.now) opened)
     (name_text (session_of c.args.session.now))
     (node_of (g.D.SourceDatabase.oracle c.args.db.now) c.args.list.now c.args.id _ c.requires c.in-Some.ensures) handled (texts_same c.collect_item.new.session c.args.session.now c.collect_item.ensures.names))

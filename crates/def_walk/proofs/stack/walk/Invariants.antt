@@ -1,8 +1,10 @@
 use Rattle.std.proofs.Common.{◌≡◌, All}
 use Rattle.def_ids.specs.Session.{AddsLocations, session_of}
-use Rattle.def_state.specs.Collector.{list_site, state_of}
+use Rattle.def_items.specs.Parts.{list_site}
+use Rattle.def_state.specs.Collector.{state_of}
 use Rattle.def_walk.specs.Walk.{agenda_of, is_frame_known, walk_measure}
-use Rattle.def_rules.specs.Items.{name_text, walk}
+use Rattle.def_rules.specs.Items.{walk}
+use Rattle.def_rules.specs.Modules.{name_text}
 use Rattle.def_laws.specs.Runs.{Leads}
 use Rattle.def_walk.proofs.stack.walk.Given as goal
 

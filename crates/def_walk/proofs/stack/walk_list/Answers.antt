@@ -1,7 +1,7 @@
 use Rattle.std.proofs.Common.{None, Some, refl, subst, ◌∙◌, arith}
 use Rattle.def_ids.specs.Session.{session_of}
 use Rattle.def_ids.specs.SessionLaws.{adds_refl, adds_trans}
-use Rattle.def_rules.specs.Items.{name_text}
+use Rattle.def_rules.specs.Modules.{name_text}
 use Rattle.def_laws.proofs.StepsLaws.{leads_refl, leads_trans}
 use Rattle.def_state.specs.Collector.{state_of}
 use Rattle.def_walk.specs.Walk.{AreKnown}

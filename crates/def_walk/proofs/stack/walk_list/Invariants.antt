@@ -2,8 +2,8 @@ use Rattle.std.proofs.Common.{◌≡◌, ◌≤◌, ◌++◌, List, length}
 use Rattle.def_ids.specs.Session.{AddsLocations, session_of}
 use Rattle.def_state.specs.Collector.{state_of}
 use Rattle.def_walk.specs.Walk.{frame_tasks, is_frame_known}
-use Rattle.def_state.specs.Lists.{left_of}
-use Rattle.def_rules.specs.Items.{name_text}
+use Rattle.def_items.specs.Lists.{left_of}
+use Rattle.def_rules.specs.Modules.{name_text}
 use Rattle.def_rules.specs.State.{Task}
 use Rattle.def_laws.specs.Runs.{Leads}
 use Rattle.def_laws.specs.Work.{work}

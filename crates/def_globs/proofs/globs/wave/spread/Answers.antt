@@ -16,28 +16,23 @@ frames-init g c = rw (c.in_ok-push.ensures.items, c.new-frames.ensures.items) (w
 pub overflow_add-next : goal.overflow_add-next
 overflow_add-next g c =
     let edges : List (EdgeTo g.row.T-Vis.Denot) = (g.T.BindingTable.content c.frames.table).edges c.in-Some.frame.source in
-    let e : Some c.in-Some-edge_at.edge ≡ slice_get edges c.in-Some.frame.next = c.in-Some-edge_at.ensures.edge in
-    let h : c.in-Some.frame.next < length edges = slice_get_within edges c.in-Some.frame.next c.in-Some-edge_at.edge (sym e) in
-    let few : length edges < 2 ^ 64 = c.in-Some-edge_at.ensures.few in
-    omega arith
+    let h : c.in-Some.frame.next < length edges = slice_get_within edges c.in-Some.frame.next c.in-Some-edge_at.edge (sym c.in-Some-edge_at.ensures.edge) in
+    let few : length edges < 2 ^ 64 = c.in-Some-edge_at.ensures.few in omega arith
 
 pub frames-preserved : goal.frames-preserved
 frames-preserved g c =
     let before = rw c.in-Some.ensures.items at c.frames.invariant in
-    let ends : slice_get ((g.T.BindingTable.content c.frames.table).edges c.in-Some.frame.source) c.in-Some.frame.next ≡ None = sym c.in_default-edge_at.ensures.edge in
-    wave_without (g.T.BindingTable.content c.frames.table) c.pop.new.self.items c.in-Some.frame ends _ _ _ _ _ before
+    wave_without (g.T.BindingTable.content c.frames.table) c.pop.new.self.items c.in-Some.frame (sym c.in_default-edge_at.ensures.edge) _ _ _ _ _ before
 
 pub frames-smaller : goal.frames-smaller
 frames-smaller g c =
-    let content = g.T.BindingTable.content in
     let less = measure_ends (g.O.VisOrder.order c.args.order.now) (g.O.VisOrder.height c.args.order.now) c.args.module c.args.slots.items (g.T.BindingTable.sources c.args.table.now)
     (g.T.BindingTable.content c.args.table.now) (g.T.BindingTable.content c.frames.table) c.pop.new.self.items c.in-Some.frame in
     rw c.in-Some.ensures.items less
 
 pub frames-preserved-else-not-is_empty : goal.frames-preserved-else-not-is_empty
 frames-preserved-else-not-is_empty g c =
-    let empty : vec_len c.in_ok-changed.changed ≡ 0 = eqb-true _ _ (sym c.if-not-is_empty.ensures) in
-    let none : length c.in_ok-changed.changed.items ≡ 0 = sym c.in_ok-changed.changed.ok.0 ∙ empty in
+    let none : length c.in_ok-changed.changed.items ≡ 0 = sym c.in_ok-changed.changed.ok.0 ∙ eqb-true _ _ (sym c.if-not-is_empty.ensures) in
     iterate_on (g.O.VisOrder.order c.args.order.now) (g.O.VisOrder.height c.args.order.now) (g.met.O.VisOrder.lawful c.args.order.now) c.args.module c.args.slots.items (g.T.BindingTable.sources c.args.table.now)
     (g.T.BindingTable.content c.args.table.now) (g.T.BindingTable.content c.frames.table) (g.T.BindingTable.content c.copy_all.new.table)
     c.pop.new.self.items c.frames.frames.items c.push-in-Some-edge_at.new.self.items c.in-Some.frame _ c.in-Some-edge_at.edge c.as_slice.result.now c.in_ok-changed.changed.items
@@ -71,37 +66,28 @@ frames-smaller-in-Continue-branch-4 g c =
     _ c.push-then-not-is_empty.new.self.items some.0 c.in_ok-push-3.ensures.items refl refl some.1
 
 pub returns-clause-closed : goal.returns-clause-closed
-returns-clause-closed g c =
-    let none : length c.frames.frames.items ≡ 0 = sym c.frames.frames.ok.0 ∙ c.in_default.ensures.cases.0 in
-    wave_closed _ _ _ _ _ _ c.frames.frames.items none c.frames.invariant
+returns-clause-closed g c = wave_closed _ _ _ _ _ _ c.frames.frames.items (sym c.frames.frames.ok.0 ∙ c.in_default.ensures.cases.0) c.frames.invariant
 
 pub returns-clause-coherent : goal.returns-clause-coherent
-returns-clause-coherent g c =
-    let none : length c.frames.frames.items ≡ 0 = sym c.frames.frames.ok.0 ∙ c.in_default.ensures.cases.0 in
-    wave_coherent _ _ _ _ _ _ c.frames.frames.items none c.frames.invariant
+returns-clause-coherent g c = wave_coherent _ _ _ _ _ _ c.frames.frames.items (sym c.frames.frames.ok.0 ∙ c.in_default.ensures.cases.0) c.frames.invariant
 
 pub returns-clause-raised : goal.returns-clause-raised
-returns-clause-raised g c =
-    let none : length c.frames.frames.items ≡ 0 = sym c.frames.frames.ok.0 ∙ c.in_default.ensures.cases.0 in
-    wave_raised _ _ _ _ _ _ c.frames.frames.items none c.frames.invariant
+returns-clause-raised g c = wave_raised _ _ _ _ _ _ c.frames.frames.items (sym c.frames.frames.ok.0 ∙ c.in_default.ensures.cases.0) c.frames.invariant
 
 pub returns-then-is_empty-clause-copies : goal.returns-then-is_empty-clause-copies
 returns-then-is_empty-clause-copies g c = none
 
 pub returns-then-is_empty-clause-closed : goal.returns-then-is_empty-clause-closed
 returns-then-is_empty-clause-closed g c =
-    let empty : length c.args.slots.items ≡ 0 = sym c.args.slots.ok.0 ∙ eqb-true _ _ (sym c.if-is_empty.ensures) in
-    wave_closed _ _ _ _ _ _ [] refl (wave_still (g.O.VisOrder.order c.args.order.now) c.args.module c.args.slots.items (g.T.BindingTable.content c.args.table.now) empty)
+    wave_closed _ _ _ _ _ _ [] refl (wave_still (g.O.VisOrder.order c.args.order.now) c.args.module c.args.slots.items (g.T.BindingTable.content c.args.table.now) (sym c.args.slots.ok.0 ∙ eqb-true _ _ (sym c.if-is_empty.ensures)))
 
 pub returns-then-is_empty-clause-coherent : goal.returns-then-is_empty-clause-coherent
 returns-then-is_empty-clause-coherent g c =
-    let empty : length c.args.slots.items ≡ 0 = sym c.args.slots.ok.0 ∙ eqb-true _ _ (sym c.if-is_empty.ensures) in
-    wave_coherent _ _ _ _ _ _ [] refl (wave_still (g.O.VisOrder.order c.args.order.now) c.args.module c.args.slots.items (g.T.BindingTable.content c.args.table.now) empty)
+    wave_coherent _ _ _ _ _ _ [] refl (wave_still (g.O.VisOrder.order c.args.order.now) c.args.module c.args.slots.items (g.T.BindingTable.content c.args.table.now) (sym c.args.slots.ok.0 ∙ eqb-true _ _ (sym c.if-is_empty.ensures)))
 
 pub returns-then-is_empty-clause-raised : goal.returns-then-is_empty-clause-raised
 returns-then-is_empty-clause-raised g c =
-    let empty : length c.args.slots.items ≡ 0 = sym c.args.slots.ok.0 ∙ eqb-true _ _ (sym c.if-is_empty.ensures) in
-    wave_raised _ _ _ _ _ _ [] refl (wave_still (g.O.VisOrder.order c.args.order.now) c.args.module c.args.slots.items (g.T.BindingTable.content c.args.table.now) empty)
+    wave_raised _ _ _ _ _ _ [] refl (wave_still (g.O.VisOrder.order c.args.order.now) c.args.module c.args.slots.items (g.T.BindingTable.content c.args.table.now) (sym c.args.slots.ok.0 ∙ eqb-true _ _ (sym c.if-is_empty.ensures)))
 
 pub returns-in_err-changed-clause-stays : goal.returns-in_err-changed-clause-stays
 returns-in_err-changed-clause-stays g c = stays_then _ _ _ (stays_copies _ _ _ c.frames.invariant.copies) c.copy_all.ensures.stays

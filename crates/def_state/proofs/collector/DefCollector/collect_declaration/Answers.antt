@@ -2,10 +2,11 @@ use Rattle.std.proofs.Common.{ap, refl, ◌∙◌}
 use Rattle.def_ids.specs.declared.ids.Def.TheVariants as def
 use Rattle.def_ids.specs.Session.{session_of, UnionItem, EnumItem, FunctionItem, ConstItem, StaticItem, TraitItem, TypeAliasItem}
 use Rattle.def_bindings.specs.declared.bindings.Namespace.TheVariants.{Types, Values}
-use Rattle.def_state.specs.Collector.{site_of, state_of}
-use Rattle.def_rules.specs.Items.{rule_of}
+use Rattle.def_items.specs.Parts.{site_of}
+use Rattle.def_state.specs.Collector.{state_of}
+use Rattle.def_rules.specs.Rules.{rule_of}
 use Rattle.def_rules.specs.State.{State, with_map}
-use Rattle.def_state.proofs.ItemsLemmas.{handled_declared, handled_unnamed_const}
+use Rattle.def_items.proofs.ItemsLemmas.{handled_declared, handled_unnamed_const}
 use Rattle.def_state.proofs.collector.DefCollector.collect_declaration.Goals as goal
 use Rattle.item_tree.specs.declared.items.ModItemKind.TheVariants.{Const}
 

@@ -1,7 +1,8 @@
 use Rattle.std.proofs.Common.{[], ◌∷◌, Option, Some, None, subst, sym}
 use Rattle.def_ids.specs.declared.ids.ModuleId.{ModuleId}
-use Rattle.def_state.specs.Collector.{site_of, state_of}
-use Rattle.def_rules.specs.Items.{crate_effect, crate_entry}
+use Rattle.def_items.specs.Parts.{site_of}
+use Rattle.def_state.specs.Collector.{state_of}
+use Rattle.def_rules.specs.ExternCrates.{crate_effect, crate_entry}
 use Rattle.def_laws.specs.Performs.{Performs}
 use Rattle.def_rules.specs.State.{Effect, State}
 use Rattle.def_laws.proofs.StepsLaws.{performs_none, performs_updated}

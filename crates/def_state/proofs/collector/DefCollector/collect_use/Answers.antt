@@ -1,9 +1,10 @@
 use Rattle.std.proofs.Common.{ap, ◌∙◌}
 use Rattle.std.specs.Prelude.{◌++◌}
 use Rattle.def_ids.specs.Session.{session_of}
-use Rattle.def_state.specs.Collector.{site_of, state_of}
+use Rattle.def_items.specs.Parts.{site_of}
+use Rattle.def_state.specs.Collector.{state_of}
 use Rattle.def_rules.specs.State.{State}
-use Rattle.def_state.proofs.ItemsLemmas.{handled_use, imports_at}
+use Rattle.def_items.proofs.ItemsLemmas.{handled_use, imports_at}
 use Rattle.def_state.proofs.collector.DefCollector.collect_use.Goals as goal
 
 pub returns-clause-handled : goal.returns-clause-handled

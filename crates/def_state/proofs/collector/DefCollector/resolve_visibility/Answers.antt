@@ -11,7 +11,7 @@ use Rattle.def_state.proofs.collector.DefCollector.resolve_visibility.Goals as g
 
 pub returns : goal.returns
 returns g c =
-    c.unwrap_or.ensures
+    c.meant_or_public.ensures
     ∙ ap (λ seen. unwrap_or seen Public)
     (c.resolve_visibility.ensures
     ∙ ap (λ table. resolve_visibility (record (world (g.D.SourceDatabase.oracle c.args.db.now) (state_of c.args.self.now c.args.session.now)) { map = record { facts = facts_of c.args.self.now.def_map; content = bound_by table }; local = local_view c.local.result.now }) c.args.module_id c.args.visibility.now) c.table.ensures

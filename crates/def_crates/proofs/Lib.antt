@@ -1,0 +1,3 @@
+pub mod NumbersLemmas
+pub mod PlacesLemmas
+pub mod PathLemmas

@@ -1,0 +1,2 @@
+pub mod ItemsLemmas
+pub mod OrderLemmas

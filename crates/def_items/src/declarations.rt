@@ -1,0 +1,99 @@
+//! Names that items declare: each definition is recorded in its module, and put there.
+ghost use Rattle.std.specs.Prelude.{◌≡◌, ◌∷◌, [], OnOk};
+ghost use Rattle.def_map.specs.Oracle.{Oracle};
+ghost use Rattle.def_items.specs.Parts.{with_parts};
+ghost use Rattle.def_laws.specs.Performs.{Performs, Updated};
+ghost use Rattle.def_rules.specs.Items.{declared_effect, declared_entry, struct_effect};
+ghost use Rattle.def_rules.specs.State.{State};
+
+use def_bindings::{Entry, Namespace, Visibility, lesser_or_import};
+use def_globs::Globs;
+use def_ids::{Def, ModuleId};
+use def_map::{MapData, Table};
+use item_tree::Name;
+use std::alloc::AllocError;
+
+/// A definition, the name that it is declared under, and how visible it is.
+#[derive(Clone, Copy)]
+pub struct Definition {
+    pub name: Name,
+    pub def: Def,
+    pub vis: Visibility,
+}
+
+impl Definition {
+    /// Its entry in a namespace.
+    pub(crate) fn entry(self, ns: Namespace) -> Entry<Visibility>
+        ensures { result ≡ declared_entry self.name ns self.def self.vis }
+    {
+        Entry {
+            name: Some(self.name),
+            ns,
+            def: self.def,
+            vis: self.vis,
+            origin: None,
+        }
+    }
+}
+
+/// Puts entries in a module, and lets what changes travel along the edges of globs. On `Err`
+/// nothing but safety is promised.
+pub fn put(
+    def_map: &MapData,
+    table: &mut Globs<Table>,
+    module_id: ModuleId,
+    list: &[Entry<Visibility>],
+) -> Result<(), AllocError>
+    ensures { OnOk result ((s : State) →
+        Updated module_id list.now (with_parts s def_map.now table.old) (with_parts s def_map.now table.new)) }
+{
+    table.update(&def_map.tree, module_id, list)?;
+    Ok(())
+}
+
+/// Declares a definition in one namespace. On `Err` nothing but safety is promised.
+pub fn define(
+    def_map: &mut MapData,
+    table: &mut Globs<Table>,
+    module_id: ModuleId,
+    ns: Namespace,
+    defined: Definition,
+) -> Result<(), AllocError>
+    ensures { OnOk result ((oracle : Oracle) (s : State) →
+        let effect = declared_effect (with_parts s def_map.old table.old) module_id defined.name ns defined.def defined.vis in
+        Performs oracle effect.tasks effect.state (with_parts s def_map.new table.new)) }
+{
+    def_map.declare(module_id.index, defined.def)?;
+    put(def_map, table, module_id, &[defined.entry(ns)])?;
+    Ok(())
+}
+
+/// Declares a struct in types, and its constructor in values, which is at most as visible as the
+/// struct. On `Err` nothing but safety is promised.
+pub fn define_struct(
+    def_map: &mut MapData,
+    table: &mut Globs<Table>,
+    module_id: ModuleId,
+    defined: Definition,
+    ctor_vis: Option<Visibility>,
+) -> Result<(), AllocError>
+    ensures { OnOk result ((oracle : Oracle) (s : State) →
+        let effect = struct_effect (with_parts s def_map.old table.old) module_id defined.name defined.def defined.vis ctor_vis in
+        Performs oracle effect.tasks effect.state (with_parts s def_map.new table.new)) }
+{
+    let module = module_id.index;
+    def_map.declare(module, defined.def)?;
+    let types = defined.entry(Namespace::Types);
+    match ctor_vis {
+        Some(ctor_vis) => {
+            let vis = lesser_or_import(&def_map.tree, ctor_vis, defined.vis);
+            let values = Definition { vis, ..defined }.entry(Namespace::Values);
+            put(def_map, table, module_id, &[types, values])?;
+            Ok(())
+        }
+        None => {
+            put(def_map, table, module_id, &[types])?;
+            Ok(())
+        }
+    }
+}

@@ -1,0 +1,23 @@
+//! What a walk does with an item, each step over the parts of the state that it changes: the lists
+//! that it goes over, where their items stand, and what an item declares, records and reports.
+#![tactic(auto)]
+
+mod declarations;
+mod extern_crates;
+mod impls;
+mod item_order;
+mod lists;
+mod mod_dirs;
+mod modules;
+mod reports;
+mod visibility;
+
+pub use declarations::{Definition, define, define_struct, put};
+pub use extern_crates::name_crate;
+pub use impls::define_impl;
+pub use item_order::is_crate_root;
+pub use lists::{Frame, ItemList, Site, disabled_by, top_items};
+pub use mod_dirs::ModDirs;
+pub use modules::{ChildModule, push_child_module};
+pub use reports::{report, report_disabled, report_disabled_item};
+pub use visibility::meant_or_public;

@@ -1,0 +1,119 @@
+//! Lists of items, and where their items stand.
+ghost use Rattle.std.specs.Prelude.{◌≡◌, ◌<◌, [], true, Some, is_some, option_and_then, option_map, slice_get, unwrap_or, IfOk, OnOk};
+ghost use Rattle.item_tree.specs.Attrs.{cfg_in};
+ghost use Rattle.def_ids.specs.Ids.{is_same_module};
+ghost use Rattle.def_modules.specs.Updates.{set_where};
+ghost use Rattle.def_items.specs.Lists.{left_of, listed};
+ghost use Rattle.def_items.specs.Parts.{directories_of, site_of, tree_in};
+ghost use Rattle.def_rules.specs.Items.{ordered, position_of};
+
+use crate::item_order::{crates_first, is_crate_root};
+use crate::mod_dirs::ModDirs;
+use def_ids::{ItemContainerId, ModuleId};
+use def_parts::ModDir;
+use item_tree::{CfgExpr, FileAstId, InFile, ItemNode, ItemTree, ModItemId, TreeId};
+use std::alloc::{AllocError, Global};
+
+/// A list of items in a module that is to be walked.
+#[derive(Drop)]
+pub struct ItemList<'a> {
+    pub module_id: ModuleId,
+    /// The module, or an extern block in it.
+    pub container: ItemContainerId,
+    pub tree_id: TreeId,
+    /// None where the database lacks the tree.
+    pub tree: Option<&'a ItemTree>,
+    pub items: &'a [ModItemId],
+    /// Where the files of the module's children lie.
+    pub dir: ModDir,
+}
+
+/// A list that is being walked, from the place `next` on. The last of a stack of frames goes first.
+#[derive(Drop)]
+pub struct Frame<'a> {
+    pub list: ItemList<'a>,
+    /// The items in the order of their visits, where that differs from the list's.
+    pub sorted: Option<Vec<ModItemId>>,
+    pub next: usize,
+}
+
+impl<'a> Frame<'a> {
+    /// Begins to walk a list: the directory of its module is stored, and at a crate's root extern
+    /// crates are to go first. On `Err` nothing but safety is promised.
+    pub fn open(
+        alloc: Global,
+        mod_dirs: &mut ModDirs,
+        list: ItemList<'a>,
+    ) -> Result<Frame<'a>, AllocError>
+        ensures list { IfOk result (λ frame. frame.list ≡ list.entry) }
+        ensures left { IfOk result (λ frame. left_of frame ≡ ordered (tree_in list.entry) list.entry.module_id list.entry.items.now) }
+        ensures entered { OnOk result (directories_of mod_dirs.new
+            ≡ set_where (is_same_module list.entry.module_id) (Some list.entry.dir) (directories_of mod_dirs.old)) }
+    {
+        let dir = list.dir.clone()?;
+        mod_dirs.insert(list.module_id, dir)?;
+        let sorted = if is_crate_root(list.module_id) {
+            Some(crates_first(alloc, list.tree, list.items)?)
+        } else {
+            None
+        };
+        Ok(Frame {
+            list,
+            sorted,
+            next: 0,
+        })
+    }
+
+    /// The next item, if one is left.
+    pub fn next_item(&self) -> Option<ModItemId>
+        ensures item { result ≡ slice_get (listed self.now) self.now.next }
+        ensures room { is_some result ≡ true → self.now.next < usize.MAX }
+    {
+        match &self.sorted {
+            Some(sorted) => sorted.as_slice().get(self.next).copied(),
+            None => self.list.items.get(self.next).copied(),
+        }
+    }
+}
+
+/// Where the items of a list stand: their module, what contains them (the module, or an extern
+/// block in it), the tree that holds them, and the directory of the module.
+#[derive(Clone, Copy)]
+pub struct Site<'a> {
+    pub module_id: ModuleId,
+    pub container: ItemContainerId,
+    pub tree_id: TreeId,
+    pub dir: &'a ModDir,
+}
+
+impl Site<'_> {
+    /// The position of one of its items.
+    pub fn position(self, node: &ItemNode) -> InFile<FileAstId>
+        ensures { result ≡ position_of (site_of self.entry) node.now }
+    {
+        InFile {
+            file: self.tree_id.file,
+            value: node.ast_id,
+        }
+    }
+}
+
+/// The condition that disables a whole tree, if there is a tree and one does.
+pub fn disabled_by(tree: Option<&ItemTree>) -> Option<CfgExpr>
+    ensures { result ≡ option_and_then (λ t. cfg_in t.now.attrs) tree.entry }
+{
+    match tree {
+        Some(tree) => tree.top_level_attrs().disabled_by(),
+        None => None,
+    }
+}
+
+/// The items of a tree that stand in no other. A tree that is not there has none.
+pub fn top_items<'a>(tree: Option<&'a ItemTree>) -> &'a [ModItemId]
+    ensures { result.now ≡ unwrap_or (option_map (λ t. t.now.top) tree.entry) [] }
+{
+    match tree {
+        Some(tree) => tree.top_level_items(),
+        None => &[],
+    }
+}

@@ -1,0 +1,36 @@
+//! Where the files of modules lie.
+ghost use Rattle.std.specs.Prelude.{◌≡◌, None, Some, OnOk};
+ghost use Rattle.def_ids.specs.Ids.{is_same_module};
+ghost use Rattle.def_modules.specs.Updates.{set_where};
+ghost use Rattle.def_items.specs.Parts.{directories_of};
+
+use def_ids::ModuleId;
+use def_parts::ModDir;
+use indexmap::IndexMap;
+use std::alloc::{AllocError, Global};
+
+/// The directory of each module whose items were walked.
+#[derive(Drop)]
+pub struct ModDirs {
+    dirs: IndexMap<ModuleId, ModDir>,
+}
+
+impl ModDirs {
+    /// No directory.
+    pub fn new(alloc: Global) -> ModDirs
+        ensures { directories_of result ≡ (λ at. None) }
+    {
+        ModDirs {
+            dirs: IndexMap::new(alloc),
+        }
+    }
+
+    /// Stores the directory of a module, in the place of an earlier one.
+    pub(crate) fn insert(&mut self, module_id: ModuleId, dir: ModDir) -> Result<(), AllocError>
+        ensures { OnOk result (directories_of self.new
+            ≡ set_where (is_same_module module_id) (Some dir) (directories_of self.old)) }
+    {
+        self.dirs.insert(module_id, dir)?;
+        Ok(())
+    }
+}

@@ -1,5 +1,0 @@
-use Rattle.std.proofs.Common.{rules}
-use Rattle.def_steps.proofs.item_order.crates_first.Goals as goal
-
-pub returns : goal.returns
-returns c = search rules
