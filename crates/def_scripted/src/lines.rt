@@ -2,7 +2,7 @@
 
 use crate::fault::Fault;
 use def_bindings::{ImportOrExternCrate, Visibility};
-use def_ids::{Def, Interner, MacroId, TraitId};
+use def_ids::{Def, Interner, MacroId, ModuleId, TraitId};
 use def_map::{DefMap, Item, ItemScope, PerNs};
 use def_rules::{Collected, DefDiagnostic, DefDiagnosticKind, Edge, LeftImport};
 use item_tree::{Crate, HirFileId, ModPath, Name, PathKind, Text};
@@ -24,29 +24,47 @@ struct DefText {
 impl fmt::Display for DefText {
     fn fmt<W: fmt::Write>(&self, f: &mut fmt::Formatter<W>) -> fmt::Result {
         match self.def {
-            Def::Module(id) => {
-                let index = id.index;
-                if id.map.krate == self.krate {
-                    write!(f, "mod:{index}")
-                } else {
-                    let krate = id.map.krate.0;
-                    write!(f, "mod:{krate}/{index}")
-                }
+            Def::Module(id) => write_module(f, self.krate, id),
+            def => {
+                let (kind, number) = numbered(def);
+                write_id(f, kind, number)
             }
-            Def::Function(id) => write_id(f, "fn", id.0),
-            Def::Struct(id) => write_id(f, "struct", id.0),
-            Def::Union(id) => write_id(f, "union", id.0),
-            Def::Enum(id) => write_id(f, "enum", id.0),
-            Def::Variant(id) => write_id(f, "variant", id.0),
-            Def::Const(id) => write_id(f, "const", id.0),
-            Def::Static(id) => write_id(f, "static", id.0),
-            Def::Trait(id) => write_id(f, "trait", id.0),
-            Def::TypeAlias(id) => write_id(f, "type", id.0),
-            Def::Builtin(number) => write!(f, "builtin:{number}"),
-            Def::Macro(MacroId::MacroRules(id)) => write_id(f, "macro_rules", id.0),
-            Def::Macro(MacroId::Macro2(id)) => write_id(f, "macro", id.0),
-            Def::Macro(MacroId::ProcMacro(id)) => write_id(f, "proc_macro", id.0),
         }
+    }
+}
+
+/// A module of the crate in work by its number, and any other one with its crate.
+fn write_module<W: fmt::Write>(
+    f: &mut fmt::Formatter<W>,
+    krate: Crate,
+    id: ModuleId,
+) -> fmt::Result {
+    let index = id.index;
+    if id.map.krate == krate {
+        write_id(f, "mod", index)
+    } else {
+        let krate = id.map.krate.0;
+        write!(f, "mod:{krate}/{index}")
+    }
+}
+
+/// The kind and the number of a definition.
+fn numbered(def: Def) -> (&'static str, usize) {
+    match def {
+        Def::Module(id) => ("mod", id.index),
+        Def::Function(id) => ("fn", id.0),
+        Def::Struct(id) => ("struct", id.0),
+        Def::Union(id) => ("union", id.0),
+        Def::Enum(id) => ("enum", id.0),
+        Def::Variant(id) => ("variant", id.0),
+        Def::Const(id) => ("const", id.0),
+        Def::Static(id) => ("static", id.0),
+        Def::Trait(id) => ("trait", id.0),
+        Def::TypeAlias(id) => ("type", id.0),
+        Def::Builtin(number) => ("builtin", number as usize),
+        Def::Macro(MacroId::MacroRules(id)) => ("macro_rules", id.0),
+        Def::Macro(MacroId::Macro2(id)) => ("macro", id.0),
+        Def::Macro(MacroId::ProcMacro(id)) => ("proc_macro", id.0),
     }
 }
 
@@ -115,21 +133,30 @@ impl fmt::Display for FileText {
 /// Prints a module, with its parent and its name.
 fn print_module<W: io::Write>(
     session: &Interner,
-    map: &DefMap,
+    parent: Option<usize>,
     index: usize,
     name: Option<Name>,
     out: &mut W,
-) -> Result<(), Fault> {
-    let Some(parent) = map.parent(index) else {
-        writeln!(out, "module {index} - crate")?;
-        return Ok(());
+) -> io::Result<()> {
+    let Some(parent) = parent else {
+        return writeln!(out, "module {index} - crate");
     };
     let name = match name {
         Some(name) => text_of(session, name),
         None => "",
     };
-    writeln!(out, "module {index} {parent} {name}")?;
-    Ok(())
+    writeln!(out, "module {index} {parent} {name}")
+}
+
+/// Prints what a name is bound to, and ends the line.
+fn print_item<W: io::Write>(krate: Crate, item: Item, out: &mut W) -> io::Result<()> {
+    let def = DefText {
+        krate,
+        def: item.def,
+    };
+    let vis = VisibilityText(item.vis);
+    let origin = OriginText(item.import);
+    writeln!(out, "{def} {vis} {origin}")
 }
 
 /// Prints what a name is bound to in a namespace of a module, if it is bound there.
@@ -140,21 +167,14 @@ fn print_binding<W: io::Write>(
     namespace: &str,
     item: Option<Item>,
     out: &mut W,
-) -> Result<(), Fault> {
-    let Some(item) = item else {
-        return Ok(());
-    };
-    let def = DefText {
-        krate,
-        def: item.def,
-    };
-    let vis = VisibilityText(item.vis);
-    let origin = OriginText(item.import);
-    writeln!(
-        out,
-        "binding {index} {name} {namespace} {def} {vis} {origin}"
-    )?;
-    Ok(())
+) -> io::Result<()> {
+    match item {
+        Some(item) => {
+            write!(out, "binding {index} {name} {namespace} ")?;
+            print_item(krate, item, out)
+        }
+        None => Ok(()),
+    }
 }
 
 /// Prints the bindings of a module, by the bytes of their names.
@@ -164,7 +184,7 @@ fn print_bindings<W: io::Write>(
     index: usize,
     bindings: &[(Name, PerNs)],
     out: &mut W,
-) -> Result<(), Fault> {
+) -> io::Result<()> {
     for (name, found) in bindings {
         let name = text_of(session, *name);
         print_binding(krate, index, name, "types", found.types, out)?;
@@ -174,98 +194,132 @@ fn print_bindings<W: io::Write>(
     Ok(())
 }
 
+/// Prints a trait that a module has without a name.
+fn print_trait<W: io::Write>(
+    index: usize,
+    id: TraitId,
+    vis: Visibility,
+    out: &mut W,
+) -> io::Result<()> {
+    let number = id.0;
+    let vis = VisibilityText(vis);
+    writeln!(out, "trait {index} trait:{number} {vis}")
+}
+
 /// Prints the traits that a module has without a name.
 fn print_traits<W: io::Write>(
     index: usize,
     traits: &[(TraitId, Visibility)],
     out: &mut W,
-) -> Result<(), Fault> {
+) -> io::Result<()> {
     for (id, vis) in traits {
-        let number = id.0;
-        let vis = VisibilityText(*vis);
-        writeln!(out, "trait {index} trait:{number} {vis}")?;
+        print_trait(index, *id, *vis, out)?;
     }
     Ok(())
 }
 
 /// Prints an edge of a glob.
-fn print_edge<W: io::Write>(edge: Edge, out: &mut W) -> Result<(), Fault> {
+fn print_edge<W: io::Write>(edge: &Edge, out: &mut W) -> io::Result<()> {
     let source = edge.source.index;
     let importer = edge.importer.index;
     let vis = VisibilityText(edge.vis);
     let use_id = edge.glob.use_id.0;
     let idx = edge.glob.idx;
-    writeln!(out, "edge {source} {importer} {vis} {use_id}.{idx}")?;
-    Ok(())
+    writeln!(out, "edge {source} {importer} {vis} {use_id}.{idx}")
 }
 
-fn print_diagnostic<W: io::Write>(diagnostic: &DefDiagnostic, out: &mut W) -> Result<(), Fault> {
+fn diagnostic_word(kind: &DefDiagnosticKind) -> &'static str {
+    match kind {
+        DefDiagnosticKind::UnresolvedModule { .. } => "unresolved-module",
+        DefDiagnosticKind::UnresolvedExternCrate => "unresolved-extern-crate",
+        DefDiagnosticKind::UnconfiguredCode { .. } => "unconfigured",
+        DefDiagnosticKind::UnresolvedImport { .. } => "unresolved-import",
+    }
+}
+
+/// Prints a diagnostic: its kind, the module and the item that it speaks of, and what it says.
+fn print_diagnostic<W: io::Write>(diagnostic: &DefDiagnostic, out: &mut W) -> io::Result<()> {
+    let word = diagnostic_word(&diagnostic.kind);
     let module = diagnostic.module.index;
     let file = FileText(diagnostic.ast_id.file);
     let item = diagnostic.ast_id.value.0;
-    match &diagnostic.kind {
+    write!(out, "diag {word} {module} {file}:{item}")?;
+    print_detail(&diagnostic.kind, out)
+}
+
+/// Prints what a diagnostic says beside its kind, and ends the line.
+fn print_detail<W: io::Write>(kind: &DefDiagnosticKind, out: &mut W) -> io::Result<()> {
+    match kind {
         DefDiagnosticKind::UnresolvedModule { candidates } => {
-            write!(out, "diag unresolved-module {module} {file}:{item} ")?;
-            print_candidates(candidates.as_slice(), out)?;
+            print_candidates(candidates.as_slice(), out)
         }
-        DefDiagnosticKind::UnresolvedExternCrate => {
-            writeln!(out, "diag unresolved-extern-crate {module} {file}:{item}")?;
-        }
+        DefDiagnosticKind::UnresolvedExternCrate => writeln!(out),
         DefDiagnosticKind::UnconfiguredCode { cfg } => {
             let cfg = cfg.0;
-            writeln!(out, "diag unconfigured {module} {file}:{item} {cfg}")?;
+            writeln!(out, " {cfg}")
         }
-        DefDiagnosticKind::UnresolvedImport { index } => {
-            writeln!(out, "diag unresolved-import {module} {file}:{item} {index}")?;
-        }
+        DefDiagnosticKind::UnresolvedImport { index } => writeln!(out, " {index}"),
     }
-    Ok(())
 }
 
 /// Prints the files that were looked for, and ends the line.
-fn print_candidates<W: io::Write>(candidates: &[Text], out: &mut W) -> Result<(), Fault> {
-    let mut is_due = false;
+fn print_candidates<W: io::Write>(candidates: &[Text], out: &mut W) -> io::Result<()> {
+    write!(out, " ")?;
+    let mut before = "";
     for candidate in candidates {
-        if is_due {
-            write!(out, ",")?;
-        }
         let candidate = candidate.as_str();
-        write!(out, "{candidate}")?;
-        is_due = true;
+        write!(out, "{before}{candidate}")?;
+        before = ",";
     }
-    writeln!(out)?;
+    writeln!(out)
+}
+
+/// The word with which a path begins, if one does.
+fn path_word(kind: PathKind) -> &'static str {
+    match kind {
+        PathKind::Plain | PathKind::Abs => "",
+        PathKind::Crate => "crate",
+        PathKind::Super(0) => "self",
+        PathKind::Super(_) => "super",
+        PathKind::DollarCrate(_) => "$",
+    }
+}
+
+/// Prints the words with which a path begins, if any.
+fn print_path_start<W: io::Write>(kind: PathKind, out: &mut W) -> io::Result<()> {
+    let word = path_word(kind);
+    write!(out, "{word}")?;
+    match kind {
+        PathKind::Super(levels) => print_levels(levels, out),
+        PathKind::DollarCrate(krate) => {
+            let number = krate.0;
+            write!(out, "{number}")
+        }
+        _ => Ok(()),
+    }
+}
+
+/// Prints the levels of a path past its first one.
+fn print_levels<W: io::Write>(levels: u8, out: &mut W) -> io::Result<()> {
+    for _ in 1..levels {
+        write!(out, "::super")?;
+    }
     Ok(())
 }
 
-/// Prints the word or words with which a path begins, if any. Answers whether a separator is due.
-fn print_path_start<W: io::Write>(kind: PathKind, out: &mut W) -> Result<bool, Fault> {
-    match kind {
-        PathKind::Plain => return Ok(false),
-        PathKind::Abs => {}
-        PathKind::Crate => write!(out, "crate")?,
-        PathKind::Super(0) => write!(out, "self")?,
-        PathKind::Super(levels) => {
-            write!(out, "super")?;
-            for _ in 1..levels {
-                write!(out, "::super")?;
-            }
-        }
-        PathKind::DollarCrate(krate) => {
-            let number = krate.0;
-            write!(out, "${number}")?;
-        }
+/// Prints a segment of a path, behind a separator where one is due.
+fn print_segment<W: io::Write>(is_due: bool, segment: &str, out: &mut W) -> io::Result<()> {
+    if is_due {
+        write!(out, "::")?;
     }
-    Ok(true)
+    write!(out, "{segment}")
 }
 
-fn print_path<W: io::Write>(session: &Interner, path: &ModPath, out: &mut W) -> Result<(), Fault> {
-    let mut is_due = print_path_start(path.kind, out)?;
+fn print_path<W: io::Write>(session: &Interner, path: &ModPath, out: &mut W) -> io::Result<()> {
+    print_path_start(path.kind, out)?;
+    let mut is_due = !matches!(path.kind, PathKind::Plain);
     for segment in &path.segments {
-        if is_due {
-            write!(out, "::")?;
-        }
-        let segment = text_of(session, *segment);
-        write!(out, "{segment}")?;
+        print_segment(is_due, text_of(session, *segment), out)?;
         is_due = true;
     }
     Ok(())
@@ -276,12 +330,11 @@ fn print_left_import<W: io::Write>(
     session: &Interner,
     import: &LeftImport,
     out: &mut W,
-) -> Result<(), Fault> {
+) -> io::Result<()> {
     let module = import.module.index;
     write!(out, "left import {module} ")?;
     print_path(session, &import.path, out)?;
-    writeln!(out)?;
-    Ok(())
+    writeln!(out)
 }
 
 /// What a scope binds, by the bytes of the names.
@@ -323,6 +376,43 @@ fn sorted_edges(alloc: Global, edges: &[Edge]) -> Result<Vec<Edge>, AllocError> 
     Ok(found)
 }
 
+/// Prints the modules of a map.
+fn print_modules<W: io::Write>(session: &Interner, map: &DefMap, out: &mut W) -> io::Result<()> {
+    for (index, module) in map.modules().iter().enumerate() {
+        print_module(session, map.parent(index), index, module.name, out)?;
+    }
+    Ok(())
+}
+
+/// Prints what the scope of a module binds.
+fn print_scope<W: io::Write>(
+    alloc: Global,
+    session: &Interner,
+    map: &DefMap,
+    index: usize,
+    out: &mut W,
+) -> Result<(), Fault> {
+    if let Some(scope) = map.scope(index) {
+        let bindings = sorted(alloc, session, &scope)?;
+        print_bindings(session, map.id().krate, index, bindings.as_slice(), out)?;
+    }
+    Ok(())
+}
+
+/// Prints the traits that the scope of a module has without a name.
+fn print_unnamed<W: io::Write>(
+    alloc: Global,
+    map: &DefMap,
+    index: usize,
+    out: &mut W,
+) -> Result<(), Fault> {
+    if let Some(scope) = map.scope(index) {
+        let traits = sorted_traits(alloc, &scope)?;
+        print_traits(index, traits.as_slice(), out)?;
+    }
+    Ok(())
+}
+
 /// Prints the modules of a map, and what their scopes bind.
 fn print_map<W: io::Write>(
     alloc: Global,
@@ -330,21 +420,41 @@ fn print_map<W: io::Write>(
     map: &DefMap,
     out: &mut W,
 ) -> Result<(), Fault> {
-    let krate = map.id().krate;
-    for (index, module) in map.modules().iter().enumerate() {
-        print_module(session, map, index, module.name, out)?;
+    print_modules(session, map, out)?;
+    for index in 0..map.modules().len() {
+        print_scope(alloc, session, map, index, out)?;
     }
     for index in 0..map.modules().len() {
-        if let Some(scope) = map.scope(index) {
-            let bindings = sorted(alloc, session, &scope)?;
-            print_bindings(session, krate, index, bindings.as_slice(), out)?;
-        }
+        print_unnamed(alloc, map, index, out)?;
     }
-    for index in 0..map.modules().len() {
-        if let Some(scope) = map.scope(index) {
-            let traits = sorted_traits(alloc, &scope)?;
-            print_traits(index, traits.as_slice(), out)?;
-        }
+    Ok(())
+}
+
+/// Prints the edges of globs, by their sources and importers.
+fn print_edges<W: io::Write>(alloc: Global, edges: &[Edge], out: &mut W) -> Result<(), Fault> {
+    let edges = sorted_edges(alloc, edges)?;
+    for edge in &edges {
+        print_edge(edge, out)?;
+    }
+    Ok(())
+}
+
+/// Prints the diagnostics of a run.
+fn print_diagnostics<W: io::Write>(diagnostics: &[DefDiagnostic], out: &mut W) -> io::Result<()> {
+    for diagnostic in diagnostics {
+        print_diagnostic(diagnostic, out)?;
+    }
+    Ok(())
+}
+
+/// Prints the imports that a run left over.
+fn print_left_imports<W: io::Write>(
+    session: &Interner,
+    imports: &[LeftImport],
+    out: &mut W,
+) -> io::Result<()> {
+    for import in imports {
+        print_left_import(session, import, out)?;
     }
     Ok(())
 }
@@ -357,14 +467,8 @@ pub fn print<W: io::Write>(
     out: &mut W,
 ) -> Result<(), Fault> {
     print_map(alloc, session, &collected.def_map, out)?;
-    for edge in &sorted_edges(alloc, collected.outcome.edges.as_slice())? {
-        print_edge(*edge, out)?;
-    }
-    for diagnostic in &collected.diagnostics {
-        print_diagnostic(diagnostic, out)?;
-    }
-    for import in &collected.outcome.imports {
-        print_left_import(session, import, out)?;
-    }
+    print_edges(alloc, collected.outcome.edges.as_slice(), out)?;
+    print_diagnostics(collected.diagnostics.as_slice(), out)?;
+    print_left_imports(session, collected.outcome.imports.as_slice(), out)?;
     Ok(())
 }
