@@ -1,5 +1,6 @@
 //! What is measured of a crate, as a line of text.
 
+use crate::ratio::Ratio;
 use std::io;
 use std::time::Duration;
 
@@ -13,90 +14,103 @@ pub struct Figures {
     pub places_time: Duration,
 }
 
-/// A quotient with two decimals.
+/// What stands in a column.
 #[derive(Clone, Copy)]
-struct Quotient {
-    whole: u128,
-    hundredths: u128,
+enum Cell {
+    Number(u128),
+    Ratio(Ratio),
+    Nothing,
 }
 
-/// One number through another. A divisor of 0 counts as 1.
-fn divided(dividend: u128, divisor: u128) -> Quotient {
-    let hundredths = dividend.saturating_mul(100) / divisor.max(1);
-    Quotient {
-        whole: hundredths / 100,
-        hundredths: hundredths % 100,
+/// How many columns a line has.
+const COLUMNS: usize = 7;
+
+/// How wide the columns are.
+static WIDTHS: [usize; 7] = [9, 10, 8, 9, 8, 10, 9];
+
+/// Of two measurements of one crate, each time the lesser.
+pub fn lesser(one: Figures, other: Figures) -> Figures {
+    Figures {
+        items: one.items,
+        bindings: one.bindings,
+        time: one.time.min(other.time),
+        places_time: one.places_time.min(other.places_time),
     }
 }
 
-impl Figures {
-    /// Of two measurements of one crate, each time the lesser.
-    pub fn min(self, other: Figures) -> Figures {
-        Figures {
-            items: self.items,
-            bindings: self.bindings,
-            time: self.time.min(other.time),
-            places_time: self.places_time.min(other.places_time),
-        }
-    }
+/// How many nanoseconds one of so many bindings takes.
+fn nanos_each(time: Duration, bindings: usize) -> u128 {
+    time.as_nanos() / (bindings as u128).max(1)
+}
 
-    /// How many nanoseconds a binding takes.
-    fn nanos_each(&self, time: Duration) -> u128 {
-        time.as_nanos() / (self.bindings as u128).max(1)
-    }
+/// How many times the cost of a binding of the smaller crate one of the larger crate costs.
+fn to_smaller(larger: Figures, smaller: Figures) -> Ratio {
+    let cost = larger.time.as_nanos();
+    let smaller_cost = smaller.time.as_nanos();
+    Ratio::new(
+        cost.saturating_mul(smaller.bindings as u128),
+        smaller_cost.saturating_mul(larger.bindings as u128),
+    )
+}
 
-    /// How many times the cost of a binding of the smaller crate one of this crate costs.
-    fn to_smaller(&self, smaller: &Figures) -> Quotient {
-        let cost = self
-            .time
-            .as_nanos()
-            .saturating_mul(smaller.bindings as u128);
-        let smaller_cost = smaller
-            .time
-            .as_nanos()
-            .saturating_mul(self.bindings as u128);
-        divided(cost, smaller_cost)
+/// The ratio to the next smaller crate, if there was one.
+fn to_less(figures: Figures, smaller: Option<Figures>) -> Cell {
+    match smaller {
+        Some(smaller) => Cell::Ratio(to_smaller(figures, smaller)),
+        None => Cell::Nothing,
     }
+}
 
-    /// How many times an insertion and a look-up in the kit's map a binding costs.
-    fn to_places(&self) -> Quotient {
-        divided(self.time.as_nanos(), self.places_time.as_nanos())
-    }
+/// What stands in the columns.
+fn cells(figures: Figures, smaller: Option<Figures>) -> [Cell; 7] {
+    let time = figures.time;
+    let places_time = figures.places_time;
+    [
+        Cell::Number(figures.items as u128),
+        Cell::Number(figures.bindings as u128),
+        Cell::Number(time.as_millis()),
+        Cell::Number(nanos_each(time, figures.bindings)),
+        to_less(figures, smaller),
+        Cell::Number(nanos_each(places_time, figures.bindings)),
+        Cell::Ratio(Ratio::new(time.as_nanos(), places_time.as_nanos())),
+    ]
+}
 
-    /// Prints one line, with the ratio to the next smaller crate if there was one.
-    pub fn print<W: io::Write>(&self, out: &mut W, smaller: Option<Figures>) -> io::Result<()> {
-        let items = self.items;
-        let bindings = self.bindings;
-        let millis = self.time.as_millis();
-        let each = self.nanos_each(self.time);
-        write!(out, "{items:>9} {bindings:>9} {millis:>7} {each:>8}")?;
-        self.print_ratio(out, smaller)?;
-        let places = self.nanos_each(self.places_time);
-        let times = self.to_places();
-        let whole = times.whole;
-        let rest = times.hundredths;
-        writeln!(out, " {places:>9} {whole:>5}.{rest:02}")
-    }
+fn print_number<W: io::Write>(out: &mut W, width: usize, number: u128) -> io::Result<()> {
+    write!(out, "{number:>width$}")
+}
 
-    /// Prints the ratio to the next smaller crate, or a dash.
-    fn print_ratio<W: io::Write>(&self, out: &mut W, smaller: Option<Figures>) -> io::Result<()> {
-        match smaller {
-            Some(smaller) => {
-                let ratio = self.to_smaller(&smaller);
-                let whole = ratio.whole;
-                let rest = ratio.hundredths;
-                write!(out, " {whole:>4}.{rest:02}")
-            }
-            None => write!(out, "       -"),
-        }
+fn print_ratio<W: io::Write>(out: &mut W, width: usize, ratio: Ratio) -> io::Result<()> {
+    print_number(out, width.saturating_sub(3), ratio.whole)?;
+    let rest = ratio.hundredths;
+    write!(out, ".{rest:02}")
+}
+
+fn print_cell<W: io::Write>(out: &mut W, width: usize, cell: Cell) -> io::Result<()> {
+    match cell {
+        Cell::Number(number) => print_number(out, width, number),
+        Cell::Ratio(ratio) => print_ratio(out, width, ratio),
+        Cell::Nothing => write!(out, "       -"),
     }
+}
+
+/// Prints one line, with the ratio to the next smaller crate if there was one.
+pub fn print_line<W: io::Write>(
+    out: &mut W,
+    figures: Figures,
+    smaller: Option<Figures>,
+) -> io::Result<()> {
+    let cells = cells(figures, smaller);
+    for place in 0..COLUMNS {
+        print_cell(out, WIDTHS[place], cells[place])?;
+    }
+    writeln!(out)
 }
 
 /// Prints what the columns are.
 pub fn print_head<W: io::Write>(out: &mut W, title: &str) -> io::Result<()> {
-    writeln!(out, "{title}")?;
     writeln!(
         out,
-        "    items  bindings      ms  ns each  to less  ns place  times place"
+        "{title}\n    items  bindings      ms  ns each  to less  ns place  times place"
     )
 }

@@ -1,15 +1,23 @@
-//! Measures how long the definitions of synthetic crates take to be collected, and prints a table
-//! for each shape of crates.
+//! Measures how long the definitions of synthetic crates take to be collected, and what the lower
+//! crates take for large inputs, and prints a table or lines for each.
 #![tactic(auto)]
 
+mod asked;
 mod database;
 mod figures;
+mod globs;
 mod measure;
 mod places;
 mod random;
+mod ratio;
+mod report;
 mod shape;
+mod tables;
 mod text;
+mod tree;
+mod trees;
 
+use asked::{Asked, Subject, asked_by};
 use measure::measure_shape;
 use shape::Shape;
 use std::alloc::Global;
@@ -27,49 +35,26 @@ static ALL: [Shape; 6] = [
     Shape::OneEachPass,
 ];
 
-/// The shapes that are asked for.
-#[derive(Clone, Copy)]
-enum Shapes {
-    All,
-    One(Shape),
+/// The words of the command line.
+fn words_of(rt: &(impl Env + AllocGlobal)) -> io::Result<Vec<String>> {
+    let mut words = Vec::new(rt.alloc());
+    for word in env::args(rt)? {
+        words.push(word)?;
+    }
+    Ok(words)
 }
 
-/// What the arguments of the process ask for: shapes, and the greatest number of items.
-#[derive(Clone, Copy)]
-struct Asked {
-    shapes: Shapes,
+/// Measures all shapes.
+fn run_all<C: Clock, W: io::Write>(
+    alloc: Global,
+    clock: &C,
+    out: &mut W,
     greatest: usize,
-}
-
-/// What the arguments of the process ask for. The first argument is its own name.
-fn asked_for(rt: &(impl Env + AllocGlobal)) -> io::Result<Option<Asked>> {
-    let mut args = Vec::new(rt.alloc());
-    for arg in env::args(rt)? {
-        args.push(arg)?;
+) -> io::Result<()> {
+    for shape in ALL.as_slice() {
+        measure_shape(alloc, clock, out, *shape, greatest)?;
     }
-    match args.as_slice() {
-        [_, word] => Ok(asked_by(word.as_str(), usize::MAX)),
-        [_, word, size] => match size.as_str().parse::<usize>() {
-            Ok(greatest) => Ok(asked_by(word.as_str(), greatest)),
-            Err(_) => Ok(None),
-        },
-        _ => Ok(None),
-    }
-}
-
-/// What a word asks for, up to a greatest number of items.
-fn asked_by(word: &str, greatest: usize) -> Option<Asked> {
-    let shapes = shapes_of(word)?;
-    Some(Asked { shapes, greatest })
-}
-
-/// The shapes that a word asks for.
-fn shapes_of(word: &str) -> Option<Shapes> {
-    if word == "all" {
-        return Some(Shapes::All);
-    }
-    let shape = Shape::from_word(word)?;
-    Some(Shapes::One(shape))
+    Ok(())
 }
 
 /// Measures what is asked for.
@@ -79,21 +64,21 @@ fn run<C: Clock, W: io::Write>(
     out: &mut W,
     asked: Asked,
 ) -> io::Result<()> {
-    match asked.shapes {
-        Shapes::One(shape) => measure_shape(alloc, clock, out, shape, asked.greatest),
-        Shapes::All => {
-            for shape in ALL {
-                measure_shape(alloc, clock, out, shape, asked.greatest)?;
-            }
-            Ok(())
-        }
+    match asked.subject {
+        Subject::All => run_all(alloc, clock, out, asked.greatest),
+        Subject::One(shape) => measure_shape(alloc, clock, out, shape, asked.greatest),
+        Subject::Trees => trees::run(alloc, clock, out),
+        Subject::Tables => tables::run(alloc, clock, out),
+        Subject::Globs => globs::run(alloc, clock, out),
     }
 }
 
 fn main(rt: HostRuntime) -> io::Result<ExitCode> {
-    let Some(asked) = asked_for(&rt)? else {
-        eprintln!(rt; "usage: defmap_bench SHAPE [GREATEST]")?;
-        eprintln!(rt; "shapes: all, items, imports, star, chain, real, passes")?;
+    let words = words_of(&rt)?;
+    let Some(asked) = asked_by(words.as_slice()) else {
+        eprintln!(rt;
+            "usage: defmap_bench SHAPE [GREATEST]\nshapes: all, items, imports, star, chain, real, passes\n   or: defmap_bench trees | tables | globs"
+        )?;
         return Ok(ExitCode::from(2));
     };
     run(rt.alloc(), &rt, &mut io::writer(&rt), asked)?;

@@ -1,14 +1,15 @@
 //! Measures how long the definitions of a synthetic crate take to be collected.
 ghost use Rattle.std.specs.Prelude.{◌≡◌, None};
 
-use crate::figures::{Figures, print_head};
+use crate::database::OneFile;
+use crate::figures::{Figures, lesser, print_head, print_line};
 use crate::places::{Place, places_of, time_places};
-use crate::shape::Shape;
-use crate::text::{Text, Written};
+use crate::shape::{Plan, Shape, lines_of};
+use crate::tree::{named_nodes, tree_of};
 use def_collector::{Collected, collect_defs};
-use def_ids::Edition;
-use def_map::DefMap;
-use item_tree::{Crate, FileId, HirFileId, TreeId};
+use def_ids::{Edition, Interner};
+use def_map::{CrateData, DefMap};
+use item_tree::{Crate, FileId, HirFileId, Seq, TreeId};
 use std::alloc::{AllocError, Global};
 use std::io;
 use std::rt::Clock;
@@ -28,6 +29,14 @@ struct Run {
     time: Duration,
 }
 
+/// What a run is over: the number of items, the names, and the database.
+#[derive(Drop)]
+struct Written {
+    items: usize,
+    session: Interner,
+    db: OneFile,
+}
+
 /// The tree of the one file.
 fn root_tree() -> TreeId
     ensures { result.block ≡ None }
@@ -36,6 +45,34 @@ fn root_tree() -> TreeId
         file: HirFileId::File(FileId(0)),
         block: None,
     }
+}
+
+/// What is known of the crate.
+fn crate_data(alloc: Global) -> CrateData {
+    CrateData {
+        root_file: FileId(0),
+        proc_macro: false,
+        lang: None,
+        deps: Seq::from_vec(Vec::new(alloc)),
+    }
+}
+
+/// A database of these lines, and how many items they are.
+fn database(alloc: Global, session: &mut Interner, plan: Plan) -> io::Result<(usize, OneFile)> {
+    let lines = lines_of(alloc, plan)?;
+    let nodes = named_nodes(alloc, session, lines.as_slice())?;
+    let db = OneFile {
+        tree: tree_of(nodes)?,
+        krate: crate_data(alloc),
+    };
+    Ok((lines.len(), db))
+}
+
+/// A crate of a shape.
+fn write_crate(alloc: Global, plan: Plan) -> io::Result<Written> {
+    let mut session = Interner::new(alloc)?;
+    let (items, db) = database(alloc, &mut session, plan)?;
+    Ok(Written { items, session, db })
 }
 
 /// Collects the definitions of a crate.
@@ -53,73 +90,63 @@ fn places_in(alloc: Global, collected: &Collected) -> io::Result<Vec<Place>> {
     Ok(places_of(alloc, &collected.def_map)?)
 }
 
-/// Collects the definitions of a crate, and answers how long that took.
-fn time_collect<C: Clock>(
-    alloc: Global,
-    clock: &C,
-    written: &mut Written,
-) -> io::Result<(Duration, Vec<Place>)> {
+/// Collects the definitions of a crate, and times that.
+fn time_collect<C: Clock>(alloc: Global, clock: &C, written: &mut Written) -> io::Result<Run> {
     let start = Instant::now(clock)?;
     let collected = collect(alloc, written)?;
     let time = start.elapsed(clock)?;
-    let places = places_in(alloc, &collected)?;
-    Ok((time, places))
-}
-
-/// A crate of a shape, with the number of its items.
-fn write_crate(alloc: Global, shape: Shape, size: usize) -> io::Result<(usize, Written)> {
-    let mut text = Text::new(alloc)?;
-    shape.write(&mut text, size)?;
-    let items = text.len();
-    match text.finish() {
-        Ok(written) => Ok((items, written)),
-        Err(_) => Err(io::Error::other("the items are no tree")),
-    }
-}
-
-/// One run over a crate of its own.
-fn run_once<C: Clock>(alloc: Global, clock: &C, shape: Shape, size: usize) -> io::Result<Run> {
-    let (items, mut written) = write_crate(alloc, shape, size)?;
-    let (time, places) = time_collect(alloc, clock, &mut written)?;
     Ok(Run {
-        items,
-        places,
+        items: written.items,
+        places: places_in(alloc, &collected)?,
         time,
     })
 }
 
+/// One run over a crate of its own.
+fn run_once<C: Clock>(alloc: Global, clock: &C, plan: Plan) -> io::Result<Run> {
+    let mut written = write_crate(alloc, plan)?;
+    time_collect(alloc, clock, &mut written)
+}
+
 /// One round of what is measured.
-fn measure_once<C: Clock>(
-    alloc: Global,
-    clock: &C,
-    shape: Shape,
-    size: usize,
-) -> io::Result<Figures> {
-    let run = run_once(alloc, clock, shape, size)?;
-    let places = run.places.as_slice();
-    let places_time = time_places(alloc, clock, places)?;
+fn measure_once<C: Clock>(alloc: Global, clock: &C, plan: Plan) -> io::Result<Figures> {
+    let run = run_once(alloc, clock, plan)?;
+    let places_time = time_places(alloc, clock, run.places.as_slice())?;
     Ok(Figures {
         items: run.items,
-        bindings: places.len(),
+        bindings: run.places.len(),
         time: run.time,
         places_time,
     })
 }
 
-/// How many rounds a crate of a size is measured.
-fn rounds_of(shape: Shape, size: usize) -> usize {
-    match shape {
+/// How many rounds a crate is measured.
+fn rounds_of(plan: Plan) -> usize {
+    match plan.shape {
         Shape::OneEachPass => 1,
-        _ => (ITEMS_IN_ALL / size.max(1)).clamp(1, MOST_ROUNDS),
+        _ => (ITEMS_IN_ALL / plan.size.max(1)).clamp(1, MOST_ROUNDS),
     }
 }
 
 /// The least times of some rounds.
-fn measure<C: Clock>(alloc: Global, clock: &C, shape: Shape, size: usize) -> io::Result<Figures> {
-    let mut figures = measure_once(alloc, clock, shape, size)?;
-    for _ in 1..rounds_of(shape, size) {
-        figures = figures.min(measure_once(alloc, clock, shape, size)?);
+fn measure<C: Clock>(alloc: Global, clock: &C, plan: Plan) -> io::Result<Figures> {
+    let mut figures = measure_once(alloc, clock, plan)?;
+    for _ in 1..rounds_of(plan) {
+        figures = lesser(figures, measure_once(alloc, clock, plan)?);
     }
+    Ok(figures)
+}
+
+/// Measures a crate, and prints a line.
+fn measure_line<C: Clock, W: io::Write>(
+    alloc: Global,
+    clock: &C,
+    out: &mut W,
+    plan: Plan,
+    smaller: Option<Figures>,
+) -> io::Result<Figures> {
+    let figures = measure(alloc, clock, plan)?;
+    print_line(out, figures, smaller)?;
     Ok(figures)
 }
 
@@ -135,9 +162,8 @@ pub fn measure_shape<C: Clock, W: io::Write>(
     let mut smaller = None;
     for size in shape.sizes() {
         if *size <= greatest {
-            let figures = measure(alloc, clock, shape, *size)?;
-            figures.print(out, smaller)?;
-            smaller = Some(figures);
+            let plan = Plan { shape, size: *size };
+            smaller = Some(measure_line(alloc, clock, out, plan, smaller)?);
         }
     }
     Ok(())

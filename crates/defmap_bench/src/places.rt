@@ -23,12 +23,16 @@ pub struct Place {
 /// The map of the kit that stands for one look at each place.
 type Plain = IndexMap<Place, Binding<Visibility>>;
 
-/// Adds a place, if it is bound.
-fn add_place(places: &mut Vec<Place>, is_bound: bool, place: Place) -> Result<(), AllocError> {
-    if is_bound {
-        places.push(place)?;
+/// All namespaces, in the order in which places are listed.
+static NAMESPACES: [Namespace; 3] = [Namespace::Types, Namespace::Values, Namespace::Macros];
+
+/// Whether a name is bound in a namespace.
+fn is_bound(bound: &PerNs, ns: Namespace) -> bool {
+    match ns {
+        Namespace::Types => bound.types.is_some(),
+        Namespace::Values => bound.values.is_some(),
+        Namespace::Macros => bound.macros.is_some(),
     }
-    Ok(())
 }
 
 /// Adds the namespaces in which a name is bound.
@@ -38,24 +42,12 @@ fn add_name(
     name: Name,
     bound: &PerNs,
 ) -> Result<(), AllocError> {
-    let types = Place {
-        at,
-        name,
-        ns: Namespace::Types,
-    };
-    let values = Place {
-        at,
-        name,
-        ns: Namespace::Values,
-    };
-    let macros = Place {
-        at,
-        name,
-        ns: Namespace::Macros,
-    };
-    add_place(places, bound.types.is_some(), types)?;
-    add_place(places, bound.values.is_some(), values)?;
-    add_place(places, bound.macros.is_some(), macros)
+    for ns in NAMESPACES.as_slice() {
+        if is_bound(bound, *ns) {
+            places.push(Place { at, name, ns: *ns })?;
+        }
+    }
+    Ok(())
 }
 
 /// Adds what a module binds, in first-bound order.

@@ -1,9 +1,10 @@
 //! The shapes of synthetic crates.
 
 use crate::random::Random;
-use crate::text::{Kind, Taken, Text};
-use item_tree::RawVisibility;
-use std::alloc::AllocError;
+use crate::text::{
+    Item, Kind, Line, Seen, Taken, import_line, item_line, module_line, struct_line,
+};
+use std::alloc::{AllocError, Global};
 
 /// A shape of crates.
 #[derive(Clone, Copy)]
@@ -21,6 +22,9 @@ pub enum Shape {
     /// Modules that each import a name of the next one by its path through that, so that a pass
     /// over all imports resolves one.
     OneEachPass,
+    /// Modules in one another with structs around them, always the same, and no imports: a text
+    /// for trees alone.
+    Nested,
 }
 
 /// The kinds of the items of a real crate, one after the other. Nothing imports the last one.
@@ -55,14 +59,23 @@ const REAL_ITEMS: usize = 40;
 
 const REAL_IMPORTS: usize = 10;
 
+/// The lines of a module of a real crate: its own, those of its imports and those of its items.
+const REAL_LINES: usize = 51;
+
+/// How deep the lines stand that a nested text repeats.
+static DEPTHS: [usize; 10] = [0, 1, 1, 2, 2, 3, 3, 2, 1, 0];
+
 /// How deep modules lie in one another.
 const DEPTH: usize = 16;
 
-/// How many names a module has that is the source of globs.
-const GLOB_NAMES: usize = 4;
+/// The lines of the module that is the source of globs: its own, and those of four structs.
+const SOURCE_LINES: usize = 5;
 
 /// How many imports of one module stand in a module.
 const USER_IMPORTS: usize = 10;
+
+/// The lines of a module with such imports.
+const USER_LINES: usize = 11;
 
 static THREE_SIZES: [usize; 3] = [10_000, 100_000, 1_000_000];
 
@@ -71,19 +84,6 @@ static REAL_SIZES: [usize; 4] = [2_550, 10_200, 102_000, 1_020_000];
 static PASS_SIZES: [usize; 3] = [402, 2_002, 20_002];
 
 impl Shape {
-    /// The shape that a word asks for.
-    pub fn from_word(word: &str) -> Option<Shape> {
-        match word {
-            "items" => Some(Shape::Items),
-            "imports" => Some(Shape::Imports),
-            "star" => Some(Shape::Star),
-            "chain" => Some(Shape::Chain),
-            "real" => Some(Shape::RealCode),
-            "passes" => Some(Shape::OneEachPass),
-            _ => None,
-        }
-    }
-
     /// What it is, in words.
     pub fn title(self) -> &'static str {
         match self {
@@ -96,28 +96,36 @@ impl Shape {
             Shape::OneEachPass => {
                 "one import each pass, half as many as items: quadratic, so only small sizes"
             }
+            Shape::Nested => "modules in one another with structs around them",
         }
     }
 
     /// The numbers of items that it is built with, the smallest first.
     pub fn sizes(self) -> &'static [usize] {
         match self {
-            Shape::Items | Shape::Imports | Shape::Star | Shape::Chain => THREE_SIZES.as_slice(),
             Shape::RealCode => REAL_SIZES.as_slice(),
             Shape::OneEachPass => PASS_SIZES.as_slice(),
+            _ => THREE_SIZES.as_slice(),
         }
     }
+}
 
-    /// Writes a crate of about so many items.
-    pub fn write(self, text: &mut Text, size: usize) -> Result<(), AllocError> {
-        match self {
-            Shape::Items => write_items(text, size),
-            Shape::Imports => write_imports(text, size),
-            Shape::Star => write_star(text, size),
-            Shape::Chain => write_chain(text, size),
-            Shape::RealCode => write_real(text, size),
-            Shape::OneEachPass => write_passes(text, size),
-        }
+/// A shape in one size.
+#[derive(Clone, Copy)]
+pub struct Plan {
+    pub shape: Shape,
+    /// About how many items.
+    pub size: usize,
+}
+
+/// How many lines the text of a crate has.
+fn length(plan: Plan) -> usize {
+    let half = plan.size / 2;
+    match plan.shape {
+        Shape::Items | Shape::Nested => plan.size,
+        Shape::Imports => half + 1 + half / USER_LINES * USER_LINES,
+        Shape::RealCode => plan.size / REAL_LINES * REAL_LINES,
+        _ => half.saturating_mul(2).saturating_add(SOURCE_LINES),
     }
 }
 
@@ -127,112 +135,126 @@ fn named_kind(random: &mut Random) -> Kind {
     NAMED_KINDS[place as usize]
 }
 
-/// A visibility: of two items one is public.
-fn visibility(random: &mut Random) -> RawVisibility {
+/// Who sees an item: of two one is public.
+fn seen(random: &mut Random) -> Seen {
     match random.below(4) {
-        0 => RawVisibility::PubSelf,
-        1 => RawVisibility::PubCrate,
-        _ => RawVisibility::Public,
+        0 => Seen::Here,
+        1 => Seen::InCrate,
+        _ => Seen::Everywhere,
     }
 }
 
-/// Adds an item, or opens a module. A module may be closed before.
-fn write_item(text: &mut Text, random: &mut Random, number: usize) -> Result<(), AllocError> {
-    if random.is_one_in(25) {
-        text.close_module();
-    }
-    if random.is_one_in(25) && text.depth() < DEPTH {
-        return text.open_module(number);
+/// A plain item, or a module where there may be one so deep.
+fn some_item(random: &mut Random, depth: usize, number: usize) -> Item {
+    if random.is_one_in(25) && depth < DEPTH {
+        return Item::Module(number);
     }
     let kind = named_kind(random);
-    let vis = visibility(random);
-    text.add_item(number, kind, vis)
+    let seen = seen(random);
+    Item::Plain { number, kind, seen }
 }
 
-fn write_items(text: &mut Text, size: usize) -> Result<(), AllocError> {
-    let mut random = Random::new();
-    for number in 0..size {
-        write_item(text, &mut random, number)?;
+/// The next line after a line of some depth. A module may be closed before.
+fn nested_line(random: &mut Random, open: usize, number: usize) -> Line {
+    let depth = if random.is_one_in(25) {
+        open.saturating_sub(1)
+    } else {
+        open
+    };
+    let item = some_item(random, depth, number);
+    Line { depth, item }
+}
+
+/// A line of a nested text. A module stands where the next line is deeper.
+fn pattern_line(number: usize) -> Line {
+    let place = number % DEPTHS.len();
+    let item = match place {
+        0 | 2 | 4 => Item::Module(number),
+        _ => Item::Plain {
+            number,
+            kind: Kind::Struct,
+            seen: Seen::Everywhere,
+        },
+    };
+    Line {
+        depth: DEPTHS[place],
+        item,
     }
-    Ok(())
 }
 
-/// Adds a module with imports of items of module 0, each of another name.
-fn write_user(
-    text: &mut Text,
-    random: &mut Random,
-    module: usize,
-    items: usize,
-) -> Result<(), AllocError> {
-    text.open_module(module)?;
+/// How deep the line after this one stands where nothing is closed.
+fn depth_after(line: Line) -> usize {
+    match line.item {
+        Item::Module(_) => line.depth.saturating_add(1),
+        _ => line.depth,
+    }
+}
+
+/// An import of the item at this place of some group of module 0.
+fn user_import(random: &mut Random, items: usize, place: usize) -> Line {
     let groups = (items / USER_IMPORTS) as u64;
-    for place in 0..USER_IMPORTS {
-        let group = if groups == 0 { 0 } else { random.below(groups) };
-        let number = (group as usize)
-            .saturating_mul(USER_IMPORTS)
-            .saturating_add(place);
-        text.add_use(0, Taken::Item(number), RawVisibility::PubSelf)?;
+    let group = if groups == 0 { 0 } else { random.below(groups) };
+    let number = (group as usize)
+        .saturating_mul(USER_IMPORTS)
+        .saturating_add(place);
+    import_line(0, Taken::Item(number), Seen::Here)
+}
+
+/// Module 0 with public structs, and modules with imports of these, each of another name.
+fn imports_line(random: &mut Random, items: usize, place: usize) -> Line {
+    if place == 0 {
+        return module_line(0);
     }
-    text.close_module();
-    Ok(())
-}
-
-fn write_imports(text: &mut Text, size: usize) -> Result<(), AllocError> {
-    let mut random = Random::new();
-    let items = size / 2;
-    text.open_module(0)?;
-    text.add_structs(0, items)?;
-    text.close_module();
-    for module in 0..items / (USER_IMPORTS + 1) {
-        write_user(text, &mut random, module.saturating_add(1), items)?;
+    if place <= items {
+        return struct_line(place - 1);
     }
-    Ok(())
-}
-
-/// Adds module 0 with a few public structs.
-fn write_source(text: &mut Text) -> Result<(), AllocError> {
-    text.open_module(0)?;
-    text.add_structs(0, GLOB_NAMES)?;
-    text.close_module();
-    Ok(())
-}
-
-/// Adds a module that takes something of another one, and shows it to all.
-fn write_importer(
-    text: &mut Text,
-    module: usize,
-    source: usize,
-    taken: Taken,
-) -> Result<(), AllocError> {
-    text.open_module(module)?;
-    text.add_use(source, taken, RawVisibility::Public)?;
-    text.close_module();
-    Ok(())
-}
-
-fn write_star(text: &mut Text, size: usize) -> Result<(), AllocError> {
-    write_source(text)?;
-    for place in 0..size / 2 {
-        write_importer(text, place.saturating_add(1), 0, Taken::Glob)?;
+    let after = place - items - 1;
+    match after % USER_LINES {
+        0 => module_line(after / USER_LINES + 1),
+        at => user_import(random, items, at - 1),
     }
-    Ok(())
 }
 
-fn write_chain(text: &mut Text, size: usize) -> Result<(), AllocError> {
-    write_source(text)?;
-    for place in 0..size / 2 {
-        write_importer(text, place.saturating_add(1), place, Taken::Glob)?;
+/// Module 0 with a few public structs.
+fn source_line(place: usize) -> Line {
+    match place {
+        0 => module_line(0),
+        _ => struct_line(place - 1),
     }
-    Ok(())
 }
 
-fn write_passes(text: &mut Text, size: usize) -> Result<(), AllocError> {
-    let imports = size / 2;
-    for place in 0..imports {
-        let source = imports - 1 - place;
-        write_importer(text, source.saturating_add(1), source, Taken::Item(0))?;
+/// A module that takes something of another one, and shows it to all.
+fn importer_line(place: usize, module: usize, source: usize, taken: Taken) -> Line {
+    match place % 2 {
+        0 => module_line(module),
+        _ => import_line(source, taken, Seen::Everywhere),
     }
-    write_source(text)
+}
+
+fn star_line(place: usize) -> Line {
+    if place < SOURCE_LINES {
+        return source_line(place);
+    }
+    let after = place - SOURCE_LINES;
+    importer_line(after, after / 2 + 1, 0, Taken::Glob)
+}
+
+fn chain_line(place: usize) -> Line {
+    if place < SOURCE_LINES {
+        return source_line(place);
+    }
+    let after = place - SOURCE_LINES;
+    importer_line(after, after / 2 + 1, after / 2, Taken::Glob)
+}
+
+fn passes_line(imports: usize, place: usize) -> Line {
+    let number = place / 2;
+    if number < imports {
+        let source = imports - 1 - number;
+        importer_line(place, source + 1, source, Taken::Item(0))
+    } else {
+        source_line(place - imports - imports)
+    }
 }
 
 /// The number of some item of a module that has a name.
@@ -244,21 +266,6 @@ fn named_item(random: &mut Random, module: usize) -> usize {
         .saturating_add(10 * tens + place)
 }
 
-/// Adds an import of some item of a module, or a glob of the module.
-fn write_import(text: &mut Text, random: &mut Random, source: usize) -> Result<(), AllocError> {
-    let vis = if random.is_one_in(5) {
-        RawVisibility::Public
-    } else {
-        RawVisibility::PubSelf
-    };
-    let taken = if random.is_one_in(5) {
-        Taken::Glob
-    } else {
-        Taken::Item(named_item(random, source))
-    };
-    text.add_use(source, taken, vis)
-}
-
 /// The number of some module but this one.
 fn other_module(random: &mut Random, module: usize, modules: usize) -> usize {
     let others = (modules as u64).saturating_sub(1).max(1);
@@ -266,33 +273,63 @@ fn other_module(random: &mut Random, module: usize, modules: usize) -> usize {
     module.saturating_add(distance) % modules.max(1)
 }
 
-/// Adds a module of a real crate: its imports, and then its items.
-fn write_real_module(
-    text: &mut Text,
-    random: &mut Random,
-    module: usize,
-    modules: usize,
-) -> Result<(), AllocError> {
-    text.open_module(module)?;
-    for _ in 0..REAL_IMPORTS {
-        let source = other_module(random, module, modules);
-        write_import(text, random, source)?;
-    }
-    for place in 0..REAL_ITEMS {
-        let number = module.saturating_mul(REAL_ITEMS).saturating_add(place);
-        let kind = REAL_KINDS[place % REAL_KINDS.len()];
-        let vis = visibility(random);
-        text.add_item(number, kind, vis)?;
-    }
-    text.close_module();
-    Ok(())
+/// An import of some item of another module, or a glob of it.
+fn real_import(random: &mut Random, module: usize, modules: usize) -> Line {
+    let source = other_module(random, module, modules);
+    let seen = if random.is_one_in(5) {
+        Seen::Everywhere
+    } else {
+        Seen::Here
+    };
+    let taken = if random.is_one_in(5) {
+        Taken::Glob
+    } else {
+        Taken::Item(named_item(random, source))
+    };
+    import_line(source, taken, seen)
 }
 
-fn write_real(text: &mut Text, size: usize) -> Result<(), AllocError> {
-    let mut random = Random::new();
-    let modules = size / (REAL_ITEMS + REAL_IMPORTS + 1);
-    for module in 0..modules {
-        write_real_module(text, &mut random, module, modules)?;
+fn real_item(random: &mut Random, module: usize, place: usize) -> Line {
+    let number = module.saturating_mul(REAL_ITEMS).saturating_add(place);
+    let kind = REAL_KINDS[place % REAL_KINDS.len()];
+    item_line(number, kind, seen(random))
+}
+
+/// Modules of a real crate: in each its imports, and then its items.
+fn real_line(random: &mut Random, modules: usize, place: usize) -> Line {
+    let module = place / REAL_LINES;
+    let at = place % REAL_LINES;
+    if at == 0 {
+        module_line(module)
+    } else if at <= REAL_IMPORTS {
+        real_import(random, module, modules)
+    } else {
+        real_item(random, module, at - REAL_IMPORTS - 1)
     }
-    Ok(())
+}
+
+/// The line at a place, after a line that leaves so many modules open.
+fn line_at(plan: Plan, random: &mut Random, open: usize, place: usize) -> Line {
+    match plan.shape {
+        Shape::Items => nested_line(random, open, place),
+        Shape::Imports => imports_line(random, plan.size / 2, place),
+        Shape::Star => star_line(place),
+        Shape::Chain => chain_line(place),
+        Shape::RealCode => real_line(random, plan.size / REAL_LINES, place),
+        Shape::OneEachPass => passes_line(plan.size / 2, place),
+        Shape::Nested => pattern_line(place),
+    }
+}
+
+/// The text of a crate.
+pub fn lines_of(alloc: Global, plan: Plan) -> Result<Vec<Line>, AllocError> {
+    let mut lines = Vec::new(alloc);
+    let mut random = Random::new();
+    let mut open = 0;
+    for place in 0..length(plan) {
+        let line = line_at(plan, &mut random, open, place);
+        open = depth_after(line);
+        lines.push(line)?;
+    }
+    Ok(lines)
 }

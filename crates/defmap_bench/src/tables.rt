@@ -1,6 +1,6 @@
 //! How long tables of bindings take to be filled and read.
 
-use crate::figures::{print_ratio, print_time};
+use crate::report::{Entry, print_report};
 use def_bindings::{Binding, BindingTable, Namespace, NumberedTable, ScopeTable, Visibility};
 use def_ids::{Def, MapId, ModuleId, StructId};
 use item_tree::{Crate, Name};
@@ -14,8 +14,23 @@ const MODULES: usize = 10_000;
 /// The names of each module.
 const NAMES: usize = 100;
 
+/// How many places there are: each name in each module.
+const PLACES: usize = 1_000_000;
+
 /// Of so many rounds the fastest counts.
 const ROUNDS: usize = 5;
+
+static REPORT: [Entry; 9] = [
+    Entry::Time("ScopeTable\n  insertions", 0),
+    Entry::Time("  look-ups by module", 1),
+    Entry::Time("  look-ups by name", 2),
+    Entry::Time("NumberedTable\n  insertions", 3),
+    Entry::Time("  look-ups by module", 4),
+    Entry::Time("  look-ups by name", 5),
+    Entry::Ratio("NumberedTable to ScopeTable\n  insertions", 3, 0),
+    Entry::Ratio("  look-ups by module", 4, 1),
+    Entry::Ratio("  look-ups by name", 5, 2),
+];
 
 /// A name in a module.
 #[derive(Clone, Copy)]
@@ -24,22 +39,24 @@ struct Place {
     name: Name,
 }
 
-/// All places in two orders.
+/// An order of all places.
+#[derive(Clone, Copy)]
+enum Order {
+    /// Module by module, as a crate is collected.
+    ByModule,
+    /// Name by name, each in all modules.
+    ByName,
+}
+
+/// All places in both orders.
 #[derive(Drop)]
 struct Places {
-    /// Module by module, as a crate is collected.
     by_module: Vec<Place>,
-    /// Name by name, each in all modules.
     by_name: Vec<Place>,
 }
 
-/// How long a table takes for all places.
-#[derive(Clone, Copy)]
-struct Times {
-    insertions: Duration,
-    by_module: Duration,
-    by_name: Duration,
-}
+/// How long a table takes to be filled, to be read by module and to be read by name.
+type Times = [Duration; 3];
 
 fn place_of(index: usize, name: usize) -> Place {
     Place {
@@ -54,24 +71,19 @@ fn place_of(index: usize, name: usize) -> Place {
     }
 }
 
-/// All places, module by module.
-fn places_by_module(alloc: Global) -> Result<Vec<Place>, AllocError> {
-    let mut places = Vec::new(alloc);
-    for index in 0..MODULES {
-        for name in 0..NAMES {
-            places.push(place_of(index, name))?;
-        }
+/// The place of a number in an order.
+fn place_at(order: Order, number: usize) -> Place {
+    match order {
+        Order::ByModule => place_of(number / NAMES, number % NAMES),
+        Order::ByName => place_of(number % MODULES, number / MODULES),
     }
-    Ok(places)
 }
 
-/// All places, name by name.
-fn places_by_name(alloc: Global) -> Result<Vec<Place>, AllocError> {
+/// All places in an order.
+fn places_in(alloc: Global, order: Order) -> Result<Vec<Place>, AllocError> {
     let mut places = Vec::new(alloc);
-    for name in 0..NAMES {
-        for index in 0..MODULES {
-            places.push(place_of(index, name))?;
-        }
+    for number in 0..PLACES {
+        places.push(place_at(order, number))?;
     }
     Ok(places)
 }
@@ -132,10 +144,8 @@ fn time_lookups<C: Clock, T: BindingTable<Vis = Visibility>>(
     places: &[Place],
 ) -> io::Result<Duration> {
     let start = Instant::now(clock)?;
-    let all_bound = are_bound(table, places);
-    let time = start.elapsed(clock)?;
-    if all_bound {
-        Ok(time)
+    if are_bound(table, places) {
+        start.elapsed(clock)
     } else {
         Err(io::Error::other("a name is not bound"))
     }
@@ -147,22 +157,11 @@ fn time_table<C: Clock, T: BindingTable<Vis = Visibility>>(
     table: &mut T,
     places: &Places,
 ) -> io::Result<Times> {
-    Ok(Times {
-        insertions: time_insertions(clock, table, places.by_module.as_slice())?,
-        by_module: time_lookups(clock, table, places.by_module.as_slice())?,
-        by_name: time_lookups(clock, table, places.by_name.as_slice())?,
-    })
-}
-
-impl Times {
-    /// Of each two times the lesser.
-    fn min(self, other: Times) -> Times {
-        Times {
-            insertions: self.insertions.min(other.insertions),
-            by_module: self.by_module.min(other.by_module),
-            by_name: self.by_name.min(other.by_name),
-        }
-    }
+    Ok([
+        time_insertions(clock, table, places.by_module.as_slice())?,
+        time_lookups(clock, table, places.by_module.as_slice())?,
+        time_lookups(clock, table, places.by_name.as_slice())?,
+    ])
 }
 
 fn time_scope_table<C: Clock>(alloc: Global, clock: &C, places: &Places) -> io::Result<Times> {
@@ -175,41 +174,35 @@ fn time_numbered_table<C: Clock>(alloc: Global, clock: &C, places: &Places) -> i
     time_table(clock, &mut table, places)
 }
 
-/// The least times of the two tables, which take turns.
-fn time_both<C: Clock>(alloc: Global, clock: &C, places: &Places) -> io::Result<(Times, Times)> {
-    let mut scope = time_scope_table(alloc, clock, places)?;
-    let mut numbered = time_numbered_table(alloc, clock, places)?;
-    for _ in 1..ROUNDS {
-        scope = scope.min(time_scope_table(alloc, clock, places)?);
-        numbered = numbered.min(time_numbered_table(alloc, clock, places)?);
-    }
-    Ok((scope, numbered))
+/// The times of both tables, as the report numbers them.
+fn time_both<C: Clock>(alloc: Global, clock: &C, places: &Places) -> io::Result<[Duration; 6]> {
+    let [a, b, c] = time_scope_table(alloc, clock, places)?;
+    let [d, e, f] = time_numbered_table(alloc, clock, places)?;
+    Ok([a, b, c, d, e, f])
 }
 
-/// Prints the times of a table.
-fn print_times<W: io::Write>(out: &mut W, table: &str, times: &Times) -> io::Result<()> {
-    writeln!(out, "{table}")?;
-    print_time(out, "  insertions", times.insertions)?;
-    print_time(out, "  look-ups by module", times.by_module)?;
-    print_time(out, "  look-ups by name", times.by_name)
+fn all_places(alloc: Global) -> Result<Places, AllocError> {
+    Ok(Places {
+        by_module: places_in(alloc, Order::ByModule)?,
+        by_name: places_in(alloc, Order::ByName)?,
+    })
+}
+
+/// The least times of the two tables, which take turns.
+fn least_times<C: Clock>(alloc: Global, clock: &C, places: &Places) -> io::Result<[Duration; 6]> {
+    let mut least = [Duration::MAX; 6];
+    for _ in 0..ROUNDS {
+        let times = time_both(alloc, clock, places)?;
+        for place in 0..6 {
+            least[place] = least[place].min(times[place]);
+        }
+    }
+    Ok(least)
 }
 
 /// Times both tables over the same places.
 pub fn run<C: Clock, W: io::Write>(alloc: Global, clock: &C, out: &mut W) -> io::Result<()> {
-    let places = Places {
-        by_module: places_by_module(alloc)?,
-        by_name: places_by_name(alloc)?,
-    };
-    let (scope, numbered) = time_both(alloc, clock, &places)?;
-    print_times(out, "ScopeTable", &scope)?;
-    print_times(out, "NumberedTable", &numbered)?;
-    writeln!(out, "NumberedTable to ScopeTable")?;
-    print_ratio(out, "  insertions", numbered.insertions, scope.insertions)?;
-    print_ratio(
-        out,
-        "  look-ups by module",
-        numbered.by_module,
-        scope.by_module,
-    )?;
-    print_ratio(out, "  look-ups by name", numbered.by_name, scope.by_name)
+    let places = all_places(alloc)?;
+    let times = least_times(alloc, clock, &places)?;
+    print_report(out, REPORT.as_slice(), times.as_slice())
 }

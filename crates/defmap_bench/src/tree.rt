@@ -1,0 +1,276 @@
+//! Item trees of texts.
+
+use crate::text::{Item, Kind, Line, Seen, Taken};
+use def_ids::Interner;
+use item_tree::{
+    Attrs, AttrsOrCfg, CtorVisibility, FileAstId, ImportKind, ItemNode, ItemTree, ModContents,
+    ModItemId, ModItemKind, ModPath, Name, PathKind, RawVisibility, Seq, UseImport,
+};
+use std::alloc::{AllocError, Global};
+use std::io;
+
+/// What a tree is made of: items by number, the numbers of those that stand in no other, and the
+/// attributes of the file.
+#[derive(Drop)]
+pub struct Nodes {
+    items: Vec<ItemNode>,
+    top: Vec<ModItemId>,
+    attrs: AttrsOrCfg,
+}
+
+/// The names on a line: that of the item, or of the module that something is taken of, and of the
+/// item that is taken.
+#[derive(Clone, Copy)]
+struct Names {
+    own: Name,
+    taken: Option<Name>,
+}
+
+/// The name of a number, under a letter that tells modules from other items.
+fn name_of(
+    alloc: Global,
+    session: &mut Interner,
+    letter: &str,
+    number: usize,
+) -> Result<Name, AllocError> {
+    let text = format!(in alloc; "{letter}{number}")?;
+    session.intern_name(text.as_str())
+}
+
+/// The first name on a line.
+fn own_name(alloc: Global, session: &mut Interner, item: Item) -> Result<Name, AllocError> {
+    match item {
+        Item::Plain { number, .. } => name_of(alloc, session, "i", number),
+        Item::Module(number) | Item::Import { module: number, .. } => {
+            name_of(alloc, session, "m", number)
+        }
+    }
+}
+
+/// The number of the item that a line imports.
+fn imported(item: Item) -> Option<usize> {
+    match item {
+        Item::Import {
+            taken: Taken::Item(number),
+            ..
+        } => Some(number),
+        _ => None,
+    }
+}
+
+fn names_of(alloc: Global, session: &mut Interner, item: Item) -> Result<Names, AllocError> {
+    let own = own_name(alloc, session, item)?;
+    let taken = match imported(item) {
+        Some(number) => Some(name_of(alloc, session, "i", number)?),
+        None => None,
+    };
+    Ok(Names { own, taken })
+}
+
+/// The visibility that shows an item so far.
+fn visibility(seen: Seen) -> RawVisibility {
+    match seen {
+        Seen::Here => RawVisibility::PubSelf,
+        Seen::InCrate => RawVisibility::PubCrate,
+        Seen::Everywhere => RawVisibility::Public,
+    }
+}
+
+/// What an item without contents is. An impl has no name.
+fn plain_kind(kind: Kind, name: Name, visibility: RawVisibility) -> ModItemKind {
+    match kind {
+        Kind::Struct => ModItemKind::Struct {
+            name,
+            visibility,
+            ctor: CtorVisibility::NoValueNsCtor,
+        },
+        Kind::TupleStruct => ModItemKind::Struct {
+            name,
+            visibility,
+            ctor: CtorVisibility::ValueNsCtorWithVis(RawVisibility::Public),
+        },
+        Kind::Enum => ModItemKind::Enum { name, visibility },
+        Kind::Union => ModItemKind::Union { name, visibility },
+        Kind::Trait => ModItemKind::Trait { name, visibility },
+        Kind::TypeAlias => ModItemKind::TypeAlias { name, visibility },
+        Kind::Function => ModItemKind::Function { name, visibility },
+        Kind::Static => ModItemKind::Static { name, visibility },
+        Kind::Const => ModItemKind::Const {
+            name: Some(name),
+            visibility,
+        },
+        Kind::Impl => ModItemKind::Impl {
+            is_trait_impl: false,
+        },
+    }
+}
+
+/// The numbers of the items at a depth, from a line on up to one that stands less deep.
+fn numbers_at(
+    alloc: Global,
+    lines: &[Line],
+    first: usize,
+    depth: usize,
+) -> Result<Vec<ModItemId>, AllocError> {
+    let mut numbers = Vec::new(alloc);
+    for number in first..lines.len() {
+        let there = lines[number].depth;
+        if there < depth {
+            return Ok(numbers);
+        }
+        if there == depth {
+            numbers.push(ModItemId(number))?;
+        }
+    }
+    Ok(numbers)
+}
+
+/// A public module with the items of the lines from one on, so far as they stand in it.
+fn module_kind(
+    alloc: Global,
+    lines: &[Line],
+    first: usize,
+    depth: usize,
+    name: Name,
+) -> Result<ModItemKind, AllocError> {
+    let children = numbers_at(alloc, lines, first, depth)?;
+    Ok(ModItemKind::Mod {
+        name,
+        visibility: RawVisibility::Public,
+        contents: ModContents::Inline(Seq::from_vec(children)),
+    })
+}
+
+/// The path `crate::..` of what an import takes.
+fn path_of(alloc: Global, names: Names) -> Result<ModPath, AllocError> {
+    let mut segments = Seq::from_vec(Vec::new(alloc));
+    segments.push(names.own)?;
+    if let Some(item) = names.taken {
+        segments.push(item)?;
+    }
+    Ok(ModPath {
+        kind: PathKind::Crate,
+        segments,
+    })
+}
+
+/// The kind of an import: a glob has no name but the module's.
+fn import_kind(names: Names) -> ImportKind {
+    match names.taken {
+        Some(_) => ImportKind::Plain,
+        None => ImportKind::Glob,
+    }
+}
+
+/// The list of one import.
+fn one_import(alloc: Global, names: Names) -> Result<Seq<UseImport>, AllocError> {
+    let path = path_of(alloc, names)?;
+    let mut imports = Seq::from_vec(Vec::new(alloc));
+    imports.push(UseImport {
+        idx: 0,
+        path,
+        kind: import_kind(names),
+        alias: None,
+    })?;
+    Ok(imports)
+}
+
+/// What the item of the line of a number is.
+fn kind_of(
+    alloc: Global,
+    lines: &[Line],
+    number: usize,
+    line: Line,
+    names: Names,
+) -> Result<ModItemKind, AllocError> {
+    match line.item {
+        Item::Module(_) => {
+            let first = number.saturating_add(1);
+            module_kind(alloc, lines, first, line.depth.saturating_add(1), names.own)
+        }
+        Item::Plain { kind, seen, .. } => Ok(plain_kind(kind, names.own, visibility(seen))),
+        Item::Import { seen, .. } => Ok(ModItemKind::Use {
+            imports: one_import(alloc, names)?,
+            visibility: visibility(seen),
+        }),
+    }
+}
+
+/// Adds the item of the next line.
+fn add_item(
+    alloc: Global,
+    items: &mut Vec<ItemNode>,
+    lines: &[Line],
+    line: Line,
+    names: Names,
+) -> Result<(), AllocError> {
+    let number = items.len();
+    let kind = kind_of(alloc, lines, number, line, names)?;
+    items.push(ItemNode {
+        ast_id: FileAstId(number),
+        attrs: None,
+        kind,
+    })?;
+    Ok(())
+}
+
+/// The items of a text, under names of a session.
+fn named_items(
+    alloc: Global,
+    session: &mut Interner,
+    lines: &[Line],
+) -> Result<Vec<ItemNode>, AllocError> {
+    let mut items = Vec::new(alloc);
+    for line in lines {
+        let names = names_of(alloc, session, line.item)?;
+        add_item(alloc, &mut items, lines, *line, names)?;
+    }
+    Ok(items)
+}
+
+/// The items of a text without imports, each with its number as its name.
+fn numbered_items(alloc: Global, lines: &[Line]) -> Result<Vec<ItemNode>, AllocError> {
+    let mut items = Vec::new(alloc);
+    for line in lines {
+        let names = Names {
+            own: Name(items.len()),
+            taken: None,
+        };
+        add_item(alloc, &mut items, lines, *line, names)?;
+    }
+    Ok(items)
+}
+
+/// These items in a file without attributes.
+fn in_file(alloc: Global, lines: &[Line], items: Vec<ItemNode>) -> Result<Nodes, AllocError> {
+    Ok(Nodes {
+        top: numbers_at(alloc, lines, 0, 0)?,
+        attrs: AttrsOrCfg::Enabled(Attrs {
+            list: Seq::from_vec(Vec::new(alloc)),
+        }),
+        items,
+    })
+}
+
+/// What the tree of a text without imports is made of. The names are numbers.
+pub fn numbered_nodes(alloc: Global, lines: &[Line]) -> Result<Nodes, AllocError> {
+    in_file(alloc, lines, numbered_items(alloc, lines)?)
+}
+
+/// What the tree of a text is made of, under names of a session.
+pub fn named_nodes(
+    alloc: Global,
+    session: &mut Interner,
+    lines: &[Line],
+) -> Result<Nodes, AllocError> {
+    in_file(alloc, lines, named_items(alloc, session, lines)?)
+}
+
+/// The tree of these items.
+pub fn tree_of(nodes: Nodes) -> io::Result<ItemTree> {
+    let Nodes { items, top, attrs } = nodes;
+    match ItemTree::new(items, top, attrs) {
+        Ok(tree) => Ok(tree),
+        Err(_) => Err(io::Error::other("the items are no tree")),
+    }
+}
