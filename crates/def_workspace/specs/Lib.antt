@@ -1,4 +1,3 @@
 pub mod Command
-pub mod Scripted
 pub mod Vectors
 pub mod Workspace

@@ -1,9 +1,7 @@
-//! A database in data, scripted workspaces over it, and the commands that print what is collected
-//! of them.
+//! Scripted workspaces, and the commands that print what is collected of them.
 #![tactic(auto)]
 
 mod command;
-mod scripted;
 mod vectors;
 mod workspace;
 
@@ -12,6 +10,5 @@ pub use def_scripted::{
     AttrText, BuiltinText, CrateText, CtorText, DependencyText, Fault, ImportText, ItemText, Line,
     PathText, PlainKind, VariantsText, Vector, VisText, print, tree_of,
 };
-pub use scripted::Scripted;
 pub use vectors::find;
 pub use workspace::Workspace;

@@ -2,17 +2,16 @@
 
 ghost use Rattle.std.specs.Prelude.{◌≡◌, IfOk};
 ghost use Rattle.def_ids.specs.Session.{AddsLocations, session_of};
+ghost use Rattle.def_database.specs.Database.{answers_of};
 ghost use Rattle.def_state.specs.Collector.{shown};
 ghost use Rattle.def_rules.specs.Headline.{Answers};
-ghost use Rattle.def_workspace.specs.Scripted.{answers_of};
 ghost use Rattle.def_workspace.specs.Workspace.{file_tree, setting};
 
-use crate::scripted::Scripted;
 use def_collector::{Collected, collect_defs};
+use def_database::Database;
 use def_ids::{Interner, VariantId};
 use def_map::{CrateData, DefMap, Dependency, EnumVariant};
 use def_scripted::{CrateText, DependencyText, Line, VariantsText, Vector, file_path, tree_of};
-use indexmap::IndexMap;
 use item_tree::{Crate, FileAstId, FileId, HirFileId, InFile, Seq, TreeId};
 use std::alloc::{AllocError, Global};
 
@@ -20,7 +19,7 @@ use std::alloc::{AllocError, Global};
 pub struct Workspace {
     pub alloc: Global,
     pub session: Interner,
-    pub db: Scripted,
+    pub db: Database,
 }
 
 impl Drop for Workspace {
@@ -39,7 +38,7 @@ impl Workspace {
         Ok(Workspace {
             alloc,
             session: Interner::new(alloc)?,
-            db: Scripted::new(alloc),
+            db: Database::new(alloc),
         })
     }
 
@@ -54,7 +53,7 @@ impl Workspace {
         }
         for text in vector.builtin_types {
             let name = self.session.intern_name(text.name)?;
-            self.db.types.builtin.insert(name, text.number)?;
+            self.db.add_builtin(name, text.number)?;
         }
         for text in vector.enums {
             self.add_variants(text)?;
@@ -75,20 +74,18 @@ impl Workspace {
         from: FileId,
         files: &'static [&'static [Line]],
     ) -> Result<(), AllocError> {
-        let mut paths = IndexMap::new(self.alloc);
         for (number, lines) in files.iter().enumerate() {
             if let Some(path) = file_path(lines) {
-                paths.insert(String::from_str(self.alloc, path)?, FileId(number))?;
+                self.db.add_path(from, path, FileId(number))?;
             }
         }
-        self.db.files.paths.insert(from, paths)?;
         Ok(())
     }
 
     /// Adds a file. One whose lines make no tree is not there.
     fn add_file(&mut self, file: FileId, lines: &'static [Line]) -> Result<(), AllocError> {
         if let Ok(tree) = tree_of(self.alloc, &mut self.session, lines)? {
-            self.db.files.trees.insert(tree_id(file), tree)?;
+            self.db.add_tree(tree_id(file), tree)?;
         }
         Ok(())
     }
@@ -107,8 +104,7 @@ impl Workspace {
             file: HirFileId::File(FileId(text.file)),
             value: FileAstId(text.item),
         };
-        self.db.types.variants.insert(position, variants)?;
-        Ok(())
+        self.db.add_variants(position, variants)
     }
 
     fn dependency(&mut self, text: &DependencyText) -> Result<Dependency, AllocError> {
@@ -132,8 +128,7 @@ impl Workspace {
             lang: None,
             deps,
         };
-        self.db.crates.known.insert(Crate(text.krate), data)?;
-        Ok(())
+        self.db.add_crate(Crate(text.krate), data)
     }
 
     /// Collects the definitions of a crate.
@@ -158,12 +153,7 @@ impl Workspace {
             outcome: _,
             diagnostics: _,
         } = self.collect(text)?;
-        self.db.crates.maps.insert(Crate(text.krate), def_map)?;
-        self.db
-            .crates
-            .local_maps
-            .insert(Crate(text.krate), local_def_map)?;
-        Ok(())
+        self.db.add_map(Crate(text.krate), def_map, local_def_map)
     }
 }
 

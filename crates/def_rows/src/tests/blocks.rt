@@ -102,7 +102,7 @@ fn prepare(workspace: &mut Workspace, block: &'static [Line]) -> Result<(), Allo
 
 fn add_block(workspace: &mut Workspace, block: &'static [Line]) -> Result<(), AllocError> {
     if let Ok(tree) = tree_of(workspace.alloc, &mut workspace.session, block)? {
-        workspace.db.files.trees.insert(TREE, tree)?;
+        workspace.db.add_tree(TREE, tree)?;
     }
     Ok(())
 }

@@ -1,8 +1,7 @@
 //! Where the files of modules are looked for.
 
+use def_database::Database;
 use def_parts::ModDir;
-use def_workspace::Scripted;
-use indexmap::IndexMap;
 use item_tree::{FileId, HirFileId};
 use std::alloc::{AllocError, Global};
 use std::process::Abort;
@@ -15,13 +14,11 @@ const DECLARING: FileId = FileId(0);
 const FOUND: FileId = FileId(1);
 
 /// A database in which these paths lead from the declaring file to the module's.
-fn database(alloc: Global, paths: &[&str]) -> Result<Scripted, AllocError> {
-    let mut db = Scripted::new(alloc);
-    let mut files = IndexMap::new(alloc);
+fn database(alloc: Global, paths: &[&str]) -> Result<Database, AllocError> {
+    let mut db = Database::new(alloc);
     for path in paths {
-        files.insert(String::from_str(alloc, path)?, FOUND)?;
+        db.add_path(DECLARING, path, FOUND)?;
     }
-    db.files.paths.insert(DECLARING, files)?;
     Ok(db)
 }
 

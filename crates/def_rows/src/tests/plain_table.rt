@@ -1,5 +1,6 @@
 //! A table that has the required calls alone, and hands them on.
 #![tactic(auto)]
+
 ghost use Rattle.std.specs.Prelude.{◌≡◌, OnErr, OnOk};
 ghost use Rattle.def_bindings.specs.Content.{with_binding, with_edge, with_unnamed};
 ghost use Rattle.def_bindings.specs.ScopeTable.{content_of};
@@ -60,12 +61,7 @@ impl BindingTable for PlainTable {
         self.table.remove(module, name, ns);
     }
 
-    fn set_unnamed(
-        &mut self,
-        module: ModuleId,
-        item: TraitId,
-        vis: usize,
-    ) -> Result<(), AllocError>
+    fn set_unnamed(&mut self, module: ModuleId, item: TraitId, vis: usize) -> Result<(), AllocError>
         ensures done { OnOk result (content_of self.new.table
             ≡ with_unnamed (content_of self.old.table) «module» item vis) }
         ensures refused { OnErr result (content_of self.new.table ≡ content_of self.old.table) }

@@ -1,4 +1,4 @@
--- What a scripted database answers.
+-- What a database whose answers were written down answers.
 use Rattle.std.specs.Prelude.{Bool, false, ◌==◌, ◌&&◌, List, [], ℕ, String, Option, Some, None, option_map, Err}
 use Rattle.indexmap.specs.IndexMap.{IndexMap, get, get_by_text}
 use Rattle.item_tree.specs.declared.ids.BlockId.{BlockId}
@@ -13,7 +13,7 @@ use Rattle.def_map.specs.DefMaps.{view_of}
 use Rattle.def_modules.specs.Equality.{file_eq, position_eq}
 use Rattle.def_modules.specs.Locals.{local_view}
 use Rattle.def_map.specs.Oracle.{Oracle}
-use Rattle.def_workspace.specs.declared.scripted.Scripted.{Scripted}
+use Rattle.def_database.specs.declared.database.Database.{Database}
 
 -- whether two trees are one
 abbrev pub tree_eq : TreeId → TreeId → Bool
@@ -41,8 +41,12 @@ abbrev pub path_in : {Y S : Type 0} → Option (IndexMap (String Y) FileId S) �
 path_in None path = None
 path_in (Some paths) path = get_by_text paths path
 
--- all answers of a scripted database
-abbrev pub answers_of : Scripted → Oracle
+-- where each path leads from each file
+abbrev pub leads : {Y S R : Type 0} → IndexMap FileId (IndexMap (String Y) FileId S) R → FileId → List ℕ → Option FileId
+leads paths anchor path = path_in (get file_id_eq paths anchor) path
+
+-- all answers
+abbrev pub answers_of : Database → Oracle
 answers_of s =
     record {
       item_tree = get tree_eq s.files.trees;
@@ -50,7 +54,7 @@ answers_of s =
       crate_def_map = λ krate. option_map view_of (get crate_eq s.crates.maps krate);
       outer_map = λ block. option_map view_of (get block_eq s.crates.outer_maps block);
       local_def_map = λ krate. option_map local_view (get crate_eq s.crates.local_maps krate);
-      resolve_path = λ anchor path. path_in (get file_id_eq s.files.paths anchor) path;
+      resolve_path = leads s.files.paths;
       original_file = source_file;
       expansion_depth = λ file. 0;
       asked_paths = λ query. [];

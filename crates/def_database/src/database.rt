@@ -1,5 +1,5 @@
 //! A database whose answers are data.
-ghost use Rattle.def_workspace.specs.Scripted.{answers_of};
+ghost use Rattle.def_database.specs.Database.{answers_of};
 
 use def_ids::{BuiltinAttr, EnumLoc};
 use def_map::{
@@ -39,15 +39,15 @@ pub struct Types {
 
 /// A database whose answers were written down. It has no macros so far: each call is one of a macro
 /// that is not found, and no name is that of a builtin macro, derive or attribute.
-pub struct Scripted {
+pub struct Database {
     pub files: Files,
     pub crates: Crates,
     pub types: Types,
 }
 
-impl Drop for Scripted {
+impl Drop for Database {
     fn drop(self) {
-        let Scripted {
+        let Database {
             files: _,
             crates: _,
             types: _,
@@ -55,10 +55,10 @@ impl Drop for Scripted {
     }
 }
 
-impl Scripted {
+impl Database {
     /// A database that knows nothing.
-    pub fn new(alloc: Global) -> Scripted {
-        Scripted {
+    pub fn new(alloc: Global) -> Database {
+        Database {
             files: Files {
                 trees: IndexMap::new(alloc),
                 paths: IndexMap::new(alloc),
@@ -77,7 +77,7 @@ impl Scripted {
     }
 }
 
-impl SourceDatabase for Scripted {
+impl SourceDatabase for Database {
     ghost oracle = { answers_of };
 
     fn item_tree(&self, id: TreeId) -> Option<&ItemTree> {

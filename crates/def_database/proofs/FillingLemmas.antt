@@ -1,0 +1,66 @@
+-- What a database answers after a write.
+use Rattle.std.proofs.Common.{◌≡◌, refl, ap, ◌∙◌, ℕ, Bool, true, false, ◌&&◌, cond, List, Option, Some, None}
+use Rattle.std.specs.Prelude.{String, bytes_eq, option_map, unwrap_or}
+use Rattle.std.specs.String.{string_bytes}
+use Rattle.std.specs.Map.{lookup}
+use Rattle.std.proofs.lemmas.Bool.{eqb-true}
+use Rattle.indexmap.specs.IndexMap.{IndexMap, IsEmpty, get, get_by_text}
+use Rattle.item_tree.specs.declared.ids.BlockId.{BlockId}
+use Rattle.item_tree.specs.declared.ids.FileId.{FileId}
+use Rattle.item_tree.specs.declared.ids.HirFileId.{HirFileId}
+use Rattle.item_tree.specs.declared.ids.HirFileId.TheVariants.{File, Macro}
+use Rattle.item_tree.specs.declared.ids.TreeId.{TreeId}
+use Rattle.item_tree.specs.contracts.ids.TreeIdPartialEq.TheImpl as trees
+use Rattle.def_modules.specs.Updates.{set_where}
+use Rattle.def_database.specs.Database.{file_id_eq, path_in, tree_eq}
+use Rattle.def_database.specs.Filling.{with_lead}
+
+module _ {K X Y S : Type 0} (eq : K → K → Bool) (f : X → Y) (old new : IndexMap K X S) (k : K) (x : X) where
+  -- a write, where each value is shown by a function
+  pub shown-set : ((q : K) → get eq new q ≡ cond (eq k q) (Some x) (get eq old q)) → (λ (q : K). option_map f (get eq new q)) ≡ set_where (eq k) (Some (f x)) (λ (q : K). option_map f (get eq old q))
+  shown-set written = λ i q. at q i
+    where
+      by : (b : Bool) (o : Option X) → option_map f (cond b (Some x) o) ≡ cond b (Some (f x)) (option_map f o)
+      by true o = refl
+      by false o = refl
+
+      at : (q : K) → option_map f (get eq new q) ≡ set_where (eq k) (Some (f x)) (λ (q : K). option_map f (get eq old q)) q
+      at q = ap (option_map f) (written q) ∙ by (eq k q) (get eq old q)
+
+abbrev tree_at : HirFileId → Option BlockId → TreeId
+tree_at file block = record { file = file; block = block }
+
+tree-same : (f g : HirFileId) (a b : Option BlockId) → trees.ghosts.eq (tree_at f a) (tree_at g b) ≡ tree_eq (tree_at f a) (tree_at g b)
+tree-same (File f) (Macro g) a b = refl
+tree-same (Macro f) (File g) a b = refl
+tree-same (File f) (File g) None None = refl
+tree-same (File f) (File g) None (Some b) = refl
+tree-same (File f) (File g) (Some a) None = refl
+tree-same (File f) (File g) (Some a) (Some b) = refl
+tree-same (Macro f) (Macro g) None None = refl
+tree-same (Macro f) (Macro g) None (Some b) = refl
+tree-same (Macro f) (Macro g) (Some a) None = refl
+tree-same (Macro f) (Macro g) (Some a) (Some b) = refl
+
+-- the derived test of trees is that of the definitions
+pub trees_same : trees.ghosts.eq ≡ tree_eq
+trees_same = λ i a b. tree-same a.file b.file a.block b.block i
+
+same_file : (a b : FileId) → file_id_eq a b ≡ true → a ≡ b
+same_file a b e = ap (λ (n : ℕ). let x : FileId = record { 0 = n } in x) (eqb-true a.0 b.0 e)
+
+module _ {Y S : Type 0} (from : FileId) (path : List ℕ) (to : FileId) (old new : FileId → Option (IndexMap (String Y) FileId S)) (fresh inner : IndexMap (String Y) FileId S) where
+  -- one more path of a file, in the map of its paths or in a fresh one
+  pub led : ((q : FileId) → new q ≡ cond (file_id_eq from q) (Some inner) (old q))
+      → IsEmpty fresh
+      → get_by_text inner ≡ set_where (bytes_eq path) (Some to) (get_by_text (unwrap_or (old from) fresh))
+      → (λ (anchor : FileId) (text : List ℕ). path_in (new anchor) text) ≡ with_lead (λ (anchor : FileId) (text : List ℕ). path_in (old anchor) text) from path to
+  led written empty added = λ i q text. (ap (λ o. path_in o text) (written q) ∙ by q text (file_id_eq from q) refl) i
+    where
+      shown : (text : List ℕ) (o : Option (IndexMap (String Y) FileId S)) → get_by_text (unwrap_or o fresh) text ≡ path_in o text
+      shown text None = ap (λ es. lookup (λ k. bytes_eq text (string_bytes k)) es) empty
+      shown text (Some paths) = refl
+
+      by : (q : FileId) (text : List ℕ) (b : Bool) → file_id_eq from q ≡ b → path_in (cond b (Some inner) (old q)) text ≡ cond (b && bytes_eq path text) (Some to) (path_in (old q) text)
+      by q text false e = refl
+      by q text true e = ap (λ f. f text) added ∙ ap (λ o. cond (bytes_eq path text) (Some to) o) (shown text (old from) ∙ ap (λ k. path_in (old k) text) (same_file from q e))

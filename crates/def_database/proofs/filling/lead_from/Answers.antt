@@ -1,0 +1,13 @@
+use Rattle.std.proofs.Common.{rules, ap, ◌∙◌, Some}
+use Rattle.std.specs.Prelude.{bytes_eq, unwrap_or}
+use Rattle.indexmap.specs.IndexMap.{get, get_by_text}
+use Rattle.def_modules.specs.Updates.{set_where}
+use Rattle.def_database.specs.Database.{file_id_eq}
+use Rattle.def_database.proofs.FillingLemmas.{led}
+use Rattle.def_database.proofs.filling.lead_from.Goals as goal
+
+pub returns : goal.returns
+returns c =
+    let found = c.or_insert-of_file.ensures.value ∙ ap (λ o. unwrap_or o c.new.result) c.in_ok-paths.ensures.value in
+    let added = c.in_ok-lead.ensures ∙ ap (λ m. set_where (bytes_eq c.args.path.now) (Some c.args.to) (get_by_text m)) found in
+    led c.args.from c.args.path.now c.args.to (get file_id_eq c.args.paths.now) _ c.new.result c.lead.new.paths (λ q. search rules) c.new.ensures.empty added

@@ -1,0 +1,56 @@
+-- What a database answers once something more is written down: what is given, and all else as before.
+use Rattle.std.specs.Prelude.{ℕ, ◌&&◌, cond, List, Option, Some, bytes_eq}
+use Rattle.item_tree.specs.declared.ids.BlockId.{BlockId}
+use Rattle.item_tree.specs.declared.ids.Crate.{Crate}
+use Rattle.item_tree.specs.declared.ids.FileId.{FileId}
+use Rattle.item_tree.specs.declared.ids.TreeId.{TreeId}
+use Rattle.item_tree.specs.declared.name.Name.{Name}
+use Rattle.item_tree.specs.declared.tree.ItemTree.{ItemTree}
+use Rattle.def_bindings.specs.Content.{is_name}
+use Rattle.def_map.specs.DefMaps.{view_of}
+use Rattle.def_map.specs.declared.def_map.DefMap.{DefMap}
+use Rattle.def_modules.specs.declared.local_def_map.LocalDefMap.{LocalDefMap}
+use Rattle.def_modules.specs.Equality.{position_eq}
+use Rattle.def_modules.specs.Locals.{local_view}
+use Rattle.def_modules.specs.MapState.{Position}
+use Rattle.def_modules.specs.Updates.{set_where}
+use Rattle.def_map.specs.Oracle.{Oracle}
+use Rattle.def_oracle.specs.declared.source_database.CrateData.{CrateData}
+use Rattle.def_oracle.specs.declared.source_database.EnumVariant.{EnumVariant}
+use Rattle.def_database.specs.Database.{block_eq, crate_eq, file_id_eq, tree_eq}
+
+-- the items of a file or a block
+abbrev pub with_tree : Oracle → TreeId → ItemTree → Oracle
+with_tree o id tree = record o { item_tree = set_where (tree_eq id) (Some tree) o.item_tree }
+
+-- where paths lead, once one more does
+abbrev pub with_lead : (FileId → List ℕ → Option FileId) → FileId → List ℕ → FileId → FileId → List ℕ → Option FileId
+with_lead leads from path to anchor text = cond (file_id_eq from anchor && bytes_eq path text) (Some to) (leads anchor text)
+
+-- where a path leads from a file
+abbrev pub with_path : Oracle → FileId → List ℕ → FileId → Oracle
+with_path o from path to = record o { resolve_path = with_lead o.resolve_path from path to }
+
+-- what is known of a crate
+abbrev pub with_crate : Oracle → Crate → CrateData → Oracle
+with_crate o krate known = record o { crate_data = set_where (crate_eq krate) (Some known) o.crate_data }
+
+-- the finished maps of a crate
+abbrev pub with_maps : Oracle → Crate → DefMap → LocalDefMap → Oracle
+with_maps o krate m local =
+    record o {
+      crate_def_map = set_where (crate_eq krate) (Some (view_of m)) o.crate_def_map;
+      local_def_map = set_where (crate_eq krate) (Some (local_view local)) o.local_def_map;
+    }
+
+-- the finished map of a block
+abbrev pub with_outer_map : Oracle → BlockId → DefMap → Oracle
+with_outer_map o block m = record o { outer_map = set_where (block_eq block) (Some (view_of m)) o.outer_map }
+
+-- the variants of the enum at a position
+abbrev pub with_variants : Oracle → Position → List EnumVariant → Oracle
+with_variants o position variants = record o { enum_variants = λ loc. cond (position_eq position loc.position) (Some variants) (o.enum_variants loc) }
+
+-- the builtin type of a name
+abbrev pub with_builtin : Oracle → Name → ℕ → Oracle
+with_builtin o name number = record o { builtin_type = set_where (is_name name) (Some number) o.builtin_type }

@@ -1,0 +1,2 @@
+pub mod Database
+pub mod Filling

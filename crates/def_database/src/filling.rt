@@ -1,0 +1,110 @@
+//! Writing answers down. Each call answers anew what it is given, in the place of an earlier answer.
+ghost use Rattle.std.specs.Prelude.{◌≡◌, Some, bytes_eq, OnOk, OnErr};
+ghost use Rattle.indexmap.specs.IndexMap.{get_by_text};
+ghost use Rattle.def_modules.specs.Updates.{set_where};
+ghost use Rattle.def_database.specs.Database.{answers_of, leads};
+ghost use Rattle.def_database.specs.Filling.{with_tree, with_path, with_crate, with_maps, with_outer_map, with_variants, with_builtin, with_lead};
+
+use crate::database::Database;
+use def_map::{CrateData, DefMap, EnumVariant, LocalDefMap};
+use indexmap::IndexMap;
+use item_tree::{BlockId, Crate, FileAstId, FileId, InFile, ItemTree, Name, TreeId};
+use std::alloc::AllocError;
+
+impl Database {
+    /// Gives a file or a block its items.
+    pub fn add_tree(&mut self, id: TreeId, tree: ItemTree) -> Result<(), AllocError>
+        ensures ok { OnOk result (answers_of self.new ≡ with_tree (answers_of self.old) id tree) }
+        ensures err { OnErr result (answers_of self.new ≡ answers_of self.old) }
+    {
+        self.files.trees.insert(id, tree)?;
+        Ok(())
+    }
+
+    /// Leads a path, seen from a file, to a file.
+    pub fn add_path(&mut self, from: FileId, path: &str, to: FileId) -> Result<(), AllocError>
+        ensures ok { OnOk result (answers_of self.new ≡ with_path (answers_of self.old) from path.now to) }
+    {
+        lead_from(&mut self.files.paths, from, path, to)
+    }
+
+    /// Says what is known of a crate.
+    pub fn add_crate(&mut self, krate: Crate, data: CrateData) -> Result<(), AllocError>
+        ensures ok { OnOk result (answers_of self.new ≡ with_crate (answers_of self.old) krate «data») }
+        ensures err { OnErr result (answers_of self.new ≡ answers_of self.old) }
+    {
+        self.crates.known.insert(krate, data)?;
+        Ok(())
+    }
+
+    /// Hands a crate's finished maps to the crates that depend on it. On `Err` the first of the two
+    /// may be there.
+    pub fn add_map(
+        &mut self,
+        krate: Crate,
+        def_map: DefMap,
+        local_def_map: LocalDefMap,
+    ) -> Result<(), AllocError>
+        ensures ok { OnOk result (answers_of self.new ≡ with_maps (answers_of self.old) krate def_map local_def_map) }
+    {
+        self.crates.maps.insert(krate, def_map)?;
+        self.crates.local_maps.insert(krate, local_def_map)?;
+        Ok(())
+    }
+
+    /// Hands a block's finished map to the blocks within it.
+    pub fn add_outer_map(&mut self, block: BlockId, def_map: DefMap) -> Result<(), AllocError>
+        ensures ok { OnOk result (answers_of self.new ≡ with_outer_map (answers_of self.old) block def_map) }
+        ensures err { OnErr result (answers_of self.new ≡ answers_of self.old) }
+    {
+        self.crates.outer_maps.insert(block, def_map)?;
+        Ok(())
+    }
+
+    /// Gives the enum at a position its variants.
+    pub fn add_variants(
+        &mut self,
+        position: InFile<FileAstId>,
+        variants: Vec<EnumVariant>,
+    ) -> Result<(), AllocError>
+        ensures ok { OnOk result (answers_of self.new ≡ with_variants (answers_of self.old) position variants.items) }
+        ensures err { OnErr result (answers_of self.new ≡ answers_of self.old) }
+    {
+        self.types.variants.insert(position, variants)?;
+        Ok(())
+    }
+
+    /// Makes a name that of a builtin type, by its number.
+    pub fn add_builtin(&mut self, name: Name, number: u32) -> Result<(), AllocError>
+        ensures ok { OnOk result (answers_of self.new ≡ with_builtin (answers_of self.old) name number) }
+        ensures err { OnErr result (answers_of self.new ≡ answers_of self.old) }
+    {
+        self.types.builtin.insert(name, number)?;
+        Ok(())
+    }
+}
+
+/// Leads a path to a file.
+fn lead(paths: &mut IndexMap<String, FileId>, path: &str, to: FileId) -> Result<(), AllocError>
+    ensures { OnOk result (get_by_text paths.new ≡ set_where (bytes_eq path.now) (Some to) (get_by_text paths.old)) }
+{
+    let alloc = *paths.allocator();
+    let path = String::from_str(alloc, path)?;
+    paths.insert(path, to)?;
+    Ok(())
+}
+
+/// Leads a path, seen from a file, to a file.
+fn lead_from(
+    paths: &mut IndexMap<FileId, IndexMap<String, FileId>>,
+    from: FileId,
+    path: &str,
+    to: FileId,
+) -> Result<(), AllocError>
+    ensures { OnOk result (leads paths.new ≡ with_lead (leads paths.old) from path.now to) }
+{
+    let alloc = *paths.allocator();
+    let of_file = paths.entry(from)?.or_insert(IndexMap::new(alloc));
+    lead(of_file, path, to)?;
+    Ok(())
+}

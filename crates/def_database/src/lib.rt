@@ -1,0 +1,7 @@
+//! An oracle that is ready to be filled: a database whose answers are written down.
+#![tactic(auto)]
+
+mod database;
+mod filling;
+
+pub use database::{Crates, Database, Files, Types};

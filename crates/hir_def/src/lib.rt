@@ -1,0 +1,54 @@
+//! The whole library as one crate: item trees and ids, the session, maps and their readers, the
+//! trait of the oracle, a database that is one, and the collector.
+#![tactic(auto)]
+
+// Item trees, and what they are built of.
+pub use item_tree::{
+    Attr, AttrId, AttrInput, AttrQuery, Attrs, AttrsAfter, AttrsOrCfg, BlockId, CfgExpr, Crate,
+    CtorVisibility, ExpandTo, FileAstId, FileId, HirFileId, ImportAlias, ImportKind, InFile,
+    ItemNode, ItemTree, KNOWN_NAMES, Leaf, MacroCallId, MacroCallStyles, MacroRulesLocFlags,
+    ModContents, ModItemId, ModItemKind, ModPath, Name, NameTable, PathKind, RawVisibility, Seq,
+    SyntaxContext, Text, TopSubtree, TopSubtreeBuilder, TreeFault, TreeId, TtElement, TtIter,
+    TtValues, UseImport,
+};
+
+// The session, and the ids that it gives out, with the locations that they stand for.
+pub use def_ids::{
+    Adt, BuiltinAttr, BuiltinDeriveImplId, BuiltinDeriveImplLoc, ConstId, ConstLoc,
+    CustomProcMacroExpander, Def, Edition, EnumId, EnumLoc, ExternBlockId, ExternBlockLoc,
+    ExternCrateId, ExternCrateLoc, FunctionId, FunctionLoc, GlobId, ImplId, ImplLoc, ImportId,
+    Interner, ItemContainerId, Location, LocationId, Macro2Id, Macro2Loc, MacroDefId, MacroDefKind,
+    MacroExpander, MacroId, MacroRulesId, MacroRulesLoc, MapId, ModuleId, ProcMacroId,
+    ProcMacroLoc, ProcMacroUse, StaticId, StaticLoc, StructId, StructLoc, TraitId, TraitLoc,
+    TypeAliasId, TypeAliasLoc, UnionId, UnionLoc, UseId, UseLoc, VariantId,
+};
+
+// Maps: what is seeded, what they hold, and what names and paths mean in them.
+pub use def_bindings::{
+    Binding, BindingTable, EdgeTo, Entry, ImportOrExternCrate, ModuleTree, NameBindings, Namespace,
+    Slot, VisOrder, Visibility,
+};
+pub use def_map::{
+    BlockInfo, BuiltinShadowMode, DefMap, Item, ItemScope, MacroSubNs, PerNs, PrefixInfo,
+    ReachedFixedPoint, Resolutions, ResolveMode, ResolvePathResult, Table, UnnamedTraits,
+};
+pub use def_modules::{
+    DeriveCall, DeriveHelper, DeriveKey, DeriveMacroInvocation, ExternPreludeEntry, Invocation,
+    LocalDefMap, ModuleData, ModuleOrigin, Position, ScopeData, UnstableFeatures,
+};
+
+// The oracle: its trait, what it is asked and answers, and a database to fill.
+pub use def_database::{Crates, Database, Files, Types};
+pub use def_map::{
+    AssocItem, AssocItemKind, AssocItemsOwner, AssocList, AttrCallQuery, CallAnswer, CallQuery,
+    CrateData, Dependency, DeriveCallQuery, EnumVariant, LangCrate, MacroResolver, SourceDatabase,
+    UnresolvedMacro,
+};
+pub use either::Either;
+
+// The collector, and what it answers.
+pub use def_collector::collect_defs;
+pub use def_rules::{
+    Collected, DefDiagnostic, DefDiagnosticKind, DefDiagnostics, Edge, LeftImport, LeftMacro,
+    LeftMacroKind, Outcome,
+};

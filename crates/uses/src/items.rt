@@ -1,0 +1,153 @@
+//! Items, and the trees of files that hold them side by side.
+
+use hir_def::{
+    Attrs, AttrsOrCfg, CrateData, CtorVisibility, Database, Dependency, FileAstId, FileId,
+    ImportAlias, ImportKind, Interner, ItemNode, ItemTree, ModContents, ModItemId, ModItemKind,
+    ModPath, PathKind, RawVisibility, Seq, TreeFault, TreeId, UseImport,
+};
+use std::alloc::{AllocError, Global};
+
+/// The path of some segments, as `a::S`.
+pub fn path_of(
+    alloc: Global,
+    session: &mut Interner,
+    segments: &[&str],
+) -> Result<ModPath, AllocError> {
+    let mut names = Seq::from_vec(Vec::new(alloc));
+    for segment in segments {
+        names.push(session.intern_name(segment)?)?;
+    }
+    Ok(ModPath {
+        kind: PathKind::Plain,
+        segments: names,
+    })
+}
+
+/// A private `use` of a path, under a name of its own if one is given.
+fn import(
+    alloc: Global,
+    path: ModPath,
+    alias: Option<ImportAlias>,
+) -> Result<ModItemKind, AllocError> {
+    let mut imports = Seq::from_vec(Vec::new(alloc));
+    imports.push(UseImport {
+        idx: 0,
+        path,
+        kind: ImportKind::Plain,
+        alias,
+    })?;
+    Ok(ModItemKind::Use {
+        visibility: RawVisibility::PubSelf,
+        imports,
+    })
+}
+
+/// `use a::S;`, of a path.
+pub fn import_of(
+    alloc: Global,
+    session: &mut Interner,
+    segments: &[&str],
+) -> Result<ModItemKind, AllocError> {
+    import(alloc, path_of(alloc, session, segments)?, None)
+}
+
+/// `use S as T;`
+pub fn import_as(
+    alloc: Global,
+    session: &mut Interner,
+    name: &str,
+    alias: &str,
+) -> Result<ModItemKind, AllocError> {
+    let path = path_of(alloc, session, &[name])?;
+    let alias = session.intern_name(alias)?;
+    import(alloc, path, Some(ImportAlias::Alias(alias)))
+}
+
+/// `pub struct S;`, which is a type and a value.
+pub fn struct_of(session: &mut Interner, name: &str) -> Result<ModItemKind, AllocError> {
+    Ok(ModItemKind::Struct {
+        name: session.intern_name(name)?,
+        visibility: RawVisibility::Public,
+        ctor: CtorVisibility::ValueNsCtorWithVis(RawVisibility::Public),
+    })
+}
+
+/// `mod a;`, whose items stand in a file of their own.
+pub fn module_of(session: &mut Interner, name: &str) -> Result<ModItemKind, AllocError> {
+    Ok(ModItemKind::Mod {
+        name: session.intern_name(name)?,
+        visibility: RawVisibility::PubSelf,
+        contents: ModContents::Outline,
+    })
+}
+
+/// Appends an item that stands in no other, with the next number of the text.
+fn push_item(
+    items: &mut Vec<ItemNode>,
+    top: &mut Vec<ModItemId>,
+    kind: ModItemKind,
+) -> Result<(), AllocError> {
+    let number = items.len();
+    top.push(ModItemId(number))?;
+    items.push(ItemNode {
+        ast_id: FileAstId(number),
+        attrs: None,
+        kind,
+    })?;
+    Ok(())
+}
+
+/// The attributes of a file that has none.
+fn no_attrs(alloc: Global) -> AttrsOrCfg {
+    AttrsOrCfg::Enabled(Attrs {
+        list: Seq::from_vec(Vec::new(alloc)),
+    })
+}
+
+/// The tree of a file or a block that holds these items, in the order of the text.
+fn tree_of(
+    alloc: Global,
+    kinds: Vec<ModItemKind>,
+) -> Result<Result<ItemTree, TreeFault>, AllocError> {
+    let mut items = Vec::new(alloc);
+    let mut top = Vec::new(alloc);
+    for kind in kinds {
+        push_item(&mut items, &mut top, kind)?;
+    }
+    Ok(ItemTree::new(items, top, no_attrs(alloc)))
+}
+
+/// Writes down which items a file or a block holds. None of them holds others, so they are a tree.
+pub fn add_items(
+    alloc: Global,
+    db: &mut Database,
+    id: TreeId,
+    kinds: Vec<ModItemKind>,
+) -> Result<(), AllocError> {
+    match tree_of(alloc, kinds)? {
+        Ok(tree) => db.add_tree(id, tree),
+        Err(_) => Ok(()),
+    }
+}
+
+/// Writes down that a file or a block holds this item alone.
+pub fn add_item(
+    alloc: Global,
+    db: &mut Database,
+    id: TreeId,
+    kind: ModItemKind,
+) -> Result<(), AllocError> {
+    let mut kinds = Vec::new(alloc);
+    kinds.push(kind)?;
+    add_items(alloc, db, id, kinds)
+}
+
+/// What is known of a crate: its root file, and the crates that it depends on.
+pub fn crate_data(root_file: FileId, deps: Seq<Dependency>) -> CrateData {
+    CrateData {
+        root_file,
+        proc_macro: false,
+        lang: None,
+        deps,
+    }
+}
