@@ -35,7 +35,6 @@ use Rattle.def_rules.specs.State.{State, Effect, PendingImport, Site, Task, only
 use Rattle.item_tree.specs.declared.ids.ModItemId.{ModItemId}
 use Rattle.def_ids.specs.declared.ids.ItemContainerId.TheVariants as contained
 use Rattle.def_bindings.specs.declared.bindings.Namespace.{Namespace}
-use Rattle.def_laws.proofs.WorkLaws.{crate_session}
 use Rattle.def_laws.proofs.StepsLaws.{performs_none, performs_updated}
 
 module _ (oracle : Oracle) (s s1 t : State) (at : ModuleId) (name : Name) (d : Def) (vis : Visibility) (given : Option Visibility) where
@@ -116,7 +115,7 @@ handled_use oracle s t session site item raw imports n position prelude kind add
     record {
       effect = effect;
       handled = (session, adds, subst (λ k. Handles oracle (record s { session = session }) site item k effect) (sym kind) (n, number, refl));
-      done = record { puts = []; tasks = refl; performs = subst (λ u. Performs oracle [] effect.state u) (sym became) (performs_none effect.state); session = ap (λ (u : State). u.session) became };
+      done = record { puts = []; tasks = refl; performs = subst (λ u. Performs oracle [] effect.state u) (sym became) (performs_none effect.state) };
     }
 
 -- a struct was handled
@@ -124,8 +123,8 @@ pub handled_struct : (oracle : Oracle) (s t : State) (session : Session) (site :
     → item.kind ≡ Struct name raw written → AddsLocations s.session session → position ≡ position_of site item → session.item StructItem n ≡ Some (in_module site.scope position)
     → vis ≡ written_vis oracle (record s { session = session }) site.scope raw → ctor ≡ ctor_vis oracle (record s { session = session }) site.scope written
     → (let effect = struct_effect (record s { session = session }) site.scope name (def.Struct (record { 0 = n })) vis ctor in Performs oracle effect.tasks effect.state t)
-    → t.session ≡ session → Handled oracle s t site item []
-handled_struct oracle s t session site item name raw written n position vis ctor kind adds placed numbered seen built after same =
+    → Handled oracle s t site item []
+handled_struct oracle s t session site item name raw written n position vis ctor kind adds placed numbered seen built after =
     let effect : Effect = struct_effect (record s { session = session }) site.scope name (def.Struct (record { 0 = n })) vis ctor in
     let number : session.item StructItem n ≡ Some (loc_of site StructItem item) = numbered ∙ ap (λ p. Some (in_module site.scope p)) placed in
     let is : effect ≡ struct_effect (record s { session = session }) site.scope name (def.Struct (record { 0 = n })) (written_vis oracle (record s { session = session }) site.scope raw) (ctor_vis oracle (record s { session = session }) site.scope written) =
@@ -134,7 +133,7 @@ handled_struct oracle s t session site item name raw written n position vis ctor
     record {
       effect = effect;
       handled = (session, adds, subst (λ k. Handles oracle (record s { session = session }) site item k effect) (sym kind) (n, number, is));
-      done = record { puts = effect.tasks; tasks = sym (append-nil effect.tasks); performs = after; session = same };
+      done = record { puts = effect.tasks; tasks = sym (append-nil effect.tasks); performs = after };
     }
 
 module _ (oracle : Oracle) (s t : State) (session : Session) (site : Site) (item : ItemNode) (name : Name) (raw : RawVisibility) (n : ℕ) (position : InFile FileAstId) (vis : Visibility)
@@ -146,15 +145,15 @@ module _ (oracle : Oracle) (s t : State) (session : Session) (site : Site) (item
   -- an item that declares one definition
   pub handled_declared : (kind : ItemKind) (d : ℕ → Def) (ns : Namespace) → rule_of item.kind ≡ declares kind d ns name raw
       → session.item kind n ≡ Some (in_container (container_of site kind) position)
-      → Performs oracle (declared_effect grown site.scope name ns (d n) vis).tasks (declared_effect grown site.scope name ns (d n) vis).state t → t.session ≡ session
+      → Performs oracle (declared_effect grown site.scope name ns (d n) vis).tasks (declared_effect grown site.scope name ns (d n) vis).state t
       → Handled oracle s t site item []
-  handled_declared kind d ns rule numbered after same =
+  handled_declared kind d ns rule numbered after =
       let effect : Effect = declared_effect grown site.scope name ns (d n) vis in
       let number : session.item kind n ≡ Some (loc_of site kind item) = numbered ∙ ap (λ p. Some (in_container (container_of site kind) p)) placed in
       record {
         effect = effect;
         handled = (session, adds, subst (λ r. Follows oracle grown site item r effect) (sym rule) (n, number, ap (declared_effect grown site.scope name ns (d n)) seen));
-        done = record { puts = effect.tasks; tasks = refl; performs = after; session = same };
+        done = record { puts = effect.tasks; tasks = refl; performs = after };
       }
 
 -- Something was recorded in the module, and nothing put
@@ -171,7 +170,7 @@ module _ (oracle : Oracle) (s t : State) (session : Session) (site : Site) (item
       record {
         effect = effect;
         handled = (session, adds, subst (λ k. Handles oracle kept site item k effect) (sym kind) (n, numbered ∙ ap (λ p. Some (in_container site.container p)) placed, refl));
-        done = record { puts = []; tasks = refl; performs = subst (λ u. Performs oracle [] effect.state u) (sym after) (performs_none effect.state); session = ap (λ (u : State). u.session) after };
+        done = record { puts = []; tasks = refl; performs = subst (λ u. Performs oracle [] effect.state u) (sym after) (performs_none effect.state) };
       }
 
   pub handled_impl : (of_trait : Bool) → item.kind ≡ Impl of_trait → session.item ImplItem n ≡ Some (in_module site.scope position)
@@ -181,7 +180,7 @@ module _ (oracle : Oracle) (s t : State) (session : Session) (site : Site) (item
       record {
         effect = effect;
         handled = (session, adds, subst (λ k. Handles oracle kept site item k effect) (sym kind) (n, numbered ∙ ap (λ p. Some (in_module site.scope p)) placed, refl));
-        done = record { puts = []; tasks = refl; performs = subst (λ u. Performs oracle [] effect.state u) (sym after) (performs_none effect.state); session = ap (λ (u : State). u.session) after };
+        done = record { puts = []; tasks = refl; performs = subst (λ u. Performs oracle [] effect.state u) (sym after) (performs_none effect.state) };
       }
 
   -- an extern crate
@@ -189,8 +188,8 @@ module _ (oracle : Oracle) (s t : State) (session : Session) (site : Site) (item
       → item.kind ≡ ExternCrate name raw alias → session.item ExternCrateItem n ≡ Some (in_module site.scope position) → u ≡ noted_in kept site.scope (with_extern_crate (record { 0 = n }))
       → bound ≡ crate_name name alias → vis ≡ written_vis oracle kept site.scope raw → root ≡ named_crate kept name
       → (let effect = crate_effect u site item (record { 0 = n }) bound vis root in Performs oracle effect.tasks effect.state t)
-      → t.session ≡ session → Handled oracle s t site item []
-  handled_extern_crate name raw alias u bound vis root kind numbered noted named seen found after same =
+      → Handled oracle s t site item []
+  handled_extern_crate name raw alias u bound vis root kind numbered noted named seen found after =
       let begun : State = noted_in kept site.scope (with_extern_crate (record { 0 = n })) in
       let effect : Effect = crate_effect u site item (record { 0 = n }) bound vis root in
       let number : session.item ExternCrateItem n ≡ Some (loc_of site ExternCrateItem item) = numbered ∙ ap (λ p. Some (in_module site.scope p)) placed in
@@ -202,11 +201,8 @@ module _ (oracle : Oracle) (s t : State) (session : Session) (site : Site) (item
       record {
         effect = effect;
         handled = (session, adds, subst (λ k. Handles oracle kept site item k effect) (sym kind) (n, number, is));
-        done = record { puts = effect.tasks; tasks = sym (append-nil effect.tasks); performs = after; session = same ∙ sym left };
+        done = record { puts = effect.tasks; tasks = sym (append-nil effect.tasks); performs = after };
       }
-    where
-      left : (crate_effect u site item (record { 0 = n }) bound vis root).state.session ≡ session
-      left = crate_session u site item (record { 0 = n }) bound vis root ∙ ap (λ (x : State). x.session) noted
 
   -- an extern block, whose items are walked in the same module
   pub handled_extern_block : (children items : List ModItemId) (directory : Directory) → item.kind ≡ ExternBlock children → items ≡ children → directory ≡ site.directory
@@ -222,6 +218,5 @@ module _ (oracle : Oracle) (s t : State) (session : Session) (site : Site) (item
           tasks = ap (λ d. walk oracle (record site { container = contained.ExternBlock (record { 0 = n }); directory = d }) children) (sym same_directory)
               ∙ ap (λ l. walk oracle (record site { container = contained.ExternBlock (record { 0 = n }); directory = directory }) l) (sym same_items);
           performs = subst (λ u. Performs oracle [] effect.state u) (sym after) (performs_none effect.state);
-          session = ap (λ (u : State). u.session) after;
         };
       }

@@ -25,7 +25,6 @@ pub fn define_impl(
         Handled oracle (with_session s session.old def_map.old) (with_session s session.new def_map.new)
         (site_of site.entry) node.now []) }
     ensures session { AddsLocations (session_of session.old) (session_of session.new) }
-    ensures names { session.new.names ≡ session.old.names }
 {
     let id = ImplLoc {
         container: site.module_id,

@@ -33,7 +33,6 @@ module_done oracle s t site name vis o contents inner same added = record {
   puts = put_declared site.scope name Types (Module (next_module s)) vis ∷ [];
   tasks = ap (λ l. put_declared site.scope name Types (Module (next_module s)) vis ∷ l) (sym same);
   performs = performs_updated site.scope (declared_entry name Types (Module (next_module s)) vis ∷ []) (add_module s site.scope name vis o) t added;
-  session = ap (λ (u : State). u.session) added.rest;
 }
 
 module _ (oracle : Oracle) (s t : State) (site : Site) (name : Name) (vis : Visibility) (o : ModuleOrigin) (children : List ModItemId) (found : Option Directory) (added : IsPushed s t site name vis o) where
@@ -57,7 +56,7 @@ module _ (oracle : Oracle) (s t : State) (site : Site) (item : ItemNode) (name :
   file_disabled found cfg off after =
       let r : State = reported s (diagnostic site item (UnconfiguredCode cfg)) in
       done_same (outline_found oracle s site item name vis found (Some cfg)) (outline_item oracle s site item name vis (Ok found)) [] (ap (outline_found oracle s site item name vis found) off)
-      (record { puts = []; tasks = refl; performs = subst (λ u. Performs oracle [] r u) (sym after) (performs_none r); session = ap (λ (u : State). u.session) after })
+      (record { puts = []; tasks = refl; performs = subst (λ u. Performs oracle [] r u) (sym after) (performs_none r) })
 
   -- a file's items are left
   pub file_opened : (found : FoundFile) (child : ModuleId) (ids : List ModItemId) → None ≡ tree_cfg oracle (file_tree found) → child ≡ next_module s → ids ≡ top_items oracle (file_tree found)

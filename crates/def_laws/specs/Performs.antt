@@ -33,12 +33,11 @@ pub record Updated (at : ModuleId) (list : List (Entry Visibility)) (s t : State
   pub travels : Travels (order s) at list s.content t.content
   pub rest : t ≡ with_content s t.content
 
--- what a rule leads to was done up to these inner tasks: the others are puts, were performed, and left the session
+-- what a rule leads to was done up to these inner tasks: the others are puts, and were performed
 pub record IsDone (oracle : Oracle) (effect : Effect) (t : State) (inner : List Task) : Type 0 where
   pub puts : List Task
   pub tasks : effect.tasks ≡ puts ++ inner
   pub performs : Performs oracle puts effect.state t
-  pub session : t.session ≡ effect.state.session
 
 -- an item was handled, and what it puts was put: its own items are left
 pub record Handled (oracle : Oracle) (s t : State) (site : Site) (item : ItemNode) (inner : List Task) : Type 0 where

@@ -1,19 +1,17 @@
 -- One turn of the walk, from what the code found.
-use Rattle.std.proofs.Common.{◌≡◌, ◌<◌, ◌≤◌, ◌+◌, ℕ, List, [], ◌∷◌, ◌++◌, length, All, Option, inl, inr, Some, None, true, false, Bor, option_map, slice_get, option_and_then, arith, refl, sym, ap, subst, ◌∙◌}
+use Rattle.std.proofs.Common.{◌≡◌, ◌<◌, ◌≤◌, ◌+◌, ◌^◌, ℕ, List, [], ◌∷◌, ◌++◌, length, All, Option, inl, inr, Some, None, true, false, Bor, option_map, slice_get, option_and_then, arith, refl, sym, ap, subst, ◌∙◌}
 use Rattle.std.proofs.lemmas.List.{drop_all}
 use Rattle.std.proofs.lemmas.List.Sums.{sum_by-cons}
 use Rattle.std.proofs.lemmas.List.Elements.{All-append, All-cons, All-head, All-nil, All-same, All-tail}
 use Rattle.std.proofs.lemmas.Option.{slice_get_cases}
 use Rattle.item_tree.specs.declared.ids.ModItemId.{ModItemId}
 use Rattle.item_tree.specs.declared.items.ItemNode.{ItemNode}
-use Rattle.item_tree.specs.declared.name.Name.{Name}
 use Rattle.item_tree.specs.declared.tree.ItemTree.{ItemTree}
 use Rattle.item_tree.specs.Trees.{item_at}
-use Rattle.std.specs.Option.{unwrap_or}
 use Rattle.std.specs.declared.alloc.Global.{Global}
 use Rattle.std.specs.Prelude.{IfSome, is_some, Vec}
-use Rattle.def_ids.specs.declared.interner.Interner.{Interner}
-use Rattle.def_ids.specs.Session.{session_of}
+use Rattle.def_ids.specs.Session.{AddsLocations}
+use Rattle.def_ids.specs.SessionLaws.{adds_refl, adds_trans}
 use Rattle.def_map.specs.Oracle.{Oracle}
 use Rattle.def_items.specs.declared.lists.Frame.{Frame}
 use Rattle.def_items.specs.declared.lists.ItemList.{ItemList}
@@ -22,7 +20,6 @@ use Rattle.def_walk.specs.Walk.{AreKnown, agenda_of, frame_tasks, inner_of, is_f
 use Rattle.def_items.specs.Lists.{left_of, listed}
 use Rattle.def_laws.specs.Work.{task_work, work}
 use Rattle.def_rules.specs.Items.{diagnostic, node_at, ordered, visits, walk}
-use Rattle.def_rules.specs.Modules.{name_text}
 use Rattle.def_rules.specs.declared.diagnostics.DefDiagnostic.{DefDiagnostic}
 use Rattle.def_rules.specs.declared.diagnostics.DefDiagnosticKind.TheVariants.{UnconfiguredCode}
 use Rattle.item_tree.specs.declared.ids.CfgExpr.{CfgExpr}
@@ -31,6 +28,7 @@ use Rattle.def_state.specs.declared.collector.DefCollector.{DefCollector}
 use Rattle.def_rules.specs.State.{Site, State, Task, Enter, Visit, entered}
 use Rattle.def_laws.specs.Runs.{Leads}
 use Rattle.def_laws.proofs.StepsLaws.{leads_disabled, leads_enter, leads_trans}
+use Rattle.def_laws.proofs.WorkLaws.{walk_length}
 use Rattle.def_walk.proofs.WalkLemmas.{after_turn, agenda_of-one, agenda_of-push, frame_tasks-next, left_of-cons, measure_pushed, work_next}
 
 below : {X : Type 0} (P : X → Type 0) (xs : List X) (x : X) → All P (xs ++ x ∷ []) → All P xs
@@ -42,7 +40,7 @@ last P [] x all = All-head P x [] all
 last P (y ∷ xs) x all = last P xs x (All-tail P y (xs ++ x ∷ []) all)
 
 -- what holds of a list and one more holds of the list
-pub all_below : {X : Type 0} (P : X → Type 0) (xs ys : List X) (x : X) → ys ≡ xs ++ x ∷ [] → All P ys → All P xs
+all_below : {X : Type 0} (P : X → Type 0) (xs ys : List X) (x : X) → ys ≡ xs ++ x ∷ [] → All P ys → All P xs
 all_below P xs ys x pushed all = below P xs x (subst (All P) pushed all)
 
 -- and of the one more
@@ -50,11 +48,11 @@ pub all_last : {X : Type 0} (P : X → Type 0) (xs ys : List X) (x : X) → ys �
 all_last P xs ys x pushed all = last P xs x (subst (All P) pushed all)
 
 -- and the other way round
-pub all_pushed : {X : Type 0} (P : X → Type 0) (xs ys : List X) (x : X) → ys ≡ xs ++ x ∷ [] → All P xs → P x → All P ys
+all_pushed : {X : Type 0} (P : X → Type 0) (xs ys : List X) (x : X) → ys ≡ xs ++ x ∷ [] → All P xs → P x → All P ys
 all_pushed P xs ys x pushed all last = All-same P ys (xs ++ x ∷ []) pushed (All-append P xs (x ∷ []) all (All-cons P x [] last (All-nil P)))
 
 -- nothing fails in an empty list
-pub all_none : {X : Type 0} (P : X → Type 0) → All P []
+all_none : {X : Type 0} (P : X → Type 0) → All P []
 all_none P = All-nil P
 
 -- a list without length is empty
@@ -71,7 +69,7 @@ past_end xs i none = elim (slice_get_cases xs i).1 [
 
 -- what the oracle has at a number is what a known list's tree has
 pub node_of : (oracle : Oracle) (frame : ItemList) (id : ModItemId) (found : Option ItemNode) → is_known oracle frame → found ≡ option_and_then (λ (t : Bor ItemTree). item_at t.now.items id) frame.tree → node_at oracle frame.tree_id id ≡ found
-node_of oracle frame id found known is = ap (λ o. option_and_then (λ t. slice_get t.items id.0) o) known ∙ below frame.tree ∙ sym is
+node_of oracle frame id found known is = ap (λ o. option_and_then (λ t. slice_get t.items id.0) o) known.0 ∙ below frame.tree ∙ sym is
   where
     below : (tree : Option (Bor ItemTree)) → option_and_then (λ (t : ItemTree). slice_get t.items id.0) (option_map (λ t. t.now) tree) ≡ option_and_then (λ (t : Bor ItemTree). item_at t.now.items id) tree
     below None = refl
@@ -79,7 +77,7 @@ node_of oracle frame id found known is = ap (λ o. option_and_then (λ t. slice_
 
 -- a list in the order of its visits, in the tree that the oracle has
 pub ordered_known : (oracle : Oracle) (list : ItemList) → is_known oracle list → ordered (tree_in list) list.module_id list.items.now ≡ ordered (oracle.item_tree list.tree_id) list.module_id list.items.now
-ordered_known oracle list known = ap (λ t. ordered t list.module_id list.items.now) (sym known)
+ordered_known oracle list known = ap (λ t. ordered t list.module_id list.items.now) (sym known.0)
 
 -- what a frame has left, where it was opened for a list
 pub opened_tasks : (oracle : Oracle) (list : ItemList) (frame : Frame) → is_known oracle list → frame.list ≡ list → left_of frame ≡ ordered (tree_in list) list.module_id list.items.now
@@ -87,26 +85,6 @@ pub opened_tasks : (oracle : Oracle) (list : ItemList) (frame : Frame) → is_kn
 opened_tasks oracle list frame known same left =
     ap (λ ids. Enter list.module_id list.dir ∷ visits (list_site list) ids) (sym (left ∙ ordered_known oracle list known))
     ∙ ap (λ l. Enter list.module_id list.dir ∷ visits (list_site l) (left_of frame)) (sym same)
-
--- a walk begins: the directory of its list is stored
-pub walk_begins : (oracle : Oracle) (list : ItemList) (first : Frame) (frames : List Frame) (s t : State) → is_known oracle list → first.list ≡ list → left_of first ≡ ordered (tree_in list) list.module_id list.items.now
-    → frames ≡ first ∷ [] → t ≡ entered s list.module_id list.dir → Leads oracle (walk oracle (list_site list) list.items.now) s (agenda_of frames) t
-walk_begins oracle list first frames s t known same left one stored =
-    subst (λ tasks. Leads oracle (walk oracle (list_site list) list.items.now) s tasks t) (sym (ap agenda_of one ∙ agenda_of-one first))
-    (subst (λ u. Leads oracle (walk oracle (list_site list) list.items.now) s (frame_tasks first) u) (sym stored)
-    (subst (λ tasks. Leads oracle tasks s (frame_tasks first) (entered s list.module_id list.dir)) (sym (opened_tasks oracle list first known same left)) (leads_enter list.module_id list.dir (frame_tasks first) s)))
-
--- less by the texts of a session is less by those of one with the same names
-pub fewer_still : (oracle : Oracle) (first now : Interner) (before between after : List Frame) → before ≡ between → now.names ≡ first.names
-    → walk_measure oracle (name_text (session_of now)) after < walk_measure oracle (name_text (session_of now)) between
-    → walk_measure oracle (name_text (session_of first)) after < walk_measure oracle (name_text (session_of first)) before
-fewer_still oracle first now before between after same names fewer =
-    subst (λ fs. walk_measure oracle (name_text (session_of first)) after < walk_measure oracle (name_text (session_of first)) fs) (sym same)
-    (subst (λ ns. walk_measure oracle (λ name. unwrap_or (slice_get ns name.0) []) after < walk_measure oracle (λ name. unwrap_or (slice_get ns name.0) []) between) names fewer)
-
--- sessions with the same names have the same texts
-pub texts_same : (a b : Interner) → a.names ≡ b.names → name_text (session_of a) ≡ name_text (session_of b)
-texts_same a b names = ap (λ ns name. unwrap_or (slice_get ns name.0) []) names
 
 -- an item of a frame is visited
 module _ (oracle : Oracle) (frame : Frame) (id : ModItemId) (found : Some id ≡ slice_get (listed frame) frame.next) where
@@ -118,20 +96,16 @@ module _ (oracle : Oracle) (frame : Frame) (id : ModItemId) (found : Some id ≡
       (run (frame_tasks (after_turn frame) ++ rest)))
 
   -- which leaves less, also where it opens a list
-  pub visited_fewer : (first now : Interner) (opened taken : Option ItemList) (all : ℕ) → now.names ≡ first.names → opened ≡ taken
-      → work oracle (name_text (session_of first)) (frame_tasks frame) ≤ all
-      → 1 + work oracle (name_text (session_of now)) (inner_of oracle opened) < task_work oracle (name_text (session_of now)) (Visit (list_site frame.list) id)
-      → 1 + work oracle (name_text (session_of first)) (inner_of oracle taken) + work oracle (name_text (session_of first)) (frame_tasks (after_turn frame)) < all
-  visited_fewer first now opened taken all names same before less =
-      let texts = name_text (session_of first) in
-      let here : 1 + work oracle texts (inner_of oracle taken) < task_work oracle texts (Visit (list_site frame.list) id) =
-      subst (λ o. 1 + work oracle texts (inner_of oracle o) < task_work oracle texts (Visit (list_site frame.list) id)) same
-      (subst (λ ts. 1 + work oracle ts (inner_of oracle opened) < task_work oracle ts (Visit (list_site frame.list) id)) (texts_same now first names) less) in
-      let item = work_next oracle texts frame id found in
+  pub visited_fewer : (opened taken : Option ItemList) (all : ℕ) → opened ≡ taken → work (frame_tasks frame) ≤ all
+      → 1 + work (inner_of oracle opened) < task_work (Visit (list_site frame.list) id) → 1 + work (inner_of oracle taken) + work (frame_tasks (after_turn frame)) < all
+  visited_fewer opened taken all same before less =
+      let here : 1 + work (inner_of oracle taken) < task_work (Visit (list_site frame.list) id) =
+      subst (λ o. 1 + work (inner_of oracle o) < task_work (Visit (list_site frame.list) id)) same less in
+      let item = work_next frame id found in
       omega (arith, here, item, before)
 
-  pub visited_within : (texts : Name → List ℕ) (all : ℕ) → work oracle texts (frame_tasks frame) ≤ all → work oracle texts (frame_tasks (after_turn frame)) ≤ all
-  visited_within texts all before = let item = work_next oracle texts frame id found in omega (arith, item, before)
+  pub visited_within : (all : ℕ) → work (frame_tasks frame) ≤ all → work (frame_tasks (after_turn frame)) ≤ all
+  visited_within all before = let item = work_next frame id found in omega (arith, item, before)
 
   -- and the frame has less left
   pub shorter : length (left_of (after_turn frame)) < length (left_of frame)
@@ -141,59 +115,88 @@ module _ (oracle : Oracle) (frame : Frame) (id : ModItemId) (found : Some id ≡
 pub none_left : (frame : Frame) → None ≡ slice_get (listed frame) frame.next → left_of frame ≡ []
 none_left frame none = drop_all frame.next (listed frame) (past_end (listed frame) frame.next none)
 
+-- a walk has led from these tasks and this state to the visits that these frames have left
+pub record IsWalked (oracle : Oracle) (tasks : List Task) (s : State) (frames : List Frame) (t : State) : Type 0 where
+  pub run : Leads oracle tasks s (agenda_of frames) t
+  pub known : All (is_frame_known oracle) frames
+  pub adds : AddsLocations s.session t.session
+
+-- a walk begins: the directory of its list is stored
+pub walk_begins : (oracle : Oracle) (list : ItemList) (first : Frame) (frames : List Frame) (s t : State) → is_known oracle list → first.list ≡ list → left_of first ≡ ordered (tree_in list) list.module_id list.items.now
+    → frames ≡ first ∷ [] → t ≡ entered s list.module_id list.dir → IsWalked oracle (walk oracle (list_site list) list.items.now) s frames t
+walk_begins oracle list first frames s t known same left one stored =
+    let tasks : List Task = walk oracle (list_site list) list.items.now in
+    let agenda : Enter list.module_id list.dir ∷ agenda_of frames ≡ tasks =
+    ap (λ rest. Enter list.module_id list.dir ∷ rest) (ap agenda_of one ∙ agenda_of-one first) ∙ sym (opened_tasks oracle list first known same left) in
+    subst (IsWalked oracle tasks s frames) (sym stored)
+    (record {
+      run = subst (λ all. Leads oracle all s (agenda_of frames) (entered s list.module_id list.dir)) agenda (leads_enter list.module_id list.dir (agenda_of frames) s);
+      known = all_pushed (is_frame_known oracle) [] frames first one (all_none (is_frame_known oracle)) (subst (is_known oracle) (sym same) known);
+      adds = adds_refl s.session;
+    })
+
 -- the last frame has been walked up to a list that one of its items opened, or to its end
-module _ (oracle : Oracle) (all frames : List Frame) (frame after : Frame) (popped : all ≡ frames ++ frame ∷ []) (opened : Option ItemList) (s t : State)
-    (run : (rest : List Task) → Leads oracle (frame_tasks frame ++ rest) s (inner_of oracle opened ++ (frame_tasks after ++ rest)) t) where
-  before : Leads oracle (agenda_of all) s (inner_of oracle opened ++ (frame_tasks after ++ agenda_of frames)) t
-  before = subst (λ tasks. Leads oracle tasks s (inner_of oracle opened ++ (frame_tasks after ++ agenda_of frames)) t) (sym (ap agenda_of popped ∙ agenda_of-push frames frame)) (run (agenda_of frames))
+module _ {oracle : Oracle} {tasks : List Task} {start s t : State} {all : List Frame} (so_far : IsWalked oracle tasks start all s) (frames : List Frame) (frame : Frame) (popped : all ≡ frames ++ frame ∷ []) (after : Frame) (opened : Option ItemList)
+    (run : (rest : List Task) → Leads oracle (frame_tasks frame ++ rest) s (inner_of oracle opened ++ (frame_tasks after ++ rest)) t) (adds : AddsLocations s.session t.session) where
+  reached : Leads oracle tasks start (inner_of oracle opened ++ (frame_tasks after ++ agenda_of frames)) t
+  reached =
+      leads_trans so_far.run
+      (subst (λ l. Leads oracle l s (inner_of oracle opened ++ (frame_tasks after ++ agenda_of frames)) t) (sym (ap agenda_of popped ∙ agenda_of-push frames frame)) (run (agenda_of frames)))
+
+  added : AddsLocations start.session t.session
+  added = adds_trans start.session s.session t.session so_far.adds adds
 
   -- at its end it goes
-  pub walked : opened ≡ None → (is_some opened ≡ false → left_of after ≡ []) → Leads oracle (agenda_of all) s (agenda_of frames) t
-  walked none ends =
-      subst (λ left. Leads oracle (agenda_of all) s (visits (list_site after.list) left ++ agenda_of frames) t) (ends (ap is_some none))
-      (subst (λ o. Leads oracle (agenda_of all) s (inner_of oracle o ++ (frame_tasks after ++ agenda_of frames)) t) none before)
+  pub turn_ends : opened ≡ None → (is_some opened ≡ false → left_of after ≡ []) → IsWalked oracle tasks start frames t
+  turn_ends none ends = record {
+    run = subst (λ left. Leads oracle tasks start (visits (list_site after.list) left ++ agenda_of frames) t) (ends (ap is_some none))
+        (subst (λ o. Leads oracle tasks start (inner_of oracle o ++ (frame_tasks after ++ agenda_of frames)) t) none reached);
+    known = all_below (is_frame_known oracle) frames all frame popped so_far.known;
+    adds = added;
+  }
 
-  module _ (list : ItemList) (some : opened ≡ Some list) (inner : Frame) (same_list : inner.list ≡ list) (left : left_of inner ≡ ordered (tree_in list) list.module_id list.items.now) (lies : AreKnown oracle opened)
-      (next last : List Frame) (kept : next ≡ frames ++ after ∷ []) (pushed : last ≡ next ++ inner ∷ []) where
+  module _ (list : ItemList) (some : opened ≡ Some list) (inner : Frame) (same : inner.list ≡ list) (left : left_of inner ≡ ordered (tree_in list) list.module_id list.items.now) (known : AreKnown oracle opened × is_frame_known oracle after)
+      {next last : List Frame} (kept : next ≡ frames ++ after ∷ []) (pushed : last ≡ next ++ inner ∷ []) where
     list_known : is_known oracle list
-    list_known = subst (AreKnown oracle) some lies
-
-    -- all frames go over trees that the oracle has
-    pub opened_known : All (is_frame_known oracle) frames → is_frame_known oracle after → All (is_frame_known oracle) last
-    opened_known below at =
-        all_pushed (is_frame_known oracle) next last inner pushed (all_pushed (is_frame_known oracle) frames next after kept below at) (subst (is_known oracle) (sym same_list) list_known)
+    list_known = subst (AreKnown oracle) some known.0
 
     -- the directory of the opened list is stored, and its items come first
-    pub opens : (u : State) → u ≡ entered t list.module_id list.dir → Leads oracle (agenda_of all) s (agenda_of last) u
-    opens u stored =
-        let rest : agenda_of next ≡ frame_tasks after ++ agenda_of frames = ap agenda_of kept ∙ agenda_of-push frames after in
-        let opening : Leads oracle (agenda_of all) s (walk oracle (list_site list) list.items.now ++ agenda_of next) t =
-        subst (λ tasks. Leads oracle (agenda_of all) s (walk oracle (list_site list) list.items.now ++ tasks) t) (sym rest)
-        (subst (λ o. Leads oracle (agenda_of all) s (inner_of oracle o ++ (frame_tasks after ++ agenda_of frames)) t) some before) in
-        let agenda : agenda_of last ≡ frame_tasks inner ++ agenda_of next = ap agenda_of pushed ∙ agenda_of-push next inner in
-        let enters : Leads oracle (walk oracle (list_site list) list.items.now ++ agenda_of next) t (frame_tasks inner ++ agenda_of next) (entered t list.module_id list.dir) =
-        subst (λ tasks. Leads oracle (tasks ++ agenda_of next) t (frame_tasks inner ++ agenda_of next) (entered t list.module_id list.dir)) (sym (opened_tasks oracle list inner list_known same_list left))
-        (leads_enter list.module_id list.dir (frame_tasks inner ++ agenda_of next) t) in
-        subst (λ tasks. Leads oracle (agenda_of all) s tasks u) (sym agenda)
-        (subst (λ x. Leads oracle (agenda_of all) s (frame_tasks inner ++ agenda_of next) x) (sym stored) (leads_trans opening enters))
+    pub turn_opens : (u : State) → u ≡ entered t list.module_id list.dir → IsWalked oracle tasks start last u
+    turn_opens u stored =
+        let enter : Task = Enter list.module_id list.dir in
+        let rest : frame_tasks after ++ agenda_of frames ≡ agenda_of next = sym (ap agenda_of kept ∙ agenda_of-push frames after) in
+        let inside : inner_of oracle opened ≡ enter ∷ frame_tasks inner = ap (inner_of oracle) some ∙ opened_tasks oracle list inner list_known same left in
+        let whole : inner_of oracle opened ++ (frame_tasks after ++ agenda_of frames) ≡ enter ∷ agenda_of last =
+        ap (λ l. inner_of oracle opened ++ l) rest ∙ ap (λ l. l ++ agenda_of next) inside ∙ ap (λ l. enter ∷ l) (sym (ap agenda_of pushed ∙ agenda_of-push next inner)) in
+        subst (IsWalked oracle tasks start last) (sym stored)
+        (record {
+          run = leads_trans (subst (λ l. Leads oracle tasks start l t) whole reached) (leads_enter list.module_id list.dir (agenda_of last) t);
+          known = all_pushed (is_frame_known oracle) next last inner pushed
+              (all_pushed (is_frame_known oracle) frames next after kept (all_below (is_frame_known oracle) frames all frame popped so_far.known) known.1)
+              (subst (is_known oracle) (sym same) list_known);
+          adds = added;
+        })
 
     -- which leaves less
-    pub opened_fewer : (texts : Name → List ℕ) → (is_some opened ≡ true → 1 + work oracle texts (inner_of oracle opened) + work oracle texts (frame_tasks after) < work oracle texts (frame_tasks frame))
-        → walk_measure oracle texts last < walk_measure oracle texts (frames ++ frame ∷ [])
-    opened_fewer texts fewer =
+    pub opened_fewer : (is_some opened ≡ true → 1 + work (inner_of oracle opened) + work (frame_tasks after) < work (frame_tasks frame)) → walk_measure last < walk_measure all
+    opened_fewer fewer =
         let less = fewer (ap is_some some) in
-        let first = measure_pushed oracle texts frames frame in
-        let stays : walk_measure oracle texts next ≡ _ = ap (walk_measure oracle texts) kept ∙ measure_pushed oracle texts frames after in
-        let more : walk_measure oracle texts last ≡ _ = ap (walk_measure oracle texts) pushed ∙ measure_pushed oracle texts next inner in
-        let enter = sum_by-cons (task_work oracle texts) (Enter list.module_id list.dir) (frame_tasks inner) in
-        let inside : work oracle texts (inner_of oracle opened) ≡ work oracle texts (Enter list.module_id list.dir ∷ frame_tasks inner) =
-        ap (λ o. work oracle texts (inner_of oracle o)) some ∙ ap (work oracle texts) (opened_tasks oracle list inner list_known same_list left) in
+        let first : walk_measure all ≡ _ = ap walk_measure popped ∙ measure_pushed frames frame in
+        let stays : walk_measure next ≡ _ = ap walk_measure kept ∙ measure_pushed frames after in
+        let more : walk_measure last ≡ _ = ap walk_measure pushed ∙ measure_pushed next inner in
+        let enter = sum_by-cons task_work (Enter list.module_id list.dir) (frame_tasks inner) in
+        let inside : work (inner_of oracle opened) ≡ work (Enter list.module_id list.dir ∷ frame_tasks inner) =
+        ap (λ o. work (inner_of oracle o)) some ∙ ap work (opened_tasks oracle list inner list_known same left) in
         omega (arith, less, first, stays, more, enter, inside)
 
 -- a frame that goes takes its turn with it
-pub done_fewer : (oracle : Oracle) (texts : Name → List ℕ) (all frames : List Frame) (frame : Frame) → all ≡ frames ++ frame ∷ [] → walk_measure oracle texts frames < walk_measure oracle texts all
-done_fewer oracle texts all frames frame popped =
-    let more : walk_measure oracle texts all ≡ _ = ap (walk_measure oracle texts) popped ∙ measure_pushed oracle texts frames frame in omega (arith, more)
+pub done_fewer : (all frames : List Frame) (frame : Frame) → all ≡ frames ++ frame ∷ [] → walk_measure frames < walk_measure all
+done_fewer all frames frame popped = let more : walk_measure all ≡ _ = ap walk_measure popped ∙ measure_pushed frames frame in omega (arith, more)
+
+-- the walk of the list that an item opened is its beginning and one visit for each item
+pub inner_few : (oracle : Oracle) (opened : Option ItemList) → AreKnown oracle opened → length (inner_of oracle opened) ≤ 2 ^ 64
+inner_few oracle None known = omega arith
+inner_few oracle (Some list) known = let few = known.1 in let long = walk_length oracle (list_site list) list.items.now in omega (arith, few, long)
 
 -- an item that cfg disables was reported
 pub visited_disabled : (oracle : Oracle) (s : State) (told : List DefDiagnostic) (site : Site) (id : ModItemId) (item : ItemNode) (disabled : Option CfgExpr) (cfg : CfgExpr)

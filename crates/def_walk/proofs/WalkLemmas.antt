@@ -1,12 +1,10 @@
 -- The walk: what is to be visited, and that it gets less.
-use Rattle.std.proofs.Common.{◌≡◌, ◌<◌, ◌+◌, ℕ, suc, List, [], ◌∷◌, ◌++◌, length, drop, Some, slice_get, arith, refl, sym, ap, ◌∙◌, append_assoc, append-nil, add-one}
+use Rattle.std.proofs.Common.{◌≡◌, ◌<◌, ◌+◌, suc, List, [], ◌∷◌, ◌++◌, length, drop, Some, slice_get, arith, refl, sym, ap, ◌∙◌, append_assoc, append-nil, add-one}
 use Rattle.std.proofs.lemmas.List.{length_push}
 use Rattle.std.proofs.lemmas.List.Sums.{sum_by-append, sum_by-cons}
 use Rattle.std.proofs.lemmas.Option.{slice_get_within, get_or_from_slice_get}
 use Rattle.std.proofs.Math.Seq.{drop-cons}
 use Rattle.item_tree.specs.declared.ids.ModItemId.{ModItemId}
-use Rattle.item_tree.specs.declared.name.Name.{Name}
-use Rattle.def_map.specs.Oracle.{Oracle}
 use Rattle.def_items.specs.declared.lists.Frame.{Frame}
 use Rattle.def_items.specs.Parts.{list_site}
 use Rattle.def_walk.specs.Walk.{agenda_of, frame_tasks, walk_measure}
@@ -47,16 +45,15 @@ left_of-cons frame id found =
 pub frame_tasks-next : (frame : Frame) (id : ModItemId) → Some id ≡ slice_get (listed frame) frame.next → frame_tasks frame ≡ Visit (list_site frame.list) id ∷ frame_tasks (after_turn frame)
 frame_tasks-next frame id found = ap (λ left. visits (list_site frame.list) left) (left_of-cons frame id found)
 
-module _ (oracle : Oracle) (texts : Name → List ℕ) where
-  -- one frame more
-  pub measure_pushed : (frames : List Frame) (frame : Frame) → walk_measure oracle texts (frames ++ frame ∷ []) ≡ suc (work oracle texts (frame_tasks frame) + walk_measure oracle texts frames)
-  measure_pushed frames frame =
-      let parts : work oracle texts (agenda_of (frames ++ frame ∷ [])) ≡ work oracle texts (frame_tasks frame) + work oracle texts (agenda_of frames) =
-      ap (work oracle texts) (agenda_of-push frames frame) ∙ sum_by-append (task_work oracle texts) (frame_tasks frame) (agenda_of frames) in
-      let long = length_push frames frame in
-      omega (arith, parts, long)
+-- one frame more
+pub measure_pushed : (frames : List Frame) (frame : Frame) → walk_measure (frames ++ frame ∷ []) ≡ suc (work (frame_tasks frame) + walk_measure frames)
+measure_pushed frames frame =
+    let parts : work (agenda_of (frames ++ frame ∷ [])) ≡ work (frame_tasks frame) + work (agenda_of frames) =
+    ap work (agenda_of-push frames frame) ∙ sum_by-append task_work (frame_tasks frame) (agenda_of frames) in
+    let long = length_push frames frame in
+    omega (arith, parts, long)
 
-  -- one item less
-  pub work_next : (frame : Frame) (id : ModItemId) → Some id ≡ slice_get (listed frame) frame.next
-      → work oracle texts (frame_tasks frame) ≡ task_work oracle texts (Visit (list_site frame.list) id) + work oracle texts (frame_tasks (after_turn frame))
-  work_next frame id found = ap (work oracle texts) (frame_tasks-next frame id found) ∙ sum_by-cons (task_work oracle texts) (Visit (list_site frame.list) id) (frame_tasks (after_turn frame))
+-- one item less
+pub work_next : (frame : Frame) (id : ModItemId) → Some id ≡ slice_get (listed frame) frame.next
+    → work (frame_tasks frame) ≡ task_work (Visit (list_site frame.list) id) + work (frame_tasks (after_turn frame))
+work_next frame id found = ap work (frame_tasks-next frame id found) ∙ sum_by-cons task_work (Visit (list_site frame.list) id) (frame_tasks (after_turn frame))

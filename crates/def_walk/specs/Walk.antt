@@ -1,6 +1,5 @@
 -- Lists that are walked, and what they leave to be visited.
-use Rattle.std.specs.Prelude.{◌≡◌, ℕ, ◌+◌, List, [], ◌∷◌, ◌++◌, length, Option, Some, None}
-use Rattle.item_tree.specs.declared.name.Name.{Name}
+use Rattle.std.specs.Prelude.{◌≡◌, ◌<◌, ℕ, ◌+◌, ◌^◌, List, [], ◌∷◌, ◌++◌, length, Option, Some, None}
 use Rattle.def_map.specs.Oracle.{Oracle}
 use Rattle.def_parts.specs.Directories.{FoundFile}
 use Rattle.def_rules.specs.Items.{visits, walk}
@@ -30,9 +29,9 @@ unfoldable pub agenda_of : List Frame → List Task
 agenda_of [] = []
 agenda_of (frame ∷ above) = agenda_of above ++ frame_tasks frame
 
--- a list goes over the tree that the oracle has, or over none
+-- a list goes over the tree that the oracle has, or over none, and has fewer items than a machine can number
 abbrev pub is_known : Oracle → ItemList → Type 0
-is_known oracle list = oracle.item_tree list.tree_id ≡ tree_in list
+is_known oracle list = (oracle.item_tree list.tree_id ≡ tree_in list) × (length list.items.now < 2 ^ 64)
 
 -- so does the list of a frame
 abbrev pub is_frame_known : Oracle → Frame → Type 0
@@ -44,5 +43,5 @@ AreKnown oracle None = Unit {0}
 AreKnown oracle (Some list) = is_known oracle list
 
 -- what is left of the walk: the work of its tasks, and a turn for the end of each frame
-abbrev pub walk_measure : Oracle → (Name → List ℕ) → List Frame → ℕ
-walk_measure oracle texts frames = work oracle texts (agenda_of frames) + length frames
+abbrev pub walk_measure : List Frame → ℕ
+walk_measure frames = work (agenda_of frames) + length frames

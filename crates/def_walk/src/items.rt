@@ -29,7 +29,6 @@ pub(crate) fn collect_item<'a, D: SourceDatabase>(
         (site_of site.entry) node.now (inner_of (D.oracle db.now) opened)) }
     ensures known { IfOk result (λ opened. AreKnown (D.oracle db.now) opened) }
     ensures session { AddsLocations (session_of session.old) (session_of session.new) }
-    ensures names { session.new.names ≡ session.old.names }
 {
     match &node.kind {
         ModItemKind::Mod {
@@ -116,7 +115,6 @@ fn collect_extern_block<'a, D: SourceDatabase>(
         (site_of site.entry) node.now (inner_of (D.oracle db.now) (Some list))) }
     ensures known { IfOk result (λ list. is_known (D.oracle db.now) list) }
     ensures session { AddsLocations (session_of session.old) (session_of session.new) }
-    ensures names { session.new.names ≡ session.old.names }
 {
     let id = ExternBlockLoc {
         container: site.module_id,

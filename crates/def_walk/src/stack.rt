@@ -10,7 +10,6 @@ ghost use Rattle.def_state.specs.Collector.{state_of};
 ghost use Rattle.def_walk.specs.Walk.{AreKnown, frame_tasks, inner_of, is_frame_known, is_known};
 ghost use Rattle.def_laws.specs.Work.{task_work, work};
 ghost use Rattle.def_rules.specs.Items.{walk};
-ghost use Rattle.def_rules.specs.Modules.{name_text};
 ghost use Rattle.def_rules.specs.State.{Task, Visit};
 ghost use Rattle.def_laws.specs.Runs.{Leads};
 
@@ -64,15 +63,12 @@ fn walk_list<'a, D: SourceDatabase>(
         (inner_of (D.oracle db.now) opened ++ (frame_tasks frame.new ++ rest))
         (state_of collector.new session.new)) }
     ensures ends { IfOk result (λ opened. is_some opened ≡ false → left_of frame.new ≡ []) }
-    ensures fewer { IfOk result (λ opened. let texts = name_text (session_of session.old) in
-        is_some opened ≡ true →
-        1 + work (D.oracle db.now) texts (inner_of (D.oracle db.now) opened)
-        + work (D.oracle db.now) texts (frame_tasks frame.new)
-        < work (D.oracle db.now) texts (frame_tasks frame.old)) }
+    ensures fewer { IfOk result (λ opened. is_some opened ≡ true →
+        1 + work (inner_of (D.oracle db.now) opened) + work (frame_tasks frame.new)
+        < work (frame_tasks frame.old)) }
     ensures known { IfOk result (λ opened. AreKnown (D.oracle db.now) opened
         × is_frame_known (D.oracle db.now) frame.new) }
     ensures session { AddsLocations (session_of session.old) (session_of session.new) }
-    ensures names { session.new.names ≡ session.old.names }
 {
     'items: while let Some(id) = frame.next_item() {
         frame.next += 1;
@@ -98,12 +94,10 @@ fn visit<'a, D: SourceDatabase>(
     ensures run { IfOk result (λ opened. (rest : List Task) →
         Leads (D.oracle db.now) (Visit (list_site list.now) id ∷ rest) (state_of collector.old session.old)
         (inner_of (D.oracle db.now) opened ++ rest) (state_of collector.new session.new)) }
-    ensures fewer { IfOk result (λ opened. let texts = name_text (session_of session.old) in
-        1 + work (D.oracle db.now) texts (inner_of (D.oracle db.now) opened)
-        < task_work (D.oracle db.now) texts (Visit (list_site list.now) id)) }
+    ensures fewer { IfOk result (λ opened.
+        1 + work (inner_of (D.oracle db.now) opened) < task_work (Visit (list_site list.now) id)) }
     ensures known { IfOk result (λ opened. AreKnown (D.oracle db.now) opened) }
     ensures session { AddsLocations (session_of session.old) (session_of session.new) }
-    ensures names { session.new.names ≡ session.old.names }
 {
     let Some(node) = item_in(list.tree, id) else {
         return Ok(None);

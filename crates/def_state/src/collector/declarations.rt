@@ -53,7 +53,6 @@ impl DefCollector<'_> {
         ensures others { OnOk result (is_declaring node.now.kind ≡ false →
             state_of self.new session.new ≡ state_of self.old session.old) }
         ensures session { AddsLocations (session_of session.old) (session_of session.new) }
-        ensures names { session.new.names ≡ session.old.names }
     {
         match &node.kind {
             ModItemKind::Union { name, visibility } => {
@@ -188,7 +187,6 @@ impl DefCollector<'_> {
             Handled (D.oracle db.now) (state_of self.old session.old) (state_of self.new session.new)
             (site_of site.entry) node.now []) }
         ensures session { AddsLocations (session_of session.old) (session_of session.new) }
-        ensures names { session.new.names ≡ session.old.names }
     {
         let id = StructLoc {
             container: site.module_id,

@@ -29,7 +29,6 @@ impl<'a> DefCollector<'a> {
             Handled oracle (state_of self.old session.old) (state_of self.new session.new)
             (site_of site.entry) node.now []) }
         ensures session { AddsLocations (session_of session.old) (session_of session.new) }
-        ensures names { session.new.names ≡ session.old.names }
     {
         let position = site.position(node);
         let use_id = UseLoc {

@@ -1,14 +1,12 @@
-use Rattle.std.proofs.Common.{List, ◌∷◌, ◌++◌, ◌∙◌, subst, sym}
-use Rattle.def_ids.specs.Session.{session_of}
+use Rattle.std.proofs.Common.{arith, List, ◌∷◌, ◌++◌, ◌∙◌, subst, sym}
 use Rattle.def_items.specs.Parts.{list_site}
 use Rattle.def_state.specs.Collector.{state_of}
 use Rattle.def_walk.specs.Walk.{inner_of}
-use Rattle.def_rules.specs.Modules.{name_text}
-use Rattle.def_rules.specs.State.{Task, Visit}
+use Rattle.def_rules.specs.State.{State, Task, Visit}
 use Rattle.def_laws.specs.Runs.{Leads}
-use Rattle.def_state.proofs.ResultLaws.{if_ok}
+use Rattle.def_state.proofs.ResultLaws.{if_both, if_ok}
 use Rattle.def_laws.proofs.StepsLaws.{leads_handled, leads_nothing}
-use Rattle.def_walk.proofs.VisitLemmas.{node_of, not_disabled, texts_same, visited_disabled}
+use Rattle.def_walk.proofs.VisitLemmas.{inner_few, node_of, not_disabled, visited_disabled}
 use Rattle.def_laws.proofs.WorkLaws.{handled_less, nothing_less}
 use Rattle.def_walk.proofs.stack.visit.Goals as goal
 
@@ -17,7 +15,7 @@ returns-in_default-clause-run g c =
     leads_nothing (state_of c.args.collector.now c.args.session.now) (list_site c.args.list.now) c.args.id (node_of (g.D.SourceDatabase.oracle c.args.db.now) c.args.list.now c.args.id _ c.requires c.in_default.ensures)
 
 pub returns-in_default-clause-fewer : goal.returns-in_default-clause-fewer
-returns-in_default-clause-fewer g c = nothing_less (g.D.SourceDatabase.oracle c.args.db.now) (name_text (session_of c.args.session.now)) (list_site c.args.list.now) c.args.id
+returns-in_default-clause-fewer g c = nothing_less (list_site c.args.list.now) c.args.id
 
 pub returns-in-Some-disabled-clause-run : goal.returns-in-Some-disabled-clause-run
 returns-in-Some-disabled-clause-run g c =
@@ -25,7 +23,7 @@ returns-in-Some-disabled-clause-run g c =
     (node_of (g.D.SourceDatabase.oracle c.args.db.now) c.args.list.now c.args.id _ c.requires c.in-Some.ensures) c.in_ok-disabled.ensures.cfg c.in-Some-disabled.is c.in_ok-disabled.ensures.reported
 
 pub returns-in-Some-disabled-clause-fewer : goal.returns-in-Some-disabled-clause-fewer
-returns-in-Some-disabled-clause-fewer g c = nothing_less (g.D.SourceDatabase.oracle c.args.db.now) (name_text (session_of c.args.session.now)) (list_site c.args.list.now) c.args.id
+returns-in-Some-disabled-clause-fewer g c = nothing_less (list_site c.args.list.now) c.args.id
 
 pub returns-clause-run : goal.returns-clause-run
 returns-clause-run g c =
@@ -39,7 +37,8 @@ returns-clause-run g c =
 
 pub returns-clause-fewer : goal.returns-clause-fewer
 returns-clause-fewer g c =
-    if_ok c.collect_item.result c.collect_item.ensures.handled (λ opened handled.
-    handled_less (g.D.SourceDatabase.oracle c.args.db.now) (state_of (record c.args.collector.now { diagnostics = c.report_disabled_item.new.diagnostics }) c.args.session.now) (state_of c.collect_item.new.collector c.collect_item.new.session) (list_site c.args.list.now) c.args.id c.in-Some.node.now (inner_of (g.D.SourceDatabase.oracle c.args.db.now) opened)
-    (name_text (session_of c.args.session.now))
-    (node_of (g.D.SourceDatabase.oracle c.args.db.now) c.args.list.now c.args.id _ c.requires c.in-Some.ensures) handled (texts_same c.collect_item.new.session c.args.session.now c.collect_item.ensures.names))
+    let oracle = g.D.SourceDatabase.oracle c.args.db.now in
+    let before : State = state_of (record c.args.collector.now { diagnostics = c.report_disabled_item.new.diagnostics }) c.args.session.now in
+    if_both c.collect_item.result c.collect_item.ensures.handled c.collect_item.ensures.known (λ opened handled known.
+    handled_less oracle before (state_of c.collect_item.new.collector c.collect_item.new.session) (list_site c.args.list.now) c.args.id c.in-Some.node.now (inner_of oracle opened)
+    (node_of oracle c.args.list.now c.args.id _ c.requires c.in-Some.ensures) (omega (arith, c.well_formed)) (inner_few oracle opened known) handled)

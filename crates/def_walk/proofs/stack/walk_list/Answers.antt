@@ -1,7 +1,6 @@
-use Rattle.std.proofs.Common.{None, Some, refl, subst, ◌∙◌, arith}
+use Rattle.std.proofs.Common.{None, Some, subst, arith}
 use Rattle.def_ids.specs.Session.{session_of}
 use Rattle.def_ids.specs.SessionLaws.{adds_refl, adds_trans}
-use Rattle.def_rules.specs.Modules.{name_text}
 use Rattle.def_laws.proofs.StepsLaws.{leads_refl, leads_trans}
 use Rattle.def_state.specs.Collector.{state_of}
 use Rattle.def_walk.specs.Walk.{AreKnown}
@@ -14,7 +13,6 @@ items-init g c = record {
   fewer = omega arith;
   known = c.requires;
   adds = adds_refl (session_of c.args.session.now);
-  names = refl;
 }
 
 pub visit-requires : goal.visit-requires
@@ -22,9 +20,6 @@ visit-requires g c = c.items.invariant.known
 
 pub returns-in_err-opened-clause-session : goal.returns-in_err-opened-clause-session
 returns-in_err-opened-clause-session g c = adds_trans (session_of c.args.session.now) (session_of c.items.session) (session_of c.visit.new.session) c.items.invariant.adds c.visit.ensures.session
-
-pub returns-in_err-opened-clause-names : goal.returns-in_err-opened-clause-names
-returns-in_err-opened-clause-names g c = c.visit.ensures.names ∙ c.items.invariant.names
 
 pub returns-in-Some-opened-clause-run : goal.returns-in-Some-opened-clause-run
 returns-in-Some-opened-clause-run g c rest =
@@ -34,8 +29,8 @@ returns-in-Some-opened-clause-run g c rest =
 
 pub returns-in-Some-opened-clause-fewer : goal.returns-in-Some-opened-clause-fewer
 returns-in-Some-opened-clause-fewer g c some =
-    visited_fewer (g.D.SourceDatabase.oracle c.args.db.now) c.items.frame c.in-Some.id c.in-Some.ensures.item c.args.session.now c.items.session
-    c.in_ok-opened.opened (Some c.in-Some-opened.list) _ c.items.invariant.names c.in-Some-opened.is c.items.invariant.fewer c.in_ok-opened.ensures.fewer
+    visited_fewer (g.D.SourceDatabase.oracle c.args.db.now) c.items.frame c.in-Some.id c.in-Some.ensures.item
+    c.in_ok-opened.opened (Some c.in-Some-opened.list) _ c.in-Some-opened.is c.items.invariant.fewer c.in_ok-opened.ensures.fewer
 
 pub returns-in-Some-opened-clause-known : goal.returns-in-Some-opened-clause-known
 returns-in-Some-opened-clause-known g c =
@@ -44,9 +39,6 @@ returns-in-Some-opened-clause-known g c =
 pub returns-in-Some-opened-clause-session : goal.returns-in-Some-opened-clause-session
 returns-in-Some-opened-clause-session g c = adds_trans (session_of c.args.session.now) (session_of c.items.session) (session_of c.visit.new.session) c.items.invariant.adds c.visit.ensures.session
 
-pub returns-in-Some-opened-clause-names : goal.returns-in-Some-opened-clause-names
-returns-in-Some-opened-clause-names g c = c.visit.ensures.names ∙ c.items.invariant.names
-
 pub items-preserved : goal.items-preserved
 items-preserved g c =
     let oracle = g.D.SourceDatabase.oracle c.args.db.now in
@@ -54,10 +46,9 @@ items-preserved g c =
       run = λ rest. leads_trans (c.items.invariant.run rest)
           (visited oracle c.items.frame c.in-Some.id c.in-Some.ensures.item (state_of c.items.collector c.items.session) (state_of c.visit.new.collector c.visit.new.session)
           c.in_ok-opened.opened None c.in_default-opened.is c.in_ok-opened.ensures.run rest);
-      fewer = visited_within oracle c.items.frame c.in-Some.id c.in-Some.ensures.item (name_text (session_of c.args.session.now)) _ c.items.invariant.fewer;
+      fewer = visited_within oracle c.items.frame c.in-Some.id c.in-Some.ensures.item _ c.items.invariant.fewer;
       known = c.items.invariant.known;
       adds = adds_trans (session_of c.args.session.now) (session_of c.items.session) (session_of c.visit.new.session) c.items.invariant.adds c.visit.ensures.session;
-      names = c.visit.ensures.names ∙ c.items.invariant.names;
     }
 
 pub items-smaller : goal.items-smaller
@@ -74,6 +65,3 @@ returns-clause-known g c = (tt, c.items.invariant.known)
 
 pub returns-clause-session : goal.returns-clause-session
 returns-clause-session g c = c.items.invariant.adds
-
-pub returns-clause-names : goal.returns-clause-names
-returns-clause-names g c = c.items.invariant.names

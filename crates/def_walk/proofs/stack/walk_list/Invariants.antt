@@ -1,9 +1,8 @@
-use Rattle.std.proofs.Common.{◌≡◌, ◌≤◌, ◌++◌, List, length}
+use Rattle.std.proofs.Common.{◌≤◌, ◌++◌, List, length}
 use Rattle.def_ids.specs.Session.{AddsLocations, session_of}
 use Rattle.def_state.specs.Collector.{state_of}
 use Rattle.def_walk.specs.Walk.{frame_tasks, is_frame_known}
 use Rattle.def_items.specs.Lists.{left_of}
-use Rattle.def_rules.specs.Modules.{name_text}
 use Rattle.def_rules.specs.State.{Task}
 use Rattle.def_laws.specs.Runs.{Leads}
 use Rattle.def_laws.specs.Work.{work}
@@ -12,13 +11,11 @@ use Rattle.def_walk.proofs.stack.walk_list.Given as goal
 abbrev pub invariant-items : goal.invariant-items
 invariant-items g l =
     let oracle = g.D.SourceDatabase.oracle l.db in
-    let texts = name_text (session_of l.fn.session) in
     record {
       run : (rest : List Task) → Leads oracle (frame_tasks l.fn.frame ++ rest) (state_of l.fn.collector l.fn.session) (frame_tasks l.frame ++ rest) (state_of l.collector l.session);
-      fewer : work oracle texts (frame_tasks l.frame) ≤ work oracle texts (frame_tasks l.fn.frame);
+      fewer : work (frame_tasks l.frame) ≤ work (frame_tasks l.fn.frame);
       known : is_frame_known oracle l.frame;
       adds : AddsLocations (session_of l.fn.session) (session_of l.session);
-      names : l.session.names ≡ l.fn.session.names;
     }
 
 abbrev pub decreases-items : goal.decreases-items

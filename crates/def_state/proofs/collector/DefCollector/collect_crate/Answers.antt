@@ -1,4 +1,4 @@
-use Rattle.std.proofs.Common.{ap, refl}
+use Rattle.std.proofs.Common.{ap}
 use Rattle.def_ids.specs.Session.{session_of}
 use Rattle.def_modules.specs.Maps.{map_state}
 use Rattle.def_items.specs.Parts.{site_of}
@@ -17,4 +17,4 @@ returns-clause-handled g c = λ kind.
     (with_map (record before { session = session_of session }) (map_state c.define_extern_crate_decl.new.self)) c.crate_name.result c.resolve_visibility-vis.result c.named_crate-root.result
     kind c.in_ok-id.ensures.shown (ap (with_map (record before { session = session_of session })) c.in_ok-define_extern_crate_decl.ensures)
     c.crate_name.ensures c.resolve_visibility-vis.ensures (c.named_crate-root.ensures session)
-    (c.in_ok-collect_extern_crate.ensures oracle session) refl
+    (c.in_ok-collect_extern_crate.ensures oracle session)

@@ -15,49 +15,49 @@ returns-in_ok-declare-in-Union-clause-handled g c = λ declares.
     let before : State = state_of c.args.self.now c.args.session.now in
     handled_declared (g.D.SourceDatabase.oracle c.args.db.now) before _ (session_of c.intern.new.session) (site_of c.args.site) c.args.node.now _ _ c.in_ok-id-in-Union.id.0 c.position.result _
     c.in_ok-id-in-Union.ensures.adds c.position.ensures refl
-    UnionItem (λ i. def.Union (record { 0 = i })) Types (ap rule_of c.in-Union.is) c.in_ok-id-in-Union.ensures.shown c.in_ok-declare-in-Union.ensures refl
+    UnionItem (λ i. def.Union (record { 0 = i })) Types (ap rule_of c.in-Union.is) c.in_ok-id-in-Union.ensures.shown c.in_ok-declare-in-Union.ensures
 
 pub returns-in_ok-declare-in-Enum-clause-handled : goal.returns-in_ok-declare-in-Enum-clause-handled
 returns-in_ok-declare-in-Enum-clause-handled g c = λ declares.
     let before : State = state_of c.args.self.now c.args.session.now in
     handled_declared (g.D.SourceDatabase.oracle c.args.db.now) before _ (session_of c.intern-in-Enum.new.session) (site_of c.args.site) c.args.node.now _ _ c.in_ok-id-in-Enum.id.0 c.position-in-Enum.result _
     c.in_ok-id-in-Enum.ensures.adds c.position-in-Enum.ensures refl
-    EnumItem (λ i. def.Enum (record { 0 = i })) Types (ap rule_of c.in-Enum.is) c.in_ok-id-in-Enum.ensures.shown c.in_ok-declare-in-Enum.ensures refl
+    EnumItem (λ i. def.Enum (record { 0 = i })) Types (ap rule_of c.in-Enum.is) c.in_ok-id-in-Enum.ensures.shown c.in_ok-declare-in-Enum.ensures
 
 pub returns-in_ok-declare-in-Function-clause-handled : goal.returns-in_ok-declare-in-Function-clause-handled
 returns-in_ok-declare-in-Function-clause-handled g c = λ declares.
     let before : State = state_of c.args.self.now c.args.session.now in
     handled_declared (g.D.SourceDatabase.oracle c.args.db.now) before _ (session_of c.intern-in-Function.new.session) (site_of c.args.site) c.args.node.now _ _ c.in_ok-id-in-Function.id.0 c.position-in-Function.result _
     c.in_ok-id-in-Function.ensures.adds c.position-in-Function.ensures refl
-    FunctionItem (λ i. def.Function (record { 0 = i })) Values (ap rule_of c.in-Function.is) c.in_ok-id-in-Function.ensures.shown c.in_ok-declare-in-Function.ensures refl
+    FunctionItem (λ i. def.Function (record { 0 = i })) Values (ap rule_of c.in-Function.is) c.in_ok-id-in-Function.ensures.shown c.in_ok-declare-in-Function.ensures
 
 pub returns-in_ok-declare-in-Static-clause-handled : goal.returns-in_ok-declare-in-Static-clause-handled
 returns-in_ok-declare-in-Static-clause-handled g c = λ declares.
     let before : State = state_of c.args.self.now c.args.session.now in
     handled_declared (g.D.SourceDatabase.oracle c.args.db.now) before _ (session_of c.intern-in-Static.new.session) (site_of c.args.site) c.args.node.now _ _ c.in_ok-id-in-Static.id.0 c.position-in-Static.result _
     c.in_ok-id-in-Static.ensures.adds c.position-in-Static.ensures refl
-    StaticItem (λ i. def.Static (record { 0 = i })) Values (ap rule_of c.in-Static.is) c.in_ok-id-in-Static.ensures.shown c.in_ok-declare-in-Static.ensures refl
+    StaticItem (λ i. def.Static (record { 0 = i })) Values (ap rule_of c.in-Static.is) c.in_ok-id-in-Static.ensures.shown c.in_ok-declare-in-Static.ensures
 
 pub returns-in_ok-declare-in-Trait-clause-handled : goal.returns-in_ok-declare-in-Trait-clause-handled
 returns-in_ok-declare-in-Trait-clause-handled g c = λ declares.
     let before : State = state_of c.args.self.now c.args.session.now in
     handled_declared (g.D.SourceDatabase.oracle c.args.db.now) before _ (session_of c.intern-in-Trait.new.session) (site_of c.args.site) c.args.node.now _ _ c.in_ok-id-in-Trait.id.0 c.position-in-Trait.result _
     c.in_ok-id-in-Trait.ensures.adds c.position-in-Trait.ensures refl
-    TraitItem (λ i. def.Trait (record { 0 = i })) Types (ap rule_of c.in-Trait.is) c.in_ok-id-in-Trait.ensures.shown c.in_ok-declare-in-Trait.ensures refl
+    TraitItem (λ i. def.Trait (record { 0 = i })) Types (ap rule_of c.in-Trait.is) c.in_ok-id-in-Trait.ensures.shown c.in_ok-declare-in-Trait.ensures
 
 pub returns-in_ok-declare-in-TypeAlias-clause-handled : goal.returns-in_ok-declare-in-TypeAlias-clause-handled
 returns-in_ok-declare-in-TypeAlias-clause-handled g c = λ declares.
     let before : State = state_of c.args.self.now c.args.session.now in
     handled_declared (g.D.SourceDatabase.oracle c.args.db.now) before _ (session_of c.intern-in-TypeAlias.new.session) (site_of c.args.site) c.args.node.now _ _ c.in_ok-id-in-TypeAlias.id.0 c.position-in-TypeAlias.result _
     c.in_ok-id-in-TypeAlias.ensures.adds c.position-in-TypeAlias.ensures refl
-    TypeAliasItem (λ i. def.TypeAlias (record { 0 = i })) Types (ap rule_of c.in-TypeAlias.is) c.in_ok-id-in-TypeAlias.ensures.shown c.in_ok-declare-in-TypeAlias.ensures refl
+    TypeAliasItem (λ i. def.TypeAlias (record { 0 = i })) Types (ap rule_of c.in-TypeAlias.is) c.in_ok-id-in-TypeAlias.ensures.shown c.in_ok-declare-in-TypeAlias.ensures
 
 pub returns-in_ok-declare-in-Const-clause-handled : goal.returns-in_ok-declare-in-Const-clause-handled
 returns-in_ok-declare-in-Const-clause-handled g c = λ declares.
     let before : State = state_of c.args.self.now c.args.session.now in
     handled_declared (g.D.SourceDatabase.oracle c.args.db.now) before _ (session_of c.intern-in-Const.new.session) (site_of c.args.site) c.args.node.now _ _ c.in_ok-id-in-Const.id.0 c.position-in-Const.result _
     c.in_ok-id-in-Const.ensures.adds c.position-in-Const.ensures refl
-    ConstItem (λ i. def.Const (record { 0 = i })) Values (ap rule_of (c.in-Const.is ∙ ap (λ o. Const o c.in-Const.visibility) c.in-Some.is)) c.in_ok-id-in-Const.ensures.shown c.in_ok-declare-in-Const.ensures refl
+    ConstItem (λ i. def.Const (record { 0 = i })) Values (ap rule_of (c.in-Const.is ∙ ap (λ o. Const o c.in-Const.visibility) c.in-Some.is)) c.in_ok-id-in-Const.ensures.shown c.in_ok-declare-in-Const.ensures
 
 pub returns-in_default-clause-handled : goal.returns-in_default-clause-handled
 returns-in_default-clause-handled g c = λ declares.
