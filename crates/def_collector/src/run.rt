@@ -11,7 +11,7 @@ ghost use Rattle.def_state.specs.Collector.{state_of, shown};
 ghost use Rattle.def_collector.specs.Collector.{setting_of};
 ghost use Rattle.def_rules.specs.Headline.{Answers};
 ghost use Rattle.def_rules.specs.Recording.{NoneReady};
-ghost use Rattle.def_rules.specs.Start.{first_tasks, first_tree, started};
+ghost use Rattle.def_rules.specs.Start.{first_depth, first_tasks, first_tree, started};
 ghost use Rattle.def_laws.specs.Runs.{Leads};
 
 use crate::seeding::seed;
@@ -128,6 +128,7 @@ fn seed_with_top_level<'a, D: SourceDatabase>(
             tree_id,
             tree,
             items: top_items(tree),
+            depth: first_depth(db, map, tree_id),
             dir: ModDir::root(collector.alloc),
         },
     )
@@ -145,6 +146,17 @@ fn resolution_loop<'a, D: SourceDatabase>(
 {
     'resolve_imports: while resolve_imports(collector, db, session)? {}
     Ok(())
+}
+
+/// How deep in expansions of macros the first items are walked: those of a block as deep as its
+/// file.
+fn first_depth<D: SourceDatabase>(db: &D, map: MapId, tree_id: TreeId) -> u32
+    ensures { result ≡ first_depth (D.oracle db.now) map tree_id }
+{
+    match map.block {
+        Some(_) => db.expansion_depth(tree_id.file),
+        None => 0,
+    }
 }
 
 /// The tree whose top items are walked: that of the crate's root file, where its data name one,

@@ -18,11 +18,11 @@ use Rattle.indexmap.specs.IndexMap.{get}
 
 -- where the items of a list stand
 abbrev pub site_of : SiteInCode → Site
-site_of site = record { scope = site.module_id; container = site.container; tree = site.tree_id; directory = site.dir.now }
+site_of site = record { scope = site.module_id; container = site.container; tree = site.tree_id; depth = site.depth; directory = site.dir.now }
 
 -- where the items of a list stand
 abbrev pub list_site : ItemList → Site
-list_site list = record { scope = list.module_id; container = list.container; tree = list.tree_id; directory = list.dir }
+list_site list = record { scope = list.module_id; container = list.container; tree = list.tree_id; depth = list.depth; directory = list.dir }
 
 -- the tree that a list goes over, if there is one
 abbrev pub tree_in : ItemList → Option ItemTree

@@ -24,6 +24,8 @@ pub struct ItemList<'a> {
     /// None where the database lacks the tree.
     pub tree: Option<&'a ItemTree>,
     pub items: &'a [ModItemId],
+    /// How deep in expansions of macros it lies.
+    pub depth: u32,
     /// Where the files of the module's children lie.
     pub dir: ModDir,
 }
@@ -77,12 +79,14 @@ impl<'a> Frame<'a> {
 }
 
 /// Where the items of a list stand: their module, what contains them (the module, or an extern
-/// block in it), the tree that holds them, and the directory of the module.
+/// block in it), the tree that holds them, how deep in expansions of macros, and the directory of
+/// the module.
 #[derive(Clone, Copy)]
 pub struct Site<'a> {
     pub module_id: ModuleId,
     pub container: ItemContainerId,
     pub tree_id: TreeId,
+    pub depth: u32,
     pub dir: &'a ModDir,
 }
 

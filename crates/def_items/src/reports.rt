@@ -5,7 +5,7 @@ ghost use Rattle.def_modules.specs.Maps.{map_state};
 ghost use Rattle.def_items.specs.Parts.{site_of};
 ghost use Rattle.def_rules.specs.declared.diagnostics.DefDiagnosticKind.TheVariants.{UnconfiguredCode};
 ghost use Rattle.def_rules.specs.Items.{diagnostic};
-ghost use Rattle.def_rules.specs.Start.{first_reports, site_at};
+ghost use Rattle.def_rules.specs.Start.{first_reports};
 
 use crate::lists::Site;
 use def_ids::ModuleId;
@@ -65,7 +65,7 @@ pub fn report_disabled(
     cfg: CfgExpr,
 ) -> Result<(), AllocError>
     ensures { OnOk result (let m = map_state def_map.now in
-        diagnostics.new.items ≡ diagnostics.old.items ++ first_reports (site_at m tree_id) (is_some m.id.block) (Some cfg)) }
+        diagnostics.new.items ≡ diagnostics.old.items ++ first_reports m tree_id (is_some m.id.block) (Some cfg)) }
 {
     let map = def_map.tree.map;
     let in_block = map.block.is_some();

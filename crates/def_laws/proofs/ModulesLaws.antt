@@ -42,10 +42,10 @@ module _ (oracle : Oracle) (s t : State) (site : Site) (name : Name) (vis : Visi
 
   -- an inline module whose items are left
   pub inline_opened : (child : ModuleId) (directory : Directory) → child ≡ next_module s → Some directory ≡ found
-      → IsDone oracle (module_effect s site name vis o (inline_contents oracle s site children found)) t (walk oracle (module_site child site.tree directory) children)
+      → IsDone oracle (module_effect s site name vis o (inline_contents oracle s site children found)) t (walk oracle (module_site child site.tree site.depth directory) children)
   inline_opened child directory numbered deep =
-      module_done oracle s t site name vis o (inline_contents oracle s site children found) (walk oracle (module_site child site.tree directory) children)
-      (ap (λ m. walk oracle (module_site m site.tree directory) children) numbered ∙ ap (inline_contents oracle s site children) deep) added
+      module_done oracle s t site name vis o (inline_contents oracle s site children found) (walk oracle (module_site child site.tree site.depth directory) children)
+      (ap (λ m. walk oracle (module_site m site.tree site.depth directory) children) numbered ∙ ap (inline_contents oracle s site children) deep) added
 
 module _ (oracle : Oracle) (s t : State) (site : Site) (item : ItemNode) (name : Name) (vis : Visibility) where
   done_same : (e f : Effect) (inner : List Task) → e ≡ f → IsDone oracle e t inner → IsDone oracle f t inner
@@ -61,12 +61,12 @@ module _ (oracle : Oracle) (s t : State) (site : Site) (item : ItemNode) (name :
   -- a file's items are left
   pub file_opened : (found : FoundFile) (child : ModuleId) (ids : List ModItemId) → None ≡ tree_cfg oracle (file_tree found) → child ≡ next_module s → ids ≡ top_items oracle (file_tree found)
       → IsPushed s t site name vis (origin.File item.ast_id site.tree found.0 found.1)
-      → IsDone oracle (outline_item oracle s site item name vis (Ok found)) t (walk oracle (module_site child (file_tree found) found.2) ids)
+      → IsDone oracle (outline_item oracle s site item name vis (Ok found)) t (walk oracle (module_site child (file_tree found) site.depth found.2) ids)
   file_opened found child ids on numbered top added =
       done_same (outline_found oracle s site item name vis found None) (outline_item oracle s site item name vis (Ok found)) _ (ap (outline_found oracle s site item name vis found) on)
-      (module_done oracle s t site name vis (origin.File item.ast_id site.tree found.0 found.1) (walk oracle (inner_site s (file_tree found) found.2) (top_items oracle (file_tree found)))
-      (walk oracle (module_site child (file_tree found) found.2) ids)
-      (ap (λ m. walk oracle (module_site m (file_tree found) found.2) ids) numbered ∙ ap (λ l. walk oracle (inner_site s (file_tree found) found.2) l) top) added)
+      (module_done oracle s t site name vis (origin.File item.ast_id site.tree found.0 found.1) (walk oracle (inner_site s site (file_tree found) found.2) (top_items oracle (file_tree found)))
+      (walk oracle (module_site child (file_tree found) site.depth found.2) ids)
+      (ap (λ m. walk oracle (module_site m (file_tree found) site.depth found.2) ids) numbered ∙ ap (λ l. walk oracle (inner_site s site (file_tree found) found.2) l) top) added)
 
   -- what is known of a found file is what was asked
   pub outline_same : (a b : Result FoundFile (List (List ℕ))) (inner : List Task) → a ≡ b → IsDone oracle (outline_item oracle s site item name vis b) t inner → IsDone oracle (outline_item oracle s site item name vis a) t inner

@@ -18,10 +18,9 @@ use Rattle.def_ids.specs.declared.ids.GlobId.{GlobId}
 use Rattle.def_ids.specs.declared.ids.ItemContainerId.TheVariants as contained
 use Rattle.def_ids.specs.declared.ids.ModuleId.{ModuleId}
 use Rattle.def_ids.specs.declared.ids.UseId.{UseId}
-use Rattle.def_ids.specs.Session.{ItemKind, FunctionItem, UnionItem, EnumItem, ConstItem, StaticItem, TraitItem, TypeAliasItem}
+use Rattle.def_ids.specs.Session.{ItemKind}
 use Rattle.def_bindings.specs.declared.bindings.ImportOrExternCrate.TheVariants.{Glob, ExternCrate as ByCrate}
 use Rattle.def_bindings.specs.declared.bindings.Namespace.{Namespace}
-use Rattle.def_bindings.specs.declared.bindings.Namespace.TheVariants.{Types, Values}
 use Rattle.def_bindings.specs.declared.visibility.Visibility.{Visibility}
 use Rattle.def_bindings.specs.Puts.{IsExplicit, Origin, glob_of}
 use Rattle.def_modules.specs.declared.module_data.ModuleOrigin.{ModuleOrigin}
@@ -127,11 +126,11 @@ module _ (s : State) (site : Site) where
     inline_own : (oracle : Oracle) (children : List ModItemId) (directory : Option Directory) (targets : Targets) → IsOwn (add_module s site.scope name vis o).map (next_module s)
         → AreOwnTasks (add_module s site.scope name vis o).map targets (inline_contents oracle s site children directory)
     inline_own oracle children None targets own = tt
-    inline_own oracle children (Some directory) targets own = own_walk oracle (add_module s site.scope name vis o).map targets (inner_site s site.tree directory) children own
+    inline_own oracle children (Some directory) targets own = own_walk oracle (add_module s site.scope name vis o).map targets (inner_site s site site.tree directory) children own
 
     inline_plain : (oracle : Oracle) (children : List ModItemId) (directory : Option Directory) → ArePlain (inline_contents oracle s site children directory)
     inline_plain oracle children None = tt
-    inline_plain oracle children (Some directory) = plain_walk oracle (inner_site s site.tree directory) children
+    inline_plain oracle children (Some directory) = plain_walk oracle (inner_site s site site.tree directory) children
 
   -- a change that opens nothing, in a map with the same modules
   same_opened : (t : State) → t.content ≡ s.content → t.targets ≡ s.targets → t.partial ≡ s.partial → IsLarger s.map t.map → ((p : PendingImport) → Contains t.imports p → Contains s.imports p ⊎ (p.scope ≡ site.scope))
@@ -141,7 +140,7 @@ module _ (s : State) (site : Site) where
 found_opened : (oracle : Oracle) (s : State) (site : Site) (item : ItemNode) (name : Name) (vis : Visibility) (found : FoundFile) (cfg : Option CfgExpr) → IsOpened s site (outline_found oracle s site item name vis found cfg)
 found_opened oracle s site item name vis found (Some cfg) = same_opened s site _ refl refl refl (larger_refl s.map) (λ p h. inl h)
 found_opened oracle s site item name vis found None = (let o : ModuleOrigin = origin.File item.ast_id site.tree found.0 found.1 in
-    let inner : Site = inner_site s (file_tree found) found.2 in
+    let inner : Site = inner_site s site (file_tree found) found.2 in
     added_opened s site name vis o (walk oracle inner (top_items oracle (file_tree found))) (λ targets own. own_walk oracle (add_module s site.scope name vis o).map targets inner (top_items oracle (file_tree found)) own) (plain_walk oracle inner (top_items oracle (file_tree found))))
 
 outline_opened : (oracle : Oracle) (s : State) (site : Site) (item : ItemNode) (name : Name) (vis : Visibility) (found : Result FoundFile (List (List ℕ))) → IsOpened s site (outline_item oracle s site item name vis found)
@@ -264,16 +263,16 @@ module _ (oracle : Oracle) (s : State) (site : Site) (item : ItemNode) where
   follows_opened (declares kind d ns name raw) effect does = declares_opened kind d ns name raw effect does
   follows_opened notes_const effect does = opened_known s site effect _ does.2 (let f : ModuleState → ModuleState = with_unnamed_const (record { 0 = does.0 }) in noted_opened (noted_in s site.scope f) site.scope.index f refl)
 
-node_opened : (oracle : Oracle) (s : State) (site : Site) (item : ItemNode) (cfg : Option CfgExpr) (effect : Effect) → VisitsNode oracle s site item cfg effect → IsOpened s site effect
-node_opened oracle s site item (Some cfg) effect does = opened_known s site effect _ does (same_opened s site _ refl refl refl (larger_refl s.map) (λ p h. inl h))
-node_opened oracle s site item None effect does =
+node_opened : (oracle : Oracle) (s : State) (site : Site) (id : ModItemId) (item : ItemNode) (cfg : Option CfgExpr) (effect : Effect) → VisitsNode oracle s site id item cfg effect → IsOpened s site effect
+node_opened oracle s site id item (Some cfg) effect does = opened_known s site effect _ does (same_opened s site _ refl refl refl (larger_refl s.map) (λ p h. inl h))
+node_opened oracle s site id item None effect does =
     let opened = follows_opened oracle (record s { session = does.0 }) site item (rule_of item.kind) effect does.2 in
     record { content = opened.content; targets = opened.targets; partial = opened.partial; larger = opened.larger; imports = opened.imports; tasks = opened.tasks; plain = opened.plain }
 
-at_opened : (oracle : Oracle) (s : State) (site : Site) (item : Option ItemNode) (effect : Effect) → VisitsAt oracle s site item effect → IsOpened s site effect
-at_opened oracle s site None effect does = opened_known s site effect _ does (same_opened s site s refl refl refl (larger_refl s.map) (λ p h. inl h))
-at_opened oracle s site (Some item) effect does = node_opened oracle s site item (disabled_by item.attrs) effect does
+at_opened : (oracle : Oracle) (s : State) (site : Site) (id : ModItemId) (item : Option ItemNode) (effect : Effect) → VisitsAt oracle s site id item effect → IsOpened s site effect
+at_opened oracle s site id None effect does = opened_known s site effect _ does (same_opened s site s refl refl refl (larger_refl s.map) (λ p h. inl h))
+at_opened oracle s site id (Some item) effect does = node_opened oracle s site id item (disabled_by item.attrs) effect does
 
 -- a visit leaves the table, what globs were recorded with and the partial imports, and stays within the map
 pub visits_opened : (oracle : Oracle) (s : State) (site : Site) (id : ModItemId) (effect : Effect) → Visits oracle s site id effect → IsOpened s site effect
-visits_opened oracle s site id effect does = at_opened oracle s site (node_at oracle site.tree id) effect does
+visits_opened oracle s site id effect does = at_opened oracle s site id (node_at oracle site.tree id) effect does

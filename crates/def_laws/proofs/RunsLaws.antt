@@ -28,10 +28,6 @@ use Rattle.def_rules.specs.Rules.{VisitsAt, VisitsNode, Visits, Rule, Follows, r
 use Rattle.def_laws.specs.Finished.{NoneFailed}
 use Rattle.def_rules.specs.State.{State, Effect, followed_by, Moment, Site, Task, Enter, Visit, Put, reported, AddEdge}
 use Rattle.def_rules.specs.Steps.{Does, Reaches, Step, here, one, join, performs, copies, rearranges, records}
-use Rattle.item_tree.specs.declared.items.RawVisibility.{RawVisibility}
-use Rattle.def_ids.specs.Session.{ItemKind, FunctionItem, UnionItem, EnumItem, ConstItem, StaticItem, TraitItem, TypeAliasItem}
-use Rattle.def_bindings.specs.declared.bindings.Namespace.{Namespace}
-use Rattle.def_bindings.specs.declared.bindings.Namespace.TheVariants.{Types, Values}
 
 module _ {oracle : Oracle} where
   -- what holds of a moment with itself, of each step, and of two runs in a row where it holds of both, holds of all runs
@@ -125,19 +121,19 @@ follows_leaves oracle s site item (notes_impl of_trait) effect does =
 follows_leaves oracle s site item notes_const effect does =
     leaves_known s effect _ does.2 (record { content = refl; partial = refl; events = refl; none_failed = λ none. none_failed-with_module s.map site.scope.index (with_unnamed_const _) (λ d h. h) none })
 
-node_leaves : (oracle : Oracle) (s : State) (site : Site) (item : ItemNode) (cfg : Option CfgExpr) (effect : Effect) → VisitsNode oracle s site item cfg effect → Leaves s effect
-node_leaves oracle s site item (Some cfg) effect does = leaves_known s effect _ does (record { content = refl; partial = refl; events = refl; none_failed = λ none. none })
-node_leaves oracle s site item None effect does =
+node_leaves : (oracle : Oracle) (s : State) (site : Site) (id : ModItemId) (item : ItemNode) (cfg : Option CfgExpr) (effect : Effect) → VisitsNode oracle s site id item cfg effect → Leaves s effect
+node_leaves oracle s site id item (Some cfg) effect does = leaves_known s effect _ does (record { content = refl; partial = refl; events = refl; none_failed = λ none. none })
+node_leaves oracle s site id item None effect does =
     let leaves = follows_leaves oracle (record s { session = does.0 }) site item (rule_of item.kind) effect does.2 in
     record { content = leaves.content; partial = leaves.partial; events = leaves.events; none_failed = leaves.none_failed }
 
-visits_leaves_at : (oracle : Oracle) (s : State) (site : Site) (item : Option ItemNode) (effect : Effect) → VisitsAt oracle s site item effect → Leaves s effect
-visits_leaves_at oracle s site None effect does = leaves_known s effect _ does (record { content = refl; partial = refl; events = refl; none_failed = λ none. none })
-visits_leaves_at oracle s site (Some item) effect does = node_leaves oracle s site item (disabled_by item.attrs) effect does
+visits_leaves_at : (oracle : Oracle) (s : State) (site : Site) (id : ModItemId) (item : Option ItemNode) (effect : Effect) → VisitsAt oracle s site id item effect → Leaves s effect
+visits_leaves_at oracle s site id None effect does = leaves_known s effect _ does (record { content = refl; partial = refl; events = refl; none_failed = λ none. none })
+visits_leaves_at oracle s site id (Some item) effect does = node_leaves oracle s site id item (disabled_by item.attrs) effect does
 
 -- a visit leaves the table and the partial imports, and marks no name as failed
 pub visits_leaves : (oracle : Oracle) (s : State) (site : Site) (id : ModItemId) (effect : Effect) → Visits oracle s site id effect → Leaves s effect
-visits_leaves oracle s site id effect does = visits_leaves_at oracle s site (node_at oracle site.tree id) effect does
+visits_leaves oracle s site id effect does = visits_leaves_at oracle s site id (node_at oracle site.tree id) effect does
 
 -- No name fails along a run
 

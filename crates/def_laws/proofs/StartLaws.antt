@@ -1,5 +1,5 @@
 -- What is known before the first item, and the work that a run begins with.
-use Rattle.std.proofs.Common.{Bor, ◌≡◌, ℕ, false, cond, List, [], ◌∷◌, ◌++◌, Option, Some, None, option_and_then, option_map, refl, sym, ap, subst, append-nil, is_some, ◌∙◌}
+use Rattle.std.proofs.Common.{Bor, ◌≡◌, ℕ, false, cond, List, [], ◌++◌, Option, Some, None, option_and_then, option_map, refl, sym, ap, subst, append-nil, is_some, ◌∙◌}
 use Rattle.std.specs.Option.{option_copied, unwrap_or}
 use Rattle.item_tree.specs.declared.attrs.Attr.{Attr}
 use Rattle.item_tree.specs.declared.ids.CfgExpr.{CfgExpr}
@@ -17,7 +17,7 @@ use Rattle.def_paths.specs.Paths.{for_module, module_found, module_reached, reso
 use Rattle.def_parts.specs.Directories.{Directory, root_directory}
 use Rattle.def_rules.specs.Crates.{prelude_module, prelude_path, tree_attrs}
 use Rattle.def_rules.specs.Items.{top_items, tree_cfg, walk}
-use Rattle.def_rules.specs.Start.{crate_head, first_head, first_reports, first_tasks, first_tree, first_walk, head_of, informed, site_at, started, told, with_attrs, with_deps, with_head, with_prelude}
+use Rattle.def_rules.specs.Start.{crate_head, first_depth, first_head, first_reports, first_tasks, first_tree, first_walk, head_of, informed, site_at, started, told, with_attrs, with_deps, with_head, with_prelude}
 use Rattle.def_rules.specs.State.{State, root, module_site, world}
 use Rattle.def_laws.specs.Runs.{Leads}
 use Rattle.def_laws.proofs.StepsLaws.{leads_refl}
@@ -26,43 +26,44 @@ module _ (oracle : Oracle) (m : MapState) (tree first : TreeId) (same : first �
   -- a tree that cfg disables is not walked
   first_disabled : (cfg : CfgExpr) → Some cfg ≡ tree_cfg oracle first → first_tasks oracle m tree ≡ []
   first_disabled cfg off =
-      ap (λ t. first_walk oracle (site_at m t) (top_items oracle t) (tree_cfg oracle t)) (sym same)
-      ∙ ap (λ c. first_walk oracle (site_at m first) (top_items oracle first) c) (sym off)
+      ap (λ t. first_walk oracle (site_at oracle m t) (top_items oracle t) (tree_cfg oracle t)) (sym same)
+      ∙ ap (λ c. first_walk oracle (site_at oracle m first) (top_items oracle first) c) (sym off)
 
   -- and is reported, where it is a crate's
   first_reported : (s : State) (cfg : CfgExpr) → Some cfg ≡ tree_cfg oracle first
-      → told oracle m tree s ≡ record s { diagnostics = s.diagnostics ++ first_reports (site_at m first) (is_some m.id.block) (Some cfg) }
+      → told oracle m tree s ≡ record s { diagnostics = s.diagnostics ++ first_reports m first (is_some m.id.block) (Some cfg) }
   first_reported s cfg off =
-      ap (λ t. record s { diagnostics = s.diagnostics ++ first_reports (site_at m t) (is_some m.id.block) (tree_cfg oracle t) }) (sym same)
-      ∙ ap (λ c. record s { diagnostics = s.diagnostics ++ first_reports (site_at m first) (is_some m.id.block) c }) (sym off)
+      ap (λ t. record s { diagnostics = s.diagnostics ++ first_reports m t (is_some m.id.block) (tree_cfg oracle t) }) (sym same)
+      ∙ ap (λ c. record s { diagnostics = s.diagnostics ++ first_reports m first (is_some m.id.block) c }) (sym off)
 
   -- any other is walked
-  first_walked : (ids : List ModItemId) → None ≡ tree_cfg oracle first → ids ≡ top_items oracle first → first_tasks oracle m tree ≡ walk oracle (site_at m first) ids
+  first_walked : (ids : List ModItemId) → None ≡ tree_cfg oracle first → ids ≡ top_items oracle first → first_tasks oracle m tree ≡ walk oracle (site_at oracle m first) ids
   first_walked ids on top =
-      ap (λ t. first_walk oracle (site_at m t) (top_items oracle t) (tree_cfg oracle t)) (sym same)
-      ∙ ap (λ c. first_walk oracle (site_at m first) (top_items oracle first) c) (sym on)
-      ∙ ap (λ l. walk oracle (site_at m first) l) (sym top)
+      ap (λ t. first_walk oracle (site_at oracle m t) (top_items oracle t) (tree_cfg oracle t)) (sym same)
+      ∙ ap (λ c. first_walk oracle (site_at oracle m first) (top_items oracle first) c) (sym on)
+      ∙ ap (λ l. walk oracle (site_at oracle m first) l) (sym top)
 
   -- with no report
   first_silent : (s : State) → None ≡ tree_cfg oracle first → told oracle m tree s ≡ s
   first_silent s on =
-      ap (λ t. record s { diagnostics = s.diagnostics ++ first_reports (site_at m t) (is_some m.id.block) (tree_cfg oracle t) }) (sym same)
-      ∙ ap (λ c. record s { diagnostics = s.diagnostics ++ first_reports (site_at m first) (is_some m.id.block) c }) (sym on)
+      ap (λ t. record s { diagnostics = s.diagnostics ++ first_reports m t (is_some m.id.block) (tree_cfg oracle t) }) (sym same)
+      ∙ ap (λ c. record s { diagnostics = s.diagnostics ++ first_reports m first (is_some m.id.block) c }) (sym on)
       ∙ ap (λ l. record s { diagnostics = l }) (append-nil s.diagnostics)
 
   -- a run over a tree that cfg disables ends at once
-  seeds_disabled : (s t : State) (cfg : CfgExpr) → Some cfg ≡ tree_cfg oracle first → t ≡ record s { diagnostics = s.diagnostics ++ first_reports (site_at m first) (is_some m.id.block) (Some cfg) }
+  seeds_disabled : (s t : State) (cfg : CfgExpr) → Some cfg ≡ tree_cfg oracle first → t ≡ record s { diagnostics = s.diagnostics ++ first_reports m first (is_some m.id.block) (Some cfg) }
       → Leads oracle (first_tasks oracle m tree) (told oracle m tree s) [] t
   seeds_disabled s t cfg off last =
       subst (λ tasks. Leads oracle tasks (told oracle m tree s) [] t) (sym (first_disabled cfg off))
       (subst (λ u. Leads oracle [] (told oracle m tree s) [] u) (first_reported s cfg off ∙ sym last) (leads_refl [] (told oracle m tree s)))
 
   -- a walk from the root's directory is the run over the tree
-  seeds_walked : (s t : State) (directory : Directory) (ids : List ModItemId) → directory ≡ root_directory → None ≡ tree_cfg oracle first → ids ≡ top_items oracle first
-      → Leads oracle (walk oracle (module_site (root m) first directory) ids) s [] t → Leads oracle (first_tasks oracle m tree) (told oracle m tree s) [] t
-  seeds_walked s t directory ids at_root on top run =
+  seeds_walked : (s t : State) (depth : ℕ) (directory : Directory) (ids : List ModItemId) → depth ≡ first_depth oracle m.id first → directory ≡ root_directory → None ≡ tree_cfg oracle first → ids ≡ top_items oracle first
+      → Leads oracle (walk oracle (module_site (root m) first depth directory) ids) s [] t → Leads oracle (first_tasks oracle m tree) (told oracle m tree s) [] t
+  seeds_walked s t depth directory ids deep at_root on top run =
       subst (λ u. Leads oracle (first_tasks oracle m tree) u [] t) (sym (first_silent s on))
-      (subst (λ tasks. Leads oracle tasks s [] t) (ap (λ d. walk oracle (module_site (root m) first d) ids) at_root ∙ sym (first_walked ids on top)) run)
+      (subst (λ tasks. Leads oracle tasks s [] t)
+      (ap (λ n. walk oracle (module_site (root m) first n directory) ids) deep ∙ ap (λ d. walk oracle (module_site (root m) first (first_depth oracle m.id first) d) ids) at_root ∙ sym (first_walked ids on top)) run)
 
 module _ (oracle : Oracle) (s s1 : State) (tree first : TreeId) (attrs : List Attr) (off : Option CfgExpr) (same : first ≡ first_tree oracle s.map.id tree) (known : s1 ≡ with_head s (first_head oracle attrs off s))
     (said : attrs ≡ tree_attrs oracle first) (by_cfg : off ≡ tree_cfg oracle first) where
@@ -75,20 +76,20 @@ module _ (oracle : Oracle) (s s1 : State) (tree first : TreeId) (attrs : List At
       ∙ ap (λ t. informed oracle t s) same
 
   -- a tree that cfg disables: the run ends at once
-  pub starts_disabled : (t : State) (cfg : CfgExpr) → off ≡ Some cfg → t ≡ record s1 { diagnostics = s1.diagnostics ++ first_reports (site_at s1.map first) (is_some s1.map.id.block) (Some cfg) }
+  pub starts_disabled : (t : State) (cfg : CfgExpr) → off ≡ Some cfg → t ≡ record s1 { diagnostics = s1.diagnostics ++ first_reports s1.map first (is_some s1.map.id.block) (Some cfg) }
       → Leads oracle (first_tasks oracle s.map tree) (started oracle tree s) [] t
   starts_disabled t cfg is last =
       let ends : s1 ≡ with_head s (first_head oracle attrs off s) → Leads oracle (first_tasks oracle s.map tree) (told oracle s.map tree s1) [] t = λ e.
-      subst (λ u. t ≡ record u { diagnostics = u.diagnostics ++ first_reports (site_at u.map first) (is_some u.map.id.block) (Some cfg) } → Leads oracle (first_tasks oracle s.map tree) (told oracle s.map tree u) [] t)
+      subst (λ u. t ≡ record u { diagnostics = u.diagnostics ++ first_reports u.map first (is_some u.map.id.block) (Some cfg) } → Leads oracle (first_tasks oracle s.map tree) (told oracle s.map tree u) [] t)
       (sym e) (seeds_disabled oracle s.map tree first same (with_head s (first_head oracle attrs off s)) t cfg (sym is ∙ by_cfg)) last in
       subst (λ u. Leads oracle (first_tasks oracle s.map tree) (told oracle s.map tree u) [] t) informs (ends known)
 
   -- any other: the run is the walk from the root's directory
-  pub starts_walked : (t : State) (directory : Directory) (ids : List ModItemId) → off ≡ None → directory ≡ root_directory → ids ≡ top_items oracle first
-      → Leads oracle (walk oracle (module_site (root s.map) first directory) ids) s1 [] t → Leads oracle (first_tasks oracle s.map tree) (started oracle tree s) [] t
-  starts_walked t directory ids is at_root top run =
+  pub starts_walked : (t : State) (depth : ℕ) (directory : Directory) (ids : List ModItemId) → off ≡ None → depth ≡ first_depth oracle s.map.id first → directory ≡ root_directory → ids ≡ top_items oracle first
+      → Leads oracle (walk oracle (module_site (root s.map) first depth directory) ids) s1 [] t → Leads oracle (first_tasks oracle s.map tree) (started oracle tree s) [] t
+  starts_walked t depth directory ids is deep at_root top run =
       subst (λ u. Leads oracle (first_tasks oracle s.map tree) (told oracle s.map tree u) [] t) informs
-      (seeds_walked oracle s.map tree first same s1 t directory ids at_root (sym is ∙ by_cfg) top run)
+      (seeds_walked oracle s.map tree first same s1 t depth directory ids deep at_root (sym is ∙ by_cfg) top run)
 
 -- What is read of a tree that the oracle has, or lacks
 

@@ -139,8 +139,8 @@ module _ {oracle : Oracle} where
   pub leads_handled : (s t : State) (site : Site) (id : ModItemId) (item : ItemNode) (inner : List Task) → node_at oracle site.tree id ≡ Some item → disabled_by item.attrs ≡ None → Handled oracle s t site item inner
       → (rest : List Task) → Leads oracle (Visit site id ∷ rest) s (inner ++ rest) t
   leads_handled s t site id item inner found on handled rest =
-      let node : VisitsNode oracle s site item (disabled_by item.attrs) handled.effect = subst (λ c. VisitsNode oracle s site item c handled.effect) (sym on) handled.handled in
-      let does : Does oracle s (Visit site id) handled.effect = subst (λ o. VisitsAt oracle s site o handled.effect) (sym found) node in
+      let node : VisitsNode oracle s site id item (disabled_by item.attrs) handled.effect = subst (λ c. VisitsNode oracle s site id item c handled.effect) (sym on) handled.handled in
+      let does : Does oracle s (Visit site id) handled.effect = subst (λ o. VisitsAt oracle s site id o handled.effect) (sym found) node in
       leads_done site id rest s t handled.effect inner does handled.done
 
   -- an item that cfg disables is reported
@@ -148,9 +148,9 @@ module _ {oracle : Oracle} where
       → t ≡ reported s (diagnostic site item (UnconfiguredCode cfg)) → (rest : List Task) → Leads oracle (Visit site id ∷ rest) s rest t
   leads_disabled s t site id item cfg found off after rest =
       let effect : Effect = only t in
-      let node : VisitsNode oracle s site item (disabled_by item.attrs) effect = subst (λ c. VisitsNode oracle s site item c effect) (sym off) (ap only after) in
-      leads_visit site id rest s effect (subst (λ o. VisitsAt oracle s site o effect) (sym found) node)
+      let node : VisitsNode oracle s site id item (disabled_by item.attrs) effect = subst (λ c. VisitsNode oracle s site id item c effect) (sym off) (ap only after) in
+      leads_visit site id rest s effect (subst (λ o. VisitsAt oracle s site id o effect) (sym found) node)
 
   -- an item that the tree does not have is nothing
   pub leads_nothing : (s : State) (site : Site) (id : ModItemId) → node_at oracle site.tree id ≡ None → (rest : List Task) → Leads oracle (Visit site id ∷ rest) s rest s
-  leads_nothing s site id missing rest = leads_visit site id rest s (only s) (subst (λ o. VisitsAt oracle s site o (only s)) (sym missing) refl)
+  leads_nothing s site id missing rest = leads_visit site id rest s (only s) (subst (λ o. VisitsAt oracle s site id o (only s)) (sym missing) refl)

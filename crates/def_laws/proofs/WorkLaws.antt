@@ -7,6 +7,7 @@ use Rattle.std.proofs.lemmas.List.Sums.{sum_by-cons}
 use Rattle.std.proofs.lemmas.Option.{slice_get-get_or}
 use Rattle.item_tree.specs.declared.ids.CfgExpr.{CfgExpr}
 use Rattle.item_tree.specs.declared.ids.ModItemId.{ModItemId}
+use Rattle.item_tree.specs.declared.ids.TreeId.{TreeId}
 use Rattle.item_tree.specs.declared.items.ItemNode.{ItemNode}
 use Rattle.item_tree.specs.declared.items.ModContents.{ModContents}
 use Rattle.item_tree.specs.declared.items.ModContents.TheVariants.{Inline, Outline}
@@ -136,21 +137,21 @@ block_later (Some t) id item there = λ k d within.
     child_after t.items t.top id.0 k item (get_or children k d) t.sound there (block_children item.kind k (get_or children k d) (slice_get-get_or children k d within))
 
 module _ (oracle : Oracle) (s : State) (site : Site) (id : ModItemId) (item : ItemNode) where
-  -- a list that lies one level of directories deeper
-  deeper_below : (inner : Site) (ids : List ModItemId) → IsDeeper site.directory inner.directory → AreBelow (rank site id) (walk oracle inner ids)
-  deeper_below inner ids lies =
+  -- the contents of a module, which lie one level of directories deeper
+  deeper_below : (tree : TreeId) (below : Directory) (ids : List ModItemId) → IsDeeper site.directory below → AreBelow (rank site id) (walk oracle (inner_site s site tree below) ids)
+  deeper_below tree below ids lies =
       let within = lies.within in
       let deeper = lies.deeper in
-      walk_below oracle (rank site id) inner ids (λ k d place. omega (arith, within, deeper))
+      walk_below oracle (rank site id) (inner_site s site tree below) ids (λ k d place. omega (arith, within, deeper))
 
   module _ (name : Name) (vis : Visibility) where
     inline_below : (children : List ModItemId) (found : Option Directory) → ((below : Directory) → found ≡ Some below → IsDeeper site.directory below) → AreBelow (rank site id) (inline_contents oracle s site children found)
     inline_below children None deeper = tt
-    inline_below children (Some below) deeper = deeper_below (inner_site s site.tree below) children (deeper below refl)
+    inline_below children (Some below) deeper = deeper_below site.tree below children (deeper below refl)
 
     found_below : (found : FoundFile) (cfg : Option CfgExpr) → IsDeeper site.directory found.2 → AreBelow (rank site id) (outline_found oracle s site item name vis found cfg).tasks
     found_below found (Some cfg) deeper = tt
-    found_below found None deeper = deeper_below (inner_site s (file_tree found) found.2) (top_items oracle (file_tree found)) deeper
+    found_below found None deeper = deeper_below (file_tree found) found.2 (top_items oracle (file_tree found)) deeper
 
     outline_below : (found : Result FoundFile (List (List ℕ))) → ((file : FoundFile) → found ≡ Ok file → IsDeeper site.directory file.2) → AreBelow (rank site id) (outline_item oracle s site item name vis found).tasks
     outline_below (Ok found) deeper = found_below found (tree_cfg oracle (file_tree found)) (deeper found refl)

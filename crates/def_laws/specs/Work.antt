@@ -3,9 +3,9 @@ use Rattle.std.specs.Prelude.{ℕ, suc, ◌<◌, ◌+◌, ◌-◌, ◌*◌, ◌^
 use Rattle.item_tree.specs.declared.ids.ModItemId.{ModItemId}
 use Rattle.def_rules.specs.State.{Site, Task, Enter, Visit, Put, AddEdge}
 
--- how far a visit is from the end of a walk, as one number: first the levels of directories that are left, which lie at most 32 deep, then the items of its tree from it on
+-- how far a visit is from the end of a walk, as one number: first the levels of expansions that are left, then those of directories, which lie at most 32 deep, then the items of its tree from it on
 abbrev pub rank : Site → ModItemId → ℕ
-rank site id = (33 - site.directory.depth) * 2 ^ 65 + (2 ^ 64 - id.0)
+rank site id = ((2 ^ 32 - site.depth) * 34 + (33 - site.directory.depth)) * 2 ^ 65 + (2 ^ 64 - id.0)
 
 -- what a visit of a rank weighs: more than 2^64 visits of lower ranks together
 unfoldable pub weight : ℕ → ℕ

@@ -42,14 +42,14 @@ abbrev pub module_effect : State → Site → Name → Visibility → ModuleOrig
 module_effect s site name vis o contents =
     followed_by (add_module s site.scope name vis o) (put_declared site.scope name Types (def.Module (next_module s)) vis ∷ contents)
 
--- where the contents of the next module stand
-abbrev pub inner_site : State → TreeId → Directory → Site
-inner_site s tree directory = module_site (next_module s) tree directory
+-- where the contents of the next module stand: as deep in expansions as its item
+abbrev pub inner_site : State → Site → TreeId → Directory → Site
+inner_site s site tree directory = module_site (next_module s) tree site.depth directory
 
 -- an inline module's contents; a module that lies too deep keeps none
 abbrev pub inline_contents : Oracle → State → Site → List ModItemId → Option Directory → List Task
 inline_contents oracle s site children None = []
-inline_contents oracle s site children (Some directory) = walk oracle (inner_site s site.tree directory) children
+inline_contents oracle s site children (Some directory) = walk oracle (inner_site s site site.tree directory) children
 
 -- a name's text; an unknown name has none
 abbrev pub name_text : Session → Name → List ℕ
@@ -64,7 +64,7 @@ abbrev pub outline_found : Oracle → State → Site → ItemNode → Name → V
 outline_found oracle s site item name vis found (Some cfg) = only (reported s (diagnostic site item (UnconfiguredCode cfg)))
 outline_found oracle s site item name vis found None =
     module_effect s site name vis (origin.File item.ast_id site.tree found.0 found.1)
-    (walk oracle (inner_site s (file_tree found) found.2) (top_items oracle (file_tree found)))
+    (walk oracle (inner_site s site (file_tree found) found.2) (top_items oracle (file_tree found)))
 
 -- an outline module whose file is not found is declared empty, and reported with the files that were looked for
 abbrev pub outline_item : Oracle → State → Site → ItemNode → Name → Visibility → Result FoundFile (List (List ℕ)) → Effect

@@ -92,16 +92,16 @@ abbrev pub HandlesInSession : Oracle → State → Site → ItemNode → Effect 
 HandlesInSession oracle s site item effect =
     (session : Session) × AddsLocations s.session session × Handles oracle (record s { session = session }) site item item.kind effect
 
--- an item that cfg disables is reported, and nothing else; any other is handled
-abbrev pub VisitsNode : Oracle → State → Site → ItemNode → Option CfgExpr → Effect → Type 0
-VisitsNode oracle s site item (Some cfg) effect = effect ≡ only (reported s (diagnostic site item (UnconfiguredCode cfg)))
-VisitsNode oracle s site item None effect = HandlesInSession oracle s site item effect
+-- the item of this number: one that cfg disables is reported, and nothing else; any other is handled
+abbrev pub VisitsNode : Oracle → State → Site → ModItemId → ItemNode → Option CfgExpr → Effect → Type 0
+VisitsNode oracle s site id item (Some cfg) effect = effect ≡ only (reported s (diagnostic site item (UnconfiguredCode cfg)))
+VisitsNode oracle s site id item None effect = HandlesInSession oracle s site item effect
 
 -- an item that the tree does not have is nothing
-abbrev pub VisitsAt : Oracle → State → Site → Option ItemNode → Effect → Type 0
-VisitsAt oracle s site None effect = effect ≡ only s
-VisitsAt oracle s site (Some item) effect = VisitsNode oracle s site item (disabled_by item.attrs) effect
+abbrev pub VisitsAt : Oracle → State → Site → ModItemId → Option ItemNode → Effect → Type 0
+VisitsAt oracle s site id None effect = effect ≡ only s
+VisitsAt oracle s site id (Some item) effect = VisitsNode oracle s site id item (disabled_by item.attrs) effect
 
 -- an item is visited
 abbrev pub Visits : Oracle → State → Site → ModItemId → Effect → Type 0
-Visits oracle s site id effect = VisitsAt oracle s site (node_at oracle site.tree id) effect
+Visits oracle s site id effect = VisitsAt oracle s site id (node_at oracle site.tree id) effect

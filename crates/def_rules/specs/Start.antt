@@ -1,5 +1,5 @@
 -- The start of a run.
-use Rattle.std.specs.Prelude.{Bool, true, false, List, [], ◌∷◌, ◌++◌, ◌||◌, cond, Option, None, Some, is_some}
+use Rattle.std.specs.Prelude.{ℕ, Bool, true, false, List, [], ◌∷◌, ◌++◌, ◌||◌, cond, Option, None, Some, is_some}
 use Rattle.std.specs.List.{list_any}
 use Rattle.item_tree.specs.declared.attrs.Attr.{Attr}
 use Rattle.item_tree.specs.declared.ids.CfgExpr.{CfgExpr}
@@ -7,6 +7,7 @@ use Rattle.item_tree.specs.declared.ids.HirFileId.TheVariants.{File}
 use Rattle.item_tree.specs.declared.ids.ModItemId.{ModItemId}
 use Rattle.item_tree.specs.declared.ids.TreeId.{TreeId}
 use Rattle.def_ids.specs.declared.ids.MapId.{MapId}
+use Rattle.def_ids.specs.declared.ids.ModuleId.{ModuleId}
 use Rattle.def_ids.specs.Session.{Session}
 use Rattle.def_bindings.specs.Content.{empty}
 use Rattle.def_oracle.specs.declared.source_database.CrateData.{CrateData}
@@ -48,13 +49,17 @@ root_tree tree (Some known) = record { file = File known.root_file; block = None
 abbrev pub first_tree : Oracle → MapId → TreeId → TreeId
 first_tree oracle id tree = cond (is_some id.block) tree (root_tree tree (oracle.crate_data id.krate))
 
+-- how deep in expansions of macros the top items of a tree are walked: a block's as deep as its file
+abbrev pub first_depth : Oracle → MapId → TreeId → ℕ
+first_depth oracle id tree = cond (is_some id.block) (oracle.expansion_depth tree.file) 0
+
 -- where the top items of a tree stand: in the map's root, and its directory
-abbrev pub site_at : MapState → TreeId → Site
-site_at m tree = module_site (root m) tree root_directory
+abbrev pub site_at : Oracle → MapState → TreeId → Site
+site_at oracle m tree = module_site (root m) tree (first_depth oracle m.id tree) root_directory
 
 -- where the first items stand
 abbrev pub first_site : Oracle → MapState → TreeId → Site
-first_site oracle m tree = site_at m (first_tree oracle m.id tree)
+first_site oracle m tree = site_at oracle m (first_tree oracle m.id tree)
 
 -- the first list is walked, unless cfg disables its tree
 abbrev pub first_walk : Oracle → Site → List ModItemId → Option CfgExpr → List Task
@@ -67,14 +72,14 @@ first_tasks oracle m tree =
     first_walk oracle (first_site oracle m tree) (top_items oracle (first_tree oracle m.id tree)) (tree_cfg oracle (first_tree oracle m.id tree))
 
 -- a root file that cfg disables, at its first number
-abbrev pub root_disabled : Site → CfgExpr → DefDiagnostic
-root_disabled site cfg = record { «module» = site.scope; ast_id = record { file = site.tree.file; value = record { 0 = 0 } }; kind = UnconfiguredCode cfg }
+abbrev pub root_disabled : ModuleId → TreeId → CfgExpr → DefDiagnostic
+root_disabled at tree cfg = record { «module» = at; ast_id = record { file = tree.file; value = record { 0 = 0 } }; kind = UnconfiguredCode cfg }
 
 -- what is reported before the walk: a crate's root file that cfg disables; of a block nothing
-abbrev pub first_reports : Site → Bool → Option CfgExpr → List DefDiagnostic
-first_reports site in_block None = []
-first_reports site true (Some cfg) = []
-first_reports site false (Some cfg) = root_disabled site cfg ∷ []
+abbrev pub first_reports : MapState → TreeId → Bool → Option CfgExpr → List DefDiagnostic
+first_reports m tree in_block None = []
+first_reports m tree true (Some cfg) = []
+first_reports m tree false (Some cfg) = root_disabled (root m) tree cfg ∷ []
 
 -- what is known of a crate before its items: its data, whether it is one of procedural macros, and the names of crates
 pub record Head : Type 0 where
@@ -122,7 +127,7 @@ informed oracle first s = with_head s (first_head oracle (tree_attrs oracle firs
 -- the state with what is reported before the walk
 abbrev pub told : Oracle → MapState → TreeId → State → State
 told oracle m tree s =
-    record s { diagnostics = s.diagnostics ++ first_reports (first_site oracle m tree) (is_some m.id.block) (tree_cfg oracle (first_tree oracle m.id tree)) }
+    record s { diagnostics = s.diagnostics ++ first_reports m (first_tree oracle m.id tree) (is_some m.id.block) (tree_cfg oracle (first_tree oracle m.id tree)) }
 
 -- the state in which the first item is visited
 abbrev pub started : Oracle → TreeId → State → State

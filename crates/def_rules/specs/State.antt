@@ -1,5 +1,5 @@
 -- The state of a run, and what a run is given.
-use Rattle.std.specs.Prelude.{◌≡◌, Bool, true, List, [], ◌∷◌, ◌++◌, map, Option, None, Some, unwrap_or, IsPermutation}
+use Rattle.std.specs.Prelude.{◌≡◌, ℕ, Bool, true, List, [], ◌∷◌, ◌++◌, map, Option, None, Some, unwrap_or, IsPermutation}
 use Rattle.item_tree.specs.declared.ids.FileAstId.{FileAstId}
 use Rattle.item_tree.specs.declared.ids.InFile.{InFile}
 use Rattle.item_tree.specs.declared.ids.ModItemId.{ModItemId}
@@ -82,17 +82,18 @@ pub record State : Type 0 where
   pub partial : List PartialImport
   pub diagnostics : List DefDiagnostic
 
--- where the items of a list stand: their module, what contains them, the tree that holds them, and the directory of their modules' files
+-- where the items of a list stand: their module, what contains them, the tree that holds them, how deep in expansions of macros, and the directory of their modules' files
 pub record Site : Type 0 where
   pub scope : ModuleId
   -- the module, or an extern block in it
   pub container : ItemContainerId
   pub tree : TreeId
+  pub depth : ℕ
   pub directory : Directory
 
 -- where a module's own items stand
-abbrev pub module_site : ModuleId → TreeId → Directory → Site
-module_site m tree directory = record { scope = m; container = Module m; tree = tree; directory = directory }
+abbrev pub module_site : ModuleId → TreeId → ℕ → Directory → Site
+module_site m tree depth directory = record { scope = m; container = Module m; tree = tree; depth = depth; directory = directory }
 
 -- work that is done in order
 pub data Task : Type 0 where

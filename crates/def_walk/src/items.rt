@@ -130,6 +130,7 @@ fn collect_extern_block<'a, D: SourceDatabase>(
         tree_id: site.tree_id,
         tree: db.item_tree(site.tree_id),
         items: children.as_slice(),
+        depth: site.depth,
         dir: site.dir.clone()?,
     })
 }

@@ -101,6 +101,7 @@ fn collect_inline_module<'a, D: SourceDatabase>(
         tree_id: site.tree_id,
         tree: db.item_tree(site.tree_id),
         items: children,
+        depth: site.depth,
         dir,
     }))
 }
@@ -178,6 +179,7 @@ fn collect_file_module<'a, D: SourceDatabase>(
         tree_id,
         tree,
         items: top_items(tree),
+        depth: item.site.depth,
         dir: found.dir,
     }))
 }

@@ -106,6 +106,7 @@ fn visit<'a, D: SourceDatabase>(
         module_id: list.module_id,
         container: list.container,
         tree_id: list.tree_id,
+        depth: list.depth,
         dir: &list.dir,
     };
     let disabled = report_disabled_item(&mut collector.diagnostics, site, node)?;

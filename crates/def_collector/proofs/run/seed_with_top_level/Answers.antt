@@ -24,4 +24,4 @@ returns-clause-run g c =
     on_ok c.walk.result c.walk.ensures.run (λ run.
     starts_walked oracle (state_of c.args.collector.now c.args.session.now) (state_of c.seed.new.collector c.args.session.now) c.args.tree_id first c.top_attrs.result.now c.disabled_by-disabled.result
     c.first_tree-tree_id.ensures c.in_ok-seed.ensures (c.top_attrs.ensures ∙ attrs_of oracle first tree c.item_tree-tree.ensures) (c.disabled_by-disabled.ensures ∙ cfg_of oracle first tree c.item_tree-tree.ensures)
-    (state_of c.walk.new.collector c.walk.new.session) c.root.result c.top_items.result.now c.in_default.is c.root.ensures (c.top_items.ensures ∙ tops_of oracle first tree c.item_tree-tree.ensures) run)
+    (state_of c.walk.new.collector c.walk.new.session) c.first_depth.result c.root.result c.top_items.result.now c.in_default.is c.first_depth.ensures c.root.ensures (c.top_items.ensures ∙ tops_of oracle first tree c.item_tree-tree.ensures) run)
