@@ -1,5 +1,7 @@
 -- Lists that are walked, and what they leave to be visited.
-use Rattle.std.specs.Prelude.{◌≡◌, ◌<◌, ℕ, ◌+◌, ◌^◌, List, [], ◌∷◌, ◌++◌, length, Option, Some, None}
+use Rattle.std.specs.Prelude.{◌≡◌, ◌<◌, ℕ, Bool, true, false, ◌+◌, ◌^◌, List, [], ◌∷◌, ◌++◌, length, Option, Some, None}
+use Rattle.item_tree.specs.declared.items.ModItemKind.{ModItemKind}
+use Rattle.item_tree.specs.declared.items.ModItemKind.TheVariants.{ExternBlock, Mod}
 use Rattle.def_map.specs.Oracle.{Oracle}
 use Rattle.def_parts.specs.Directories.{FoundFile}
 use Rattle.def_rules.specs.Items.{visits, walk}
@@ -14,6 +16,12 @@ use Rattle.def_items.specs.Lists.{left_of}
 -- a file that was found, as it is shown
 abbrev pub found_in : FoundInCode → FoundFile
 found_in found = (found.file, found.is_mod_rs, found.dir)
+
+-- an item of this kind opens a list of items: a module, or an extern block
+abbrev pub opens_list : ModItemKind → Bool
+opens_list (Mod name raw contents) = true
+opens_list (ExternBlock children) = true
+opens_list _ = false
 
 -- the visits that a frame has left
 abbrev pub frame_tasks : Frame → List Task

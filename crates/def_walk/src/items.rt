@@ -1,10 +1,10 @@
 //! What each kind of item does.
-ghost use Rattle.std.specs.Prelude.{◌≡◌, Some, IfOk};
+ghost use Rattle.std.specs.Prelude.{◌≡◌, [], false, Some, IfOk, OnOk};
 ghost use Rattle.item_tree.specs.declared.items.ModItemKind.TheVariants as kinds;
 ghost use Rattle.def_ids.specs.Session.{AddsLocations, session_of};
 ghost use Rattle.def_items.specs.Parts.{site_of};
 ghost use Rattle.def_state.specs.Collector.{state_of};
-ghost use Rattle.def_walk.specs.Walk.{AreKnown, inner_of, is_known};
+ghost use Rattle.def_walk.specs.Walk.{AreKnown, inner_of, is_known, opens_list};
 ghost use Rattle.def_laws.specs.Performs.{Handled};
 
 use crate::modules::{ModuleItem, collect_module};
@@ -45,13 +45,35 @@ pub(crate) fn collect_item<'a, D: SourceDatabase>(
             };
             collect_module(collector, db, session, item, contents)
         }
+        ModItemKind::ExternBlock { children } => {
+            let list = collect_extern_block(collector, db, session, site, node, children)?;
+            Ok(Some(list))
+        }
+        _ => {
+            collect_leaf(collector, db, session, site, node)?;
+            Ok(None)
+        }
+    }
+}
+
+/// Handles an item of a kind that opens no list. On `Err` nothing but safety is promised.
+fn collect_leaf<'a, D: SourceDatabase>(
+    collector: &mut DefCollector<'a>,
+    db: &D,
+    session: &mut Interner,
+    site: Site<'_>,
+    node: &'a ItemNode,
+) -> Result<(), AllocError>
+    ensures handled { OnOk result (opens_list node.now.kind ≡ false →
+        Handled (D.oracle db.now) (state_of collector.old session.old) (state_of collector.new session.new)
+        (site_of site.entry) node.now []) }
+    ensures session { AddsLocations (session_of session.old) (session_of session.new) }
+{
+    match &node.kind {
         ModItemKind::Use {
             visibility,
             imports,
-        } => {
-            collector.collect_use(session, site, node, visibility, imports)?;
-            Ok(None)
-        }
+        } => collector.collect_use(session, site, node, visibility, imports),
         ModItemKind::ExternCrate {
             name,
             visibility,
@@ -62,17 +84,11 @@ pub(crate) fn collect_item<'a, D: SourceDatabase>(
                 visibility,
                 alias: *alias,
             };
-            collector.collect_crate(db, session, site, node, written)?;
-            Ok(None)
-        }
-        ModItemKind::ExternBlock { children } => {
-            let list = collect_extern_block(collector, db, session, site, node, children)?;
-            Ok(Some(list))
+            collector.collect_crate(db, session, site, node, written)
         }
         ModItemKind::Impl { is_trait_impl } => {
             let def_map = &mut collector.def_map;
-            define_impl(def_map, session, site, node, *is_trait_impl)?;
-            Ok(None)
+            define_impl(def_map, session, site, node, *is_trait_impl)
         }
         ModItemKind::Struct {
             name,
@@ -84,19 +100,9 @@ pub(crate) fn collect_item<'a, D: SourceDatabase>(
                 visibility,
                 ctor,
             };
-            collector.collect_struct(db, session, site, node, written)?;
-            Ok(None)
+            collector.collect_struct(db, session, site, node, written)
         }
-        ModItemKind::Union { .. }
-        | ModItemKind::Enum { .. }
-        | ModItemKind::Function { .. }
-        | ModItemKind::Const { .. }
-        | ModItemKind::Static { .. }
-        | ModItemKind::Trait { .. }
-        | ModItemKind::TypeAlias { .. } => {
-            collector.collect_declaration(db, session, site, node)?;
-            Ok(None)
-        }
+        _ => collector.collect_declaration(db, session, site, node),
     }
 }
 

@@ -12,17 +12,5 @@ returns-in-Mod-clause-handled g c =
     if_ok c.collect_module.result c.collect_module.ensures.done (λ opened done.
     handled_module (g.D.SourceDatabase.oracle c.args.db.now) before _ (site_of c.args.site) c.args.node.now _ _ _ c.resolve_visibility-vis.result (inner_of (g.D.SourceDatabase.oracle c.args.db.now) opened) c.in-Mod.is c.resolve_visibility-vis.ensures done)
 
-pub returns-in_ok-collect_use-in-Use-clause-handled : goal.returns-in_ok-collect_use-in-Use-clause-handled
-returns-in_ok-collect_use-in-Use-clause-handled g c = c.in_ok-collect_use-in-Use.ensures.handled (g.D.SourceDatabase.oracle c.args.db.now) c.in-Use.is
-
-pub returns-in_ok-collect_crate-in-ExternCrate-clause-handled : goal.returns-in_ok-collect_crate-in-ExternCrate-clause-handled
-returns-in_ok-collect_crate-in-ExternCrate-clause-handled g c = c.in_ok-collect_crate-in-ExternCrate.ensures.handled c.in-ExternCrate.is
-
 pub returns-in_ok-list-in-ExternBlock-clause-handled : goal.returns-in_ok-list-in-ExternBlock-clause-handled
 returns-in_ok-list-in-ExternBlock-clause-handled g c = c.in_ok-list-in-ExternBlock.ensures.handled c.in-ExternBlock.is
-
-pub returns-in_ok-define_impl-in-Impl-clause-handled : goal.returns-in_ok-define_impl-in-Impl-clause-handled
-returns-in_ok-define_impl-in-Impl-clause-handled g c = c.in_ok-define_impl-in-Impl.ensures.handled (g.D.SourceDatabase.oracle c.args.db.now) (state_of c.args.collector.now c.args.session.now) c.in-Impl.is
-
-pub returns-in_ok-collect_struct-in-Struct-clause-handled : goal.returns-in_ok-collect_struct-in-Struct-clause-handled
-returns-in_ok-collect_struct-in-Struct-clause-handled g c = c.in_ok-collect_struct-in-Struct.ensures.handled c.in-Struct.is
