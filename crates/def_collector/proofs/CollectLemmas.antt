@@ -25,7 +25,8 @@ use Rattle.def_laws.specs.Finished.{NoneFailed, IsFinished}
 use Rattle.def_rules.specs.Start.{first_tasks, seeded_state, started}
 use Rattle.def_rules.specs.State.{Setting, State, PendingImport, PartialImport}
 use Rattle.def_laws.specs.Runs.{Leads}
-use Rattle.def_laws.proofs.BegunLaws.{begins_own}
+use Rattle.def_laws.specs.Sound.{IsSoundWith}
+use Rattle.def_laws.proofs.BegunLaws.{begins_sound}
 use Rattle.def_laws.proofs.HeadlineLaws.{answers}
 use Rattle.def_steps.proofs.WaitingLaws.{waiting-nil}
 
@@ -47,19 +48,24 @@ no_imports entries none = ap (λ es. map pending_of (waiting es)) none ∙ ap (m
 pub no_partial : (entries : List (Option PartialDirective)) → entries ≡ [] → map partial_of (waiting entries) ≡ []
 no_partial entries none = ap (λ es. map partial_of (waiting es)) none ∙ ap (map partial_of) (waiting-nil PartialDirective)
 
-module _ (w : Setting) (before after : Session) (m : MapState) (content : Content Visibility) (targets : Targets) (local : LocalView) (procs : Bool) (deps : LocalView) (missing : Name → Bool) (directories : ModuleId → Option Directory) (imports : List PendingImport) (partial : List PartialImport) (diagnostics : List DefDiagnostic) where
+module _ (w : Setting) (before : Session) (m : MapState) (content : Content Visibility) (targets : Targets) (local : LocalView) (procs : Bool) (deps : LocalView) (missing : Name → Bool) (directories : ModuleId → Option Directory) (imports : List PendingImport) (partial : List PartialImport) (diagnostics : List DefDiagnostic) where
   -- the state that the code begins with
-  abbrev pub begun : State
+  abbrev begun : State
   begun = record { session = before; map = m; content = content; targets = targets; local = local; outer = w.crate_local; is_proc_macro = procs; deps = deps; missing_crates = missing; directories = directories; imports = imports; partial = partial; diagnostics = diagnostics }
 
-  module _ (same : m ≡ w.seeded) (bound : content ≡ empty) (none : targets ≡ (λ glob. None)) (known : local ≡ empty_local) (marked : procs ≡ is_proc_macro_crate w.oracle w.seeded.id.krate) (by_name : deps ≡ deps_by_name w.oracle w.seeded.id.krate) (found : missing ≡ (λ name. false)) (bare : directories ≡ (λ at. None)) (unresolved : imports ≡ []) (indeterminate : partial ≡ []) (said : diagnostics ≡ []) where
-    begins : begun ≡ seeded_state w before
-    begins = λ i. record { session = before; map = same i; content = bound i; targets = none i; local = known i; outer = w.crate_local; is_proc_macro = marked i; deps = by_name i; missing_crates = found i; directories = bare i; imports = unresolved i; partial = indeterminate i; diagnostics = said i }
+  pub begins : m ≡ w.seeded → content ≡ empty → targets ≡ (λ glob. None) → local ≡ empty_local → procs ≡ is_proc_macro_crate w.oracle w.seeded.id.krate → deps ≡ deps_by_name w.oracle w.seeded.id.krate
+      → missing ≡ (λ name. false) → directories ≡ (λ at. None) → imports ≡ [] → partial ≡ [] → diagnostics ≡ [] → begun ≡ seeded_state w before
+  begins same bound none known marked by_name found bare unresolved indeterminate said =
+      λ i. record { session = before; map = same i; content = bound i; targets = none i; local = known i; outer = w.crate_local; is_proc_macro = marked i; deps = by_name i; missing_crates = found i; directories = bare i; imports = unresolved i; partial = indeterminate i; diagnostics = said i }
 
-    -- what was collected and finished answers
-    pub collected_answers : (t : State) (answer : Answer) (given : Content Visibility) → IsFresh w.seeded given → Leads w.oracle (first_tasks w.oracle m w.tree) (started w.oracle w.tree begun) [] t → NoneReady w.oracle t → t.session ≡ after → IsFinished t answer
-        → Answers w before after answer
-    collected_answers t answer given fresh leads settled session finished =
-        answers w before after answer t
-        (subst (λ s. Leads w.oracle (first_tasks w.oracle w.seeded w.tree) (started w.oracle w.tree s) [] t) begins (subst (λ x. Leads w.oracle (first_tasks w.oracle x w.tree) (started w.oracle w.tree begun) [] t) same leads))
-        settled session (none_seeded w.seeded given fresh) (begins_own w before given fresh) finished
+module _ (w : Setting) (before : Session) (s : State) (same : s ≡ seeded_state w before) (given : Content Visibility) (fresh : IsFresh w.seeded given) where
+  -- what a run begins with is sound
+  pub begun_sound : IsSoundWith (first_tasks w.oracle s.map w.tree) (started w.oracle w.tree s)
+  begun_sound = subst (λ x. IsSoundWith (first_tasks w.oracle x.map w.tree) (started w.oracle w.tree x)) (sym same) (begins_sound w before given fresh)
+
+  -- what was collected and finished answers
+  pub collected_answers : (after : Session) (t : State) (answer : Answer) → Leads w.oracle (first_tasks w.oracle s.map w.tree) (started w.oracle w.tree s) [] t → IsSoundWith [] t → NoneReady w.oracle t → t.session ≡ after → IsFinished t answer
+      → Answers w before after answer
+  collected_answers after t answer leads sound settled session finished =
+      answers w before after answer t (subst (λ x. Leads w.oracle (first_tasks w.oracle x.map w.tree) (started w.oracle w.tree x) [] t) same leads)
+      settled session (none_seeded w.seeded given fresh) (begins_sound w before given fresh) sound finished

@@ -1,6 +1,7 @@
 //! A whole run: what is known of a crate is read, its items are walked, and imports are recorded
 //! until none resolves any further.
 ghost use Rattle.std.specs.Prelude.{◌≡◌, [], is_some, option_map, IfOk, OnOk};
+ghost use Rattle.item_tree.specs.declared.ids.TreeId.{TreeId};
 ghost use Rattle.def_ids.specs.declared.interner.Interner.{Interner};
 ghost use Rattle.def_ids.specs.Session.{AddsLocations, session_of};
 ghost use Rattle.def_map.specs.DefMaps as whole;
@@ -11,8 +12,10 @@ ghost use Rattle.def_state.specs.Collector.{state_of, shown};
 ghost use Rattle.def_collector.specs.Collector.{setting_of};
 ghost use Rattle.def_rules.specs.Headline.{Answers};
 ghost use Rattle.def_rules.specs.Recording.{NoneReady};
-ghost use Rattle.def_rules.specs.Start.{first_depth, first_tasks, first_tree, started};
+ghost use Rattle.def_rules.specs.Start.{first_depth, first_tasks, first_tree};
+ghost use Rattle.def_rules.specs.Start.{seeded_state, started};
 ghost use Rattle.def_laws.specs.Runs.{Leads};
+ghost use Rattle.def_laws.specs.Sound.{IsSoundWith};
 
 use crate::seeding::seed;
 use def_crates::{MissingCrates, deps_by_name, is_proc_macro_crate, top_attrs};
@@ -54,10 +57,28 @@ pub fn collect_defs<D: SourceDatabase>(
     // Whatever is answered, the session keeps its entries, and no name gets a text.
     ensures session { AddsLocations (session_of session.old) (session_of session.new) }
 {
+    let mut collector = begin(alloc, db, def_map, crate_local)?;
+    collect(&mut collector, db, session, tree_id)?;
+    collector.finish()
+}
+
+/// A collector that knows the seeded map alone, and what the database says of its crate.
+fn begin<'a, D: SourceDatabase>(
+    alloc: Global,
+    db: &D,
+    def_map: DefMap,
+    crate_local: Option<&'a LocalDefMap>,
+) -> Result<DefCollector<'a>, AllocError>
+    requires { IsFresh (whole.state_of def_map) (whole.content_of def_map) }
+    ensures { IfOk result (λ collector. (tree : TreeId) (session : Interner) →
+        let local = option_map (λ l. local_view l.now) crate_local.entry in
+        let setting = setting_of (D.oracle db.now) def_map tree local in
+        state_of collector session ≡ seeded_state setting (session_of session)) }
+{
     let (data, table) = def_map.into_parts();
     let is_proc_macro = is_proc_macro_crate(db, data.tree.map.krate);
     let deps = deps_by_name(alloc, db, data.tree.map.krate)?;
-    let mut collector = DefCollector {
+    Ok(DefCollector {
         alloc,
         def_map: data,
         table: Globs::new(alloc, table),
@@ -71,9 +92,7 @@ pub fn collect_defs<D: SourceDatabase>(
         unresolved_imports: Vec::new(alloc),
         indeterminate_imports: Vec::new(alloc),
         diagnostics: Vec::new(alloc),
-    };
-    collect(&mut collector, db, session, tree_id)?;
-    collector.finish()
+    })
 }
 
 /// Walks the items, and records imports until none is ready. On `Err` nothing but safety is
@@ -84,10 +103,14 @@ fn collect<'a, D: SourceDatabase>(
     session: &mut Interner,
     tree_id: TreeId,
 ) -> Result<(), AllocError>
+    requires { IsSoundWith
+        (first_tasks (D.oracle db.now) (map_state collector.old.def_map) tree_id)
+        (started (D.oracle db.now) tree_id (state_of collector.old session.old)) }
     ensures run { OnOk result (Leads (D.oracle db.now)
         (first_tasks (D.oracle db.now) (map_state collector.old.def_map) tree_id)
         (started (D.oracle db.now) tree_id (state_of collector.old session.old))
         [] (state_of collector.new session.new)) }
+    ensures sound { OnOk result (IsSoundWith [] (state_of collector.new session.new)) }
     ensures settled { OnOk result (NoneReady (D.oracle db.now) (state_of collector.new session.new)) }
     ensures session { AddsLocations (session_of session.old) (session_of session.new) }
 {
@@ -140,8 +163,10 @@ fn resolution_loop<'a, D: SourceDatabase>(
     db: &D,
     session: &Interner,
 ) -> Result<(), AllocError>
+    requires { IsSoundWith [] (state_of collector.old session.now) }
     ensures run { OnOk result (Leads (D.oracle db.now)
         [] (state_of collector.old session.now) [] (state_of collector.new session.now)) }
+    ensures sound { OnOk result (IsSoundWith [] (state_of collector.new session.now)) }
     ensures settled { OnOk result (NoneReady (D.oracle db.now) (state_of collector.new session.now)) }
 {
     'resolve_imports: while resolve_imports(collector, db, session)? {}

@@ -18,8 +18,8 @@ use Rattle.def_modules.specs.MapState.{MapState}
 use Rattle.def_globs.proofs.ListLaws.{none_in}
 use Rattle.def_oracle.specs.Oracle.{Oracle}
 use Rattle.def_laws.specs.Followed.{AreApart}
-use Rattle.def_laws.specs.Own.{AreOwn, AreOwnTasks, IsOwn, Stands}
-use Rattle.def_laws.specs.Sound.{AreSound}
+use Rattle.def_laws.specs.Own.{AreOwn, AreOwnTasks, IsOwn}
+use Rattle.def_laws.specs.Sound.{AreSound, IsSoundWith}
 use Rattle.def_rules.specs.Globs.{Targets}
 use Rattle.def_rules.specs.Items.{top_items, tree_cfg}
 use Rattle.def_rules.specs.Start.{first_site, first_tasks, first_tree, first_walk, seeded_state, started}
@@ -50,7 +50,7 @@ unbound at (Named name ns) b h = cc
 unbound at (Unnamed t) b h = cc
 
 -- names are sound in an empty table
-pub sound_empty : (m : MapState) (targets : Targets) → AreSound m targets empty
+sound_empty : (m : MapState) (targets : Targets) → AreSound m targets empty
 sound_empty m targets = record {
   closed = λ source index edge slot b at. absurd cc;
   coherent = λ importer name ns b glob target at. absurd cc;
@@ -75,15 +75,18 @@ walk_own : (oracle : Oracle) (m : MapState) (targets : Targets) (site : Site) (i
 walk_own oracle m targets site ids None own = own_walk oracle m targets site ids own
 walk_own oracle m targets site ids (Some cfg) own = tt
 
--- what a run begins with stands in the seeded map, whatever is known of the crate
-pub begins_own : (w : Setting) (before : Session) (content : Content Visibility) → IsFresh w.seeded content → Stands (first_tasks w.oracle w.seeded w.tree) (started w.oracle w.tree (seeded_state w before))
-begins_own w before content fresh =
+-- what a run begins with is sound in the seeded map, whatever is known of the crate
+pub begins_sound : (w : Setting) (before : Session) (content : Content Visibility) → IsFresh w.seeded content → IsSoundWith (first_tasks w.oracle w.seeded w.tree) (started w.oracle w.tree (seeded_state w before))
+begins_sound w before content fresh =
     let m : MapState = (started w.oracle w.tree (seeded_state w before)).map in
     let root : HasRoot w.seeded = fresh_root w.seeded content fresh in
     let one : length m.parents ≡ 1 = root.one in
     record {
-      state = own_empty m (λ glob. None) (record { one = one; even = root.even; lower = root.lower });
-      tasks = walk_own w.oracle m (λ glob. None) (first_site w.oracle w.seeded w.tree) (top_items w.oracle (first_tree w.oracle w.seeded.id w.tree)) (tree_cfg w.oracle (first_tree w.oracle w.seeded.id w.tree)) (refl, omega arith);
+      stands = record {
+        state = own_empty m (λ glob. None) (record { one = one; even = root.even; lower = root.lower });
+        tasks = walk_own w.oracle m (λ glob. None) (first_site w.oracle w.seeded w.tree) (top_items w.oracle (first_tree w.oracle w.seeded.id w.tree)) (tree_cfg w.oracle (first_tree w.oracle w.seeded.id w.tree)) (refl, omega arith);
+      };
+      sound = sound_empty m (λ glob. None);
     }
 
 first_plain : (oracle : Oracle) (site : Site) (ids : List ModItemId) (cfg : Option CfgExpr) → ArePlain (first_walk oracle site ids cfg)

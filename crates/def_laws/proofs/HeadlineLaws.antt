@@ -3,8 +3,7 @@ use Rattle.std.proofs.Common.{◌≡◌, [], None, refl, sym, subst}
 use Rattle.def_ids.specs.Session.{Session}
 use Rattle.def_bindings.specs.Closure.{IsClosed, IsCoherent}
 use Rattle.def_globs.specs.Raised.{IsRaisedAt}
-use Rattle.def_laws.specs.Sound.{IsSound}
-use Rattle.def_laws.specs.Own.{Stands}
+use Rattle.def_laws.specs.Sound.{IsSoundWith}
 use Rattle.def_rules.specs.Targets.{none_left_out, target_of}
 use Rattle.def_rules.specs.Headline.{Answers}
 use Rattle.def_rules.specs.Recording.{NoneReady}
@@ -14,7 +13,7 @@ use Rattle.def_rules.specs.Start.{first_tasks, seeded_state, start, started}
 use Rattle.def_rules.specs.State.{Setting, State, Moment, order}
 use Rattle.def_laws.specs.Runs.{Leads, at}
 use Rattle.def_rules.specs.Steps.{Reaches}
-use Rattle.def_laws.proofs.BegunLaws.{begins_apart, sound_empty}
+use Rattle.def_laws.proofs.BegunLaws.{begins_apart}
 use Rattle.def_laws.proofs.DeclaredLaws.{declared_along, was_put_along}
 use Rattle.def_laws.proofs.EveryNamespaceLaws.{every_namespace_along}
 use Rattle.def_laws.proofs.RunsLaws.{none_failed_along}
@@ -22,17 +21,17 @@ use Rattle.def_laws.proofs.StaysLaws.{explicit_stays_along}
 
 -- where a run from the seeded map leads to an end at which nothing is left to do and no import is ready, what is answered of that end is right
 pub answers : (w : Setting) (before after : Session) (answer : Answer) (t : State) → Leads w.oracle (first_tasks w.oracle w.seeded w.tree) (started w.oracle w.tree (seeded_state w before)) [] t → NoneReady w.oracle t → t.session ≡ after → NoneFailed w.seeded
-    → Stands (first_tasks w.oracle w.seeded w.tree) (started w.oracle w.tree (seeded_state w before))
+    → IsSoundWith (first_tasks w.oracle w.seeded w.tree) (started w.oracle w.tree (seeded_state w before)) → IsSoundWith [] t
     → IsFinished t answer → Answers w before after answer
-answers w before after answer t leads settled session clean stands finished =
+answers w before after answer t leads settled session clean begun ended finished =
     record {
       run = record { end = end; runs = runs; done = refl };
       session = session;
       answered = record { map = finished.map (none_failed_along runs clean); content = finished.content; local = finished.local; outcome = finished.outcome };
-      closed = subst (IsClosed (order t) none_left_out) (sym finished.content) sound.closed;
-      coherent = subst (IsCoherent (order t) none_left_out (target_of t.map.id t.targets)) (sym finished.content) sound.coherent;
+      closed = subst (IsClosed (order t) none_left_out) (sym finished.content) ended.sound.closed;
+      coherent = subst (IsCoherent (order t) none_left_out (target_of t.map.id t.targets)) (sym finished.content) ended.sound.coherent;
       raised = λ importer slot kept. subst (λ c. IsRaisedAt (order t) c importer slot) (sym finished.content)
-          (leads.raised (begins_apart w before) stands (sound_empty (started w.oracle w.tree (seeded_state w before)).map (λ glob. None)) [] importer slot kept (λ source index edge at. absurd cc));
+          (leads.raised (begins_apart w before) begun.stands begun.sound [] importer slot kept (λ source index edge at. absurd cc));
       declared = declared_along runs refl refl;
       was_put = was_put_along runs refl refl;
       explicit_stays = λ a b run. explicit_stays_along run.goes_on;
@@ -46,6 +45,3 @@ answers w before after answer t leads settled session clean stands finished =
 
     runs : Reaches w.oracle (start w before) end
     runs = (leads.runs []).1
-
-    sound : IsSound t
-    sound = leads.keeps stands (sound_empty (started w.oracle w.tree (seeded_state w before)).map (λ glob. None))

@@ -15,7 +15,7 @@ use Rattle.def_parts.specs.Directories.{Directory}
 use Rattle.def_globs.specs.Raised.{IsRaisedAt}
 use Rattle.def_rules.specs.declared.diagnostics.DefDiagnosticKind.TheVariants.{UnconfiguredCode}
 use Rattle.def_laws.specs.Followed.{AreFollowed}
-use Rattle.def_laws.specs.Sound.{AreSound, IsRaisedIn, IsSound}
+use Rattle.def_laws.specs.Sound.{AreSound, IsRaisedIn, IsSound, IsSoundWith}
 use Rattle.def_rules.specs.Targets.{target_of}
 use Rattle.def_laws.specs.Travels.{Travels}
 use Rattle.def_laws.specs.Performs.{Handled, IsDone, Performs, Updated}
@@ -57,6 +57,10 @@ module _ {oracle : Oracle} where
         q.raised (apart_along (p.runs before).1 apart) (stands_along (p.runs before).1 stands) (p.keeps stands sound) (p.runs before).0 importer slot kept.1
         (p.raised apart stands sound before importer slot kept.0 raised);
   }
+
+  -- what is sound stays so along a run of whole waves
+  pub leads_sound : {tasks tasks' : List Task} {s t : State} → Leads oracle tasks s tasks' t → IsSoundWith tasks s → IsSoundWith tasks' t
+  leads_sound leads before = record { stands = stands_along (leads.runs []).1 before.stands; sound = leads.keeps before.stands before.sound }
 
   -- tasks are performed, the edges of globs among them
   pub leads_performed : (tasks rest : List Task) (s t : State) → AreFollowed (target_of s.map.id s.targets) tasks → Performs oracle tasks s t → Leads oracle (tasks ++ rest) s rest t

@@ -38,6 +38,11 @@ IsSound s = AreSound s.map s.targets s.content
 abbrev pub IsRaisedIn : State → ModuleId → Slot → Type 0
 IsRaisedIn s importer slot = IsRaisedAt (order_in s.map) s.content importer slot
 
+-- names are sound and all is of the map, with this still to be done
+pub record IsSoundWith (todo : List Task) (s : State) : Type 0 where
+  pub stands : Stands todo s
+  pub sound : IsSound s
+
 -- names that are sound stay so, whatever is to be done first
 abbrev pub KeepsSound : List Task → State → State → Type 0
 KeepsSound tasks s t = Stands tasks s → IsSound s → IsSound t
