@@ -1,5 +1,5 @@
 -- The seeded map: nothing is bound, so all is of the map and names are sound.
-use Rattle.std.proofs.Common.{◌≡◌, zero, suc, List, [], ◌∷◌, length, Option, Some, None, refl, sym, subst, arith, inl}
+use Rattle.std.proofs.Common.{◌≡◌, zero, suc, Bool, List, [], ◌∷◌, length, Option, Some, None, refl, sym, subst, arith, inl}
 use Rattle.item_tree.specs.declared.ids.BlockId.{BlockId}
 use Rattle.item_tree.specs.declared.ids.CfgExpr.{CfgExpr}
 use Rattle.item_tree.specs.declared.ids.ModItemId.{ModItemId}
@@ -50,8 +50,8 @@ unbound at (Named name ns) b h = cc
 unbound at (Unnamed t) b h = cc
 
 -- names are sound in an empty table
-sound_empty : (m : MapState) (targets : Targets) → AreSound m targets empty
-sound_empty m targets = record {
+sound_empty : (left_out : ModuleId → Bool) (m : MapState) (targets : Targets) → AreSound left_out m targets empty
+sound_empty left_out m targets = record {
   closed = λ source index edge slot b at. absurd cc;
   coherent = λ importer name ns b glob target at. absurd cc;
   begins = λ source index edge target at. absurd cc;
@@ -86,7 +86,7 @@ begins_sound w before content fresh =
         state = own_empty m (λ glob. None) (record { one = one; even = root.even; lower = root.lower });
         tasks = walk_own w.oracle m (λ glob. None) (first_site w.oracle w.seeded w.tree) (top_items w.oracle (first_tree w.oracle w.seeded.id w.tree)) (tree_cfg w.oracle (first_tree w.oracle w.seeded.id w.tree)) (refl, omega arith);
       };
-      sound = sound_empty m (λ glob. None);
+      sound = sound_empty _ m (λ glob. None);
     }
 
 first_plain : (oracle : Oracle) (site : Site) (ids : List ModItemId) (cfg : Option CfgExpr) → ArePlain (first_walk oracle site ids cfg)

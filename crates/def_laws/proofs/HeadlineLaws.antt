@@ -1,10 +1,10 @@
 -- What is answered ends a run of the machine.
-use Rattle.std.proofs.Common.{◌≡◌, [], None, refl, sym, subst}
+use Rattle.std.proofs.Common.{◌≡◌, [], refl, sym, subst}
 use Rattle.def_ids.specs.Session.{Session}
 use Rattle.def_bindings.specs.Closure.{IsClosed, IsCoherent}
 use Rattle.def_globs.specs.Raised.{IsRaisedAt}
 use Rattle.def_laws.specs.Sound.{IsSoundWith}
-use Rattle.def_rules.specs.Targets.{none_left_out, target_of}
+use Rattle.def_rules.specs.Targets.{leaves_out, target_of}
 use Rattle.def_rules.specs.Headline.{Answers}
 use Rattle.def_rules.specs.Recording.{NoneReady}
 use Rattle.def_rules.specs.Report.{Answer}
@@ -28,8 +28,8 @@ answers w before after answer t leads settled session clean begun ended finished
       run = record { end = end; runs = runs; done = refl };
       session = session;
       answered = record { map = finished.map (none_failed_along runs clean); content = finished.content; local = finished.local; outcome = finished.outcome };
-      closed = subst (IsClosed (order t) none_left_out) (sym finished.content) ended.sound.closed;
-      coherent = subst (IsCoherent (order t) none_left_out (target_of t.map.id t.targets)) (sym finished.content) ended.sound.coherent;
+      closed = subst (IsClosed (order t) (leaves_out t)) (sym finished.content) ended.sound.closed;
+      coherent = subst (IsCoherent (order t) (leaves_out t) (target_of t.map.id t.targets)) (sym finished.content) ended.sound.coherent;
       raised = λ importer slot kept. subst (λ c. IsRaisedAt (order t) c importer slot) (sym finished.content)
           (leads.raised (begins_apart w before) begun.stands begun.sound [] importer slot kept (λ source index edge at. absurd cc));
       declared = declared_along runs refl refl;

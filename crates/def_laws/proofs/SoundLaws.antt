@@ -1,5 +1,5 @@
 -- What keeps names sound along the globs: a map that grows, one more target, a wave, and a glob with its edge.
-use Rattle.std.proofs.Common.{◌≡◌, ◌⊎◌, ℕ, true, false, cond, List, [], ◌∷◌, ◌++◌, length, slice_get, Option, Some, None, Contains, refl, sym, ap, ◌∙◌, subst, inl, inr}
+use Rattle.std.proofs.Common.{◌≡◌, ◌⊎◌, ℕ, Bool, true, false, cond, List, [], ◌∷◌, ◌++◌, length, slice_get, Option, Some, None, Contains, refl, sym, ap, ◌∙◌, subst, inl, inr}
 use Rattle.std.specs.Prelude.{unwrap_or}
 use Rattle.std.proofs.lemmas.Bool.{cases_Bool}
 use Rattle.item_tree.specs.declared.name.Name.{Name}
@@ -28,7 +28,7 @@ use Rattle.def_globs.specs.Waves.{AddsEdge, AreSingle, BeginsAt, Brings, IsClose
 use Rattle.def_globs.proofs.AddingLaws.{adding_begins, adding_closed, adding_coherent, adding_edge}
 use Rattle.def_laws.specs.Own.{AreOwn, IsOwn, IsRecorded}
 use Rattle.def_laws.specs.Sound.{AreSound, order_in}
-use Rattle.def_rules.specs.Targets.{none_left_out, own_target, target_of}
+use Rattle.def_rules.specs.Targets.{own_target, target_of}
 use Rattle.def_rules.specs.Globs.{Targets, is_among, with_def, with_target}
 use Rattle.def_laws.specs.Travels.{Travels}
 use Rattle.def_rules.specs.State.{PartialImport, PendingImport}
@@ -43,7 +43,7 @@ pub record IsLarger (m m' : MapState) : Type 0 where
   pub even : length m.parents ≡ length m.modules → length m'.parents ≡ length m'.modules
   pub lower : AreParentsLower m.parents → AreParentsLower m'.parents
 
-module _ {m : MapState} {targets : Targets} {c : Content Visibility} {pending : List PendingImport} {recorded : List PartialImport} (own : AreOwn m targets c pending recorded) (sound : AreSound m targets c) where
+module _ {left_out : ModuleId → Bool} {m : MapState} {targets : Targets} {c : Content Visibility} {pending : List PendingImport} {recorded : List PartialImport} (own : AreOwn m targets c pending recorded) (sound : AreSound left_out m targets c) where
   module _ {m' : MapState} (larger : IsLarger m m') where
     sees : (place : ModuleId) (vis : Visibility) → IsOwn m place → (order_in m').can_see place vis ≡ (order_in m).can_see place vis
     sees place vis at =
@@ -66,7 +66,7 @@ module _ {m : MapState} {targets : Targets} {c : Content Visibility} {pending : 
     )
 
     -- names stay sound where modules are added
-    pub sound_larger : AreSound m' targets c
+    pub sound_larger : AreSound left_out m' targets c
     sound_larger = record {
       closed = λ source index edge slot b at left there seen. sound.closed source index edge slot b at left there (sym (sees edge.importer b.vis (own.edges source index edge at).0) ∙ seen);
       coherent = λ importer name ns b glob target at by known left left'.
@@ -103,7 +103,7 @@ module _ {m : MapState} {targets : Targets} {c : Content Visibility} {pending : 
         ]
 
     -- names stay sound where a glob is recorded with one more definition
-    pub sound_target : AreSound m (with_target g d targets) c
+    pub sound_target : AreSound left_out m (with_target g d targets) c
     sound_target = record {
       closed = sound.closed;
       coherent = λ importer name ns b glob target at by known left left'.
@@ -125,16 +125,16 @@ module _ (m : MapState) (targets : Targets) where
     added = adding_edge (order_in m) c recorded source edge refl
 
     -- names stay sound where an edge is added that is closed
-    pub sound_edge : AreSound m targets c → AreSound m targets recorded
-    sound_edge sound = record {
-      closed = adding_closed (order_in m) c recorded source edge refl none_left_out (λ left. new) sound.closed;
-      coherent = adding_coherent (order_in m) c recorded source edge refl none_left_out T sound.coherent;
+    pub sound_edge : {left_out : ModuleId → Bool} → AreSound left_out m targets c → AreSound left_out m targets recorded
+    sound_edge {left_out} sound = record {
+      closed = adding_closed (order_in m) c recorded source edge refl left_out (λ left. new) sound.closed;
+      coherent = adding_coherent (order_in m) c recorded source edge refl left_out T sound.coherent;
       begins = adding_begins (order_in m) c recorded source edge refl T begin sound.begins;
       led = λ importer name ns b glob target at by known left left'. added.kept sound.single target importer glob (sound.led importer name ns b glob target at by known left left');
       single = added.single sound.single;
     }
 
-  module _ (at : ModuleId) (list : List (Entry Visibility)) (old new : Content Visibility) (travels : Travels (order_in m) at list old new) (sound : AreSound m targets old) where
+  module _ {left_out : ModuleId → Bool} (at : ModuleId) (list : List (Entry Visibility)) (old new : Content Visibility) (travels : Travels (order_in m) at list old new) (sound : AreSound left_out m targets old) where
     begins_on : BeginsAt T new
     begins_on source index edge target there known = sound.begins source index edge target (ap (λ (es : ModuleId → List (EdgeTo Visibility)). slice_get (es source) index) (sym travels.edges) ∙ there) known
 
@@ -142,13 +142,13 @@ module _ (m : MapState) (targets : Targets) where
     single_on = subst (λ (es : ModuleId → List (EdgeTo Visibility)). (source : ModuleId) (i j : ℕ) (e f : EdgeTo Visibility) → slice_get (es source) i ≡ Some e → slice_get (es source) j ≡ Some f → e.importer ≡ f.importer → i ≡ j) (sym travels.edges) sound.single
 
     -- names stay sound along a wave of names that no glob brings from a module of this map
-    pub sound_wave : ((e : Entry Visibility) (g : GlobId) → Contains list e → e.origin ≡ Some (Glob g) → T g ≡ None) → AreSound m targets new
+    pub sound_wave : ((e : Entry Visibility) (g : GlobId) → Contains list e → e.origin ≡ Some (Glob g) → T g ≡ None) → AreSound left_out m targets new
     sound_wave unknown = record {
-      closed = travels.closed none_left_out sound.closed;
-      coherent = (travels.coherent none_left_out T sound.begins (led_or_home none_left_out T at old sound.led)
+      closed = travels.closed left_out sound.closed;
+      coherent = (travels.coherent left_out T sound.begins (led_or_home left_out T at old sound.led)
           (λ e name glob target listed named by known left left'. absurd (let wrong : None ≡ Some target = sym (unknown e glob listed by) ∙ known in cc)) sound.coherent).0;
       begins = begins_on;
-      led = led_updated none_left_out T at list old new travels.edges travels.globs begins_on sound.led unknown;
+      led = led_updated left_out T at list old new travels.edges travels.globs begins_on sound.led unknown;
       single = single_on;
     }
 
@@ -161,34 +161,34 @@ module _ (m : MapState) (targets : Targets) where
       last = with_recorded (order_in m) new source edge_of
 
       -- names stay sound where a glob that leads nowhere brings names, and then its edge is added
-      pub sound_elsewhere : T glob ≡ None → IsClosedTo (order_in m) new source at → AreSound m targets last
+      pub sound_elsewhere : T glob ≡ None → IsClosedTo (order_in m) new source at → AreSound left_out m targets last
       sound_elsewhere nowhere closes = sound_edge source edge_of new begin closes (sound_wave (λ e g listed by. ap T (ours e g listed by) ∙ nowhere))
 
       -- and where a glob brings what the importer sees of a module of this map
       pub sound_glob : T glob ≡ Some source → ListsAll (order_in m) list old source at
           → ((e : Entry Visibility) (name : Name) → Contains list e → e.name ≡ Some name → (b : Binding Visibility) × (old.binding source name e.ns ≡ Some b) × (b.def ≡ e.def))
           → ((e : Entry Visibility) (name : Name) (ns : Namespace) → Contains list e → slot_of e ≡ Some (Named name ns) → (b : Binding Visibility) × (old.binding source name ns ≡ Some b) × ((order_in m).can_see at b.vis ≡ true))
-          → AreSound m targets last
+          → AreSound left_out m targets last
       sound_glob here all bound shown =
           let closes : IsClosedTo (order_in m) new source at = travels.closes source all in
           let coherent =
-          travels.coherent none_left_out T sound.begins (led_or_home none_left_out T at old sound.led)
+          travels.coherent left_out T sound.begins (led_or_home left_out T at old sound.led)
           (λ e name g target listed named by known left left'.
           let to : source ≡ target = let two : Some source ≡ Some target = sym here ∙ (ap T (sym (ours e g listed by)) ∙ known) in cc in
           subst (λ z. (b : Binding Visibility) × (old.binding z name e.ns ≡ Some b) × (b.def ≡ e.def)) to (bound e name listed named))
           sound.coherent in
           let added : AddsEdge source at glob new last = adding_edge (order_in m) new last source edge_of refl in
           record {
-            closed = adding_closed (order_in m) new last source edge_of refl none_left_out (λ left. closes) (travels.closed none_left_out sound.closed);
-            coherent = adding_coherent (order_in m) new last source edge_of refl none_left_out T coherent.0;
+            closed = adding_closed (order_in m) new last source edge_of refl left_out (λ left. closes) (travels.closed left_out sound.closed);
+            coherent = adding_coherent (order_in m) new last source edge_of refl left_out T coherent.0;
             begins = adding_begins (order_in m) new last source edge_of refl T begin begins_on;
-            led = led_recorded none_left_out T at list old new travels.edges travels.globs begins_on sound.led source glob last refl single_on added here (λ e g listed by. inl (ours e g listed by)) (fresh (edge_to (new.edges source) at) refl);
+            led = led_recorded left_out T at list old new travels.edges travels.globs begins_on sound.led source glob last refl single_on added here (λ e g listed by. inl (ours e g listed by)) (fresh (edge_to (new.edges source) at) refl);
             single = added.single single_on;
           }
         where
           fresh : (there : Option (EdgeTo Visibility)) → edge_to (new.edges source) at ≡ there
-              → (edge_to (new.edges source) at ≡ None) ⊎ (none_left_out at ≡ false → (name : Name) (ns : Namespace) → Brings list old at name ns glob → ⊥)
+              → (edge_to (new.edges source) at ≡ None) ⊎ (left_out at ≡ false → (name : Name) (ns : Namespace) → Brings list old at name ns glob → ⊥)
           fresh None is = inl is
           fresh (Some e) is =
               inr (λ left name ns brings.
-              nothing_brought (order_in m) none_left_out source at list old e sound.closed (ap (λ (es : ModuleId → List (EdgeTo Visibility)). edge_to (es source) at) (sym travels.edges) ∙ is) shown left name ns glob brings)
+              nothing_brought (order_in m) left_out source at list old e sound.closed (ap (λ (es : ModuleId → List (EdgeTo Visibility)). edge_to (es source) at) (sym travels.edges) ∙ is) shown left name ns glob brings)

@@ -16,7 +16,7 @@ use Rattle.def_globs.specs.Raised.{IsRaisedAt}
 use Rattle.def_rules.specs.declared.diagnostics.DefDiagnosticKind.TheVariants.{UnconfiguredCode}
 use Rattle.def_laws.specs.Followed.{AreFollowed}
 use Rattle.def_laws.specs.Sound.{AreSound, IsRaisedIn, IsSound, IsSoundWith}
-use Rattle.def_rules.specs.Targets.{target_of}
+use Rattle.def_rules.specs.Targets.{leaves_out, target_of}
 use Rattle.def_laws.specs.Travels.{Travels}
 use Rattle.def_laws.specs.Performs.{Handled, IsDone, Performs, Updated}
 use Rattle.def_rules.specs.Recording.{ImportStep, of_pending, of_partial}
@@ -76,7 +76,7 @@ module _ {oracle : Oracle} where
     runs = runs_task (Visit site id) rest s effect does;
     keeps = λ stands sound.
         let opened = visits_opened oracle s site id effect does in
-        subst (λ t. AreSound effect.state.map t effect.state.content) (sym opened.targets) (subst (λ c. AreSound effect.state.map s.targets c) (sym opened.content) (sound_larger stands.state sound opened.larger));
+        subst (λ t. AreSound (leaves_out s) effect.state.map t effect.state.content) (sym opened.targets) (subst (λ c. AreSound (leaves_out s) effect.state.map s.targets c) (sym opened.content) (sound_larger stands.state sound opened.larger));
     raised = λ apart stands sound before importer slot kept raised.
         let opened = visits_opened oracle s site id effect does in
         elim apart [

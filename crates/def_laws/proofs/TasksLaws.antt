@@ -26,8 +26,8 @@ use Rattle.def_paths.specs.PerNs.{Item}
 use Rattle.def_globs.proofs.ListLaws.{none_in, only_in}
 use Rattle.def_laws.specs.Followed.{AreFollowed}
 use Rattle.def_laws.specs.Own.{AreOwn, AreOwnTasks, IsOwn}
-use Rattle.def_laws.specs.Sound.{AreSound}
-use Rattle.def_rules.specs.Targets.{own_module, target_of}
+use Rattle.def_laws.specs.Sound.{AreSound, IsSound}
+use Rattle.def_rules.specs.Targets.{leaves_out, own_module, target_of}
 use Rattle.def_rules.specs.Globs.{Targets, module_entries, variant_entries, with_target}
 use Rattle.def_rules.specs.Imports.{bound_name, entry_of, import_vis, keeps_ns, kept_item, named_entries, origin_of, taken_types}
 use Rattle.def_rules.specs.Recording.{edge_tasks, glob_def, glob_edge, glob_id, glob_tasks, is_own_crate, record_tasks, targets_after}
@@ -185,13 +185,13 @@ module _ (oracle : Oracle) (u : State) (p : PendingImport) (answer : ResolvePath
   record_stays kind.TypeOnly g h = h
   record_stays kind.Glob g h = after_stays (glob_def p answer) g h
 
-  module _ {q : List PendingImport} {r : List PartialImport} (own : AreOwn u.map u.targets u.content q r) (sound : AreSound u.map u.targets u.content) where
-    after_sound : (given : Option Def) → AreSound u.map (targets_after kind.Glob (glob_id p) given u.targets) u.content
+  module _ {q : List PendingImport} {r : List PartialImport} (own : AreOwn u.map u.targets u.content q r) (sound : IsSound u) where
+    after_sound : (given : Option Def) → AreSound (leaves_out u) u.map (targets_after kind.Glob (glob_id p) given u.targets) u.content
     after_sound None = sound
     after_sound (Some d) = sound_target own sound (glob_id p) d
 
     -- names stay sound where an import is recorded and nothing was put yet
-    pub record_sound : (k : ImportKind) → AreSound u.map (After k) u.content
+    pub record_sound : (k : ImportKind) → AreSound (leaves_out u) u.map (After k) u.content
     record_sound kind.Plain = sound
     record_sound kind.TypeOnly = sound
     record_sound kind.Glob = after_sound (glob_def p answer)

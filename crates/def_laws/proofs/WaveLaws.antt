@@ -17,7 +17,7 @@ use Rattle.def_globs.specs.Raised.{KeepsDef, KeepsDefs}
 use Rattle.def_globs.proofs.RecordingLaws.{bound_copies}
 use Rattle.def_globs.specs.Waves as Waves
 use Rattle.def_laws.specs.Sound.{IsRaisedIn, IsSound}
-use Rattle.def_rules.specs.Targets.{none_left_out}
+use Rattle.def_rules.specs.Targets.{leaves_out}
 use Rattle.def_laws.specs.Travels.{Travels}
 use Rattle.def_rules.specs.State.{State, Effect, Event, Task, Put, AddEdge, order, put_each, with_content}
 use Rattle.def_rules.specs.Steps.{Does, IsKeptAlong, KeepsPlace, here, one, join, copies, performs, put_effect}
@@ -124,4 +124,4 @@ module _ (importer : ModuleId) (slot : Slot) where
 
       -- and it stays raised
       pub wave_raised : IsSound s → IsRaisedIn s importer slot → IsRaisedIn (with_content s c) importer slot
-      wave_raised sound raised = travels.raised none_left_out sound.closed importer slot refl wave_keeps of_puts.defs raised
+      wave_raised sound raised = travels.raised (leaves_out s) sound.closed importer slot refl wave_keeps of_puts.defs raised

@@ -5,7 +5,7 @@ use Rattle.def_ids.specs.declared.ids.ModuleId.{ModuleId}
 use Rattle.def_bindings.specs.declared.bindings.Slot.{Slot}
 use Rattle.def_bindings.specs.Closure.{IsClosed, IsCoherent}
 use Rattle.def_globs.specs.Raised.{IsRaisedAt}
-use Rattle.def_rules.specs.Targets.{none_left_out, target_of}
+use Rattle.def_rules.specs.Targets.{leaves_out, target_of}
 use Rattle.def_rules.specs.State.{Setting, Moment, order}
 use Rattle.def_rules.specs.Steps.{IsKeptAlong, Reaches}
 use Rattle.def_rules.specs.Start.{start}
@@ -32,9 +32,9 @@ pub record Answers (w : Setting) (before after : Session) (answer : Answer) : Ty
   pub session : run.end.state.session ≡ after
   pub answered : IsAnswerOf run.end.state answer
   -- what a module binds and an importer of it sees, the importer binds too, along each recorded edge
-  pub closed : IsClosed (order run.end.state) none_left_out answer.content
+  pub closed : IsClosed (order run.end.state) (leaves_out run.end.state) answer.content
   -- what a glob bound that was recorded with one module of this map, that module binds too, to the same definition or unseen
-  pub coherent : IsCoherent (order run.end.state) none_left_out (target_of run.end.state.map.id run.end.state.targets) answer.content
+  pub coherent : IsCoherent (order run.end.state) (leaves_out run.end.state) (target_of run.end.state.map.id run.end.state.targets) answer.content
   -- what a module binds and an importer of it sees would not raise what a glob, any, bound there to the same definition, along each recorded edge:
   -- of each place that the run keeps throughout, with the sources of the edges to it while these are still to be added
   pub raised : (importer : ModuleId) (slot : Slot) → IsKeptAlong run.runs importer slot → IsRaisedAt (order run.end.state) answer.content importer slot

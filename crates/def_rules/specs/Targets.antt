@@ -7,6 +7,7 @@ use Rattle.def_ids.specs.declared.ids.MapId.{MapId}
 use Rattle.def_ids.specs.declared.ids.ModuleId.{ModuleId}
 use Rattle.def_ids.specs.Ids.{is_same_map}
 use Rattle.def_rules.specs.Globs.{Targets}
+use Rattle.def_rules.specs.State.{State}
 
 -- a definition that is a module of this map
 abbrev pub own_module : MapId → Def → Option ModuleId
@@ -23,6 +24,6 @@ own_target id (d ∷ e ∷ others) = None
 abbrev pub target_of : MapId → Targets → GlobId → Option ModuleId
 target_of id targets glob = own_target id (unwrap_or (targets glob) [])
 
--- no module is left out
-abbrev pub none_left_out : ModuleId → Bool
-none_left_out m = false
+-- whether a module is left out of what holds along globs: none is
+abbrev pub leaves_out : State → ModuleId → Bool
+leaves_out s m = false
