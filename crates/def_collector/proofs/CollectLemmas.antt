@@ -1,5 +1,5 @@
 -- From the seeded map to the headline.
-use Rattle.std.proofs.Common.{◌≡◌, Bool, false, List, [], ◌∷◌, map, Option, None, Some, All, refl, sym, ap, subst, ◌∙◌}
+use Rattle.std.proofs.Common.{◌≡◌, Bool, false, List, [], ◌∷◌, ◌++◌, map, Option, None, Some, All, refl, sym, ap, subst, ◌∙◌}
 use Rattle.std.proofs.lemmas.List.Elements.{All-cons, All-nil}
 use Rattle.item_tree.specs.declared.ids.BlockId.{BlockId}
 use Rattle.item_tree.specs.declared.name.Name.{Name}
@@ -11,11 +11,10 @@ use Rattle.def_map.specs.Fresh.{IsFresh, fresh_by}
 use Rattle.def_modules.specs.MapState.{MapState, ModuleState}
 use Rattle.def_modules.specs.MapView.{LocalView, empty_local}
 use Rattle.def_steps.specs.declared.directive.ImportDirective.{ImportDirective}
-use Rattle.def_steps.specs.declared.directive.PartialDirective.{PartialDirective}
 use Rattle.def_rules.specs.declared.diagnostics.DefDiagnostic.{DefDiagnostic}
 use Rattle.def_parts.specs.Directories.{Directory}
-use Rattle.def_steps.specs.Shown.{partial_of, pending_of}
-use Rattle.def_steps.specs.Waiting.{waiting}
+use Rattle.def_steps.specs.ImportLists.{directives_in}
+use Rattle.def_steps.specs.Shown.{directive_of}
 use Rattle.def_rules.specs.Crates.{deps_by_name, is_proc_macro_crate}
 use Rattle.def_rules.specs.Globs.{Targets}
 use Rattle.def_rules.specs.Headline.{Answers}
@@ -23,12 +22,13 @@ use Rattle.def_rules.specs.Recording.{NoneReady}
 use Rattle.def_rules.specs.Report.{Answer}
 use Rattle.def_laws.specs.Finished.{NoneFailed, IsFinished}
 use Rattle.def_rules.specs.Start.{first_tasks, seeded_state, started}
-use Rattle.def_rules.specs.State.{Setting, State, PendingImport, PartialImport}
+use Rattle.def_rules.specs.State as rules
+use Rattle.def_rules.specs.State.{Setting, State}
 use Rattle.def_laws.specs.Runs.{Leads}
 use Rattle.def_laws.specs.Sound.{IsSoundWith}
 use Rattle.def_laws.proofs.BegunLaws.{begins_sound}
 use Rattle.def_laws.proofs.HeadlineLaws.{answers}
-use Rattle.def_steps.proofs.WaitingLaws.{waiting-nil}
+use Rattle.def_steps.proofs.ImportListsLaws.{present-nil}
 
 unmarked : (d : ModuleState) → ((name : Name) → d.failed name ≡ false) → All (λ (e : ModuleState). (name : Name) → e.failed name ≡ false) (d ∷ [])
 unmarked d none = All-cons (λ (e : ModuleState). (name : Name) → e.failed name ≡ false) d [] none (All-nil (λ (e : ModuleState). (name : Name) → e.failed name ≡ false))
@@ -41,22 +41,23 @@ none_fresh (Some block) s = unmarked _ (λ name. refl)
 none_seeded : (s : MapState) (content : Content Visibility) → IsFresh s content → NoneFailed s
 none_seeded s content fresh = subst NoneFailed (sym fresh.state) (none_fresh s.id.block s)
 
--- nothing waits in an empty list
-pub no_imports : (entries : List (Option ImportDirective)) → entries ≡ [] → map pending_of (waiting entries) ≡ []
-no_imports entries none = ap (λ es. map pending_of (waiting es)) none ∙ ap (map pending_of) (waiting-nil ImportDirective)
+-- no import is in empty lists
+pub no_imports : (unresolved indeterminate : List (Option ImportDirective)) → unresolved ≡ [] → indeterminate ≡ [] → directives_in unresolved ++ directives_in indeterminate ≡ []
+no_imports unresolved indeterminate none nor =
+    ap (λ es. directives_in es ++ directives_in indeterminate) none
+    ∙ ap (λ ds. ds ++ directives_in indeterminate) (ap (map directive_of) (present-nil ImportDirective))
+    ∙ ap directives_in nor
+    ∙ ap (map directive_of) (present-nil ImportDirective)
 
-pub no_partial : (entries : List (Option PartialDirective)) → entries ≡ [] → map partial_of (waiting entries) ≡ []
-no_partial entries none = ap (λ es. map partial_of (waiting es)) none ∙ ap (map partial_of) (waiting-nil PartialDirective)
-
-module _ (w : Setting) (before : Session) (m : MapState) (content : Content Visibility) (targets : Targets) (local : LocalView) (procs : Bool) (deps : LocalView) (missing : Name → Bool) (directories : ModuleId → Option Directory) (imports : List PendingImport) (partial : List PartialImport) (diagnostics : List DefDiagnostic) where
+module _ (w : Setting) (before : Session) (m : MapState) (content : Content Visibility) (targets : Targets) (local : LocalView) (procs : Bool) (deps : LocalView) (missing : Name → Bool) (directories : ModuleId → Option Directory) (imports : List rules.ImportDirective) (diagnostics : List DefDiagnostic) where
   -- the state that the code begins with
   abbrev begun : State
-  begun = record { session = before; map = m; content = content; targets = targets; local = local; outer = w.crate_local; is_proc_macro = procs; deps = deps; missing_crates = missing; directories = directories; imports = imports; partial = partial; diagnostics = diagnostics }
+  begun = record { session = before; map = m; content = content; targets = targets; local = local; outer = w.crate_local; is_proc_macro = procs; deps = deps; missing_crates = missing; directories = directories; imports = imports; diagnostics = diagnostics }
 
   pub begins : m ≡ w.seeded → content ≡ empty → targets ≡ (λ glob. None) → local ≡ empty_local → procs ≡ is_proc_macro_crate w.oracle w.seeded.id.krate → deps ≡ deps_by_name w.oracle w.seeded.id.krate
-      → missing ≡ (λ name. false) → directories ≡ (λ at. None) → imports ≡ [] → partial ≡ [] → diagnostics ≡ [] → begun ≡ seeded_state w before
-  begins same bound none known marked by_name found bare unresolved indeterminate said =
-      λ i. record { session = before; map = same i; content = bound i; targets = none i; local = known i; outer = w.crate_local; is_proc_macro = marked i; deps = by_name i; missing_crates = found i; directories = bare i; imports = unresolved i; partial = indeterminate i; diagnostics = said i }
+      → missing ≡ (λ name. false) → directories ≡ (λ at. None) → imports ≡ [] → diagnostics ≡ [] → begun ≡ seeded_state w before
+  begins same bound none known marked by_name found bare unresolved said =
+      λ i. record { session = before; map = same i; content = bound i; targets = none i; local = known i; outer = w.crate_local; is_proc_macro = marked i; deps = by_name i; missing_crates = found i; directories = bare i; imports = unresolved i; diagnostics = said i }
 
 module _ (w : Setting) (before : Session) (s : State) (same : s ≡ seeded_state w before) (given : Content Visibility) (fresh : IsFresh w.seeded given) where
   -- what a run begins with is sound

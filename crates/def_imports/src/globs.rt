@@ -6,7 +6,7 @@ ghost use Rattle.def_ids.specs.declared.interner.Interner.{Interner};
 ghost use Rattle.def_map.specs.Answers.{variants_of};
 ghost use Rattle.def_map.specs.Paths.{for_import, map_of, question};
 ghost use Rattle.def_laws.specs.Performs.{Performs, target_state};
-ghost use Rattle.def_steps.specs.Shown.{pending_of};
+ghost use Rattle.def_steps.specs.Shown.{import_of};
 ghost use Rattle.def_state.specs.Collector.{state_of};
 ghost use Rattle.def_rules.specs.Globs.{module_entries, variant_entries};
 ghost use Rattle.def_rules.specs.Imports.{import_vis};
@@ -18,7 +18,7 @@ use def_bindings::{EdgeTo, Entry, Visibility};
 use def_ids::{Def, EnumId, Interner, LocationId, ModuleId};
 use def_map::{ResolvePathResult, SourceDatabase, finished_map};
 use def_state::DefCollector;
-use def_steps::{GlobScope, ImportDirective, add_target, kept_item, variants_entries};
+use def_steps::{GlobScope, Import, add_target, kept_item, variants_entries};
 use std::alloc::AllocError;
 
 /// Records a glob with the definition that its path gives: puts what it brings, and adds its
@@ -27,21 +27,21 @@ pub fn record_glob<'a, D: SourceDatabase>(
     collector: &mut DefCollector<'a>,
     db: &D,
     session: &Interner,
-    directive: &ImportDirective,
+    import: &Import,
     answer: &ResolvePathResult,
 ) -> Result<(), AllocError>
     ensures performs { OnOk result (let s = state_of collector.old session.now in
-        let pending = pending_of directive.now in
-        let glob = glob_edge pending (import_vis (D.oracle db.now) s pending) in
+        let import = import_of import.now in
+        let glob = glob_edge import (import_vis (D.oracle db.now) s import) in
         Performs (D.oracle db.now) (glob_tasks (world (D.oracle db.now) s) glob (types_def answer.now))
-        (target_state s (glob_id pending) (types_def answer.now)) (state_of collector.new session.now)) }
+        (target_state s (glob_id import) (types_def answer.now)) (state_of collector.new session.now)) }
     ensures frame { collector.new ≡ record collector.old { table = collector.new.table; targets = collector.new.targets } }
 {
-    let vis = collector.resolve_visibility(db, session, directive.module_id, directive.vis);
+    let vis = collector.resolve_visibility(db, session, import.module_id, import.vis);
     let glob = EdgeTo {
-        importer: directive.module_id,
+        importer: import.module_id,
         vis,
-        glob: directive.glob_id(),
+        glob: import.glob_id(),
     };
     let Some(item) = kept_item(answer, answer.resolved_def.types) else {
         return Ok(());

@@ -1,10 +1,10 @@
 //! Imports: each pass records those that are ready.
-ghost use Rattle.std.specs.Prelude.{◌≡◌, ◌<◌, [], ℕ, true, false, vec_len, IfOk, OnOk};
+ghost use Rattle.std.specs.Prelude.{◌≡◌, ◌<◌, [], ℕ, true, false, length, IfOk, OnOk};
 ghost use Rattle.item_tree.specs.declared.items.ImportKind.TheVariants.{Plain};
 ghost use Rattle.def_ids.specs.declared.interner.Interner.{Interner};
 ghost use Rattle.def_state.specs.Collector.{state_of};
-ghost use Rattle.def_imports.specs.Passes.{IsUnready, IsUnreadyAgain};
-ghost use Rattle.def_steps.specs.Shown.{pending_of};
+ghost use Rattle.def_imports.specs.Passes.{IsUnready, entries_of};
+ghost use Rattle.def_steps.specs.Shown.{import_of};
 ghost use Rattle.def_laws.specs.Turns.{Moves, turns_left};
 ghost use Rattle.def_laws.specs.Performs.{Performs};
 ghost use Rattle.def_rules.specs.Imports.{answer_now};
@@ -18,15 +18,15 @@ use def_map::{
 };
 use def_state::DefCollector;
 use def_steps::{
-    ImportDirective, drop_left, is_missing, is_ready_again, named_entries, new_prelude, next_tried,
-    retire, still_partial,
+    Import, ImportDirective, ImportList, drop_left, is_ready, named_entries, new_prelude,
+    next_tried, retire, still_indeterminate,
 };
 use item_tree::ImportKind;
 use std::alloc::AllocError;
 
-/// Records each import that is ready, the waiting ones first and then those that gave some
-/// namespaces before. Answers whether one was recorded. On `Err` nothing but safety is
-/// promised.
+/// Records each import that is ready: those that are unresolved first, and then those that are
+/// indeterminate, in the order in which they became so. Answers whether one was recorded. On `Err`
+/// nothing but safety is promised.
 pub fn resolve_imports<'a, D: SourceDatabase>(
     collector: &mut DefCollector<'a>,
     db: &D,
@@ -38,8 +38,8 @@ pub fn resolve_imports<'a, D: SourceDatabase>(
         NoneReady (D.oracle db.now) (state_of collector.new session.now)) }
     ensures fewer { IfOk result (λ moved. moved ≡ true → turns_left (state_of collector.new session.now) < turns_left (state_of collector.old session.now)) }
 {
-    let unresolved = try_unresolved_imports(collector, db, session)?;
-    let indeterminate = try_indeterminate_imports(collector, db, session)?;
+    let unresolved = try_imports(collector, db, session, ImportList::Unresolved)?;
+    let indeterminate = try_imports(collector, db, session, ImportList::Indeterminate)?;
     let moved = unresolved || indeterminate;
     if moved {
         drop_resolved(collector);
@@ -47,24 +47,25 @@ pub fn resolve_imports<'a, D: SourceDatabase>(
     Ok(moved)
 }
 
-/// Tries each waiting import in order.
-fn try_unresolved_imports<'a, D: SourceDatabase>(
+/// Tries each import of a list in order. Answers whether one was recorded.
+fn try_imports<'a, D: SourceDatabase>(
     collector: &mut DefCollector<'a>,
     db: &D,
     session: &Interner,
+    list: ImportList,
 ) -> Result<bool, AllocError>
     ensures run { OnOk result (Leads (D.oracle db.now)
         [] (state_of collector.old session.now) [] (state_of collector.new session.now)) }
     ensures fewer { IfOk result (λ moved. moved ≡ true →
         turns_left (state_of collector.new session.now) < turns_left (state_of collector.old session.now)) }
     ensures unready { IfOk result (λ moved. moved ≡ false → (index : ℕ) →
-        IsUnready (D.oracle db.now) (state_of collector.old session.now) collector.old.unresolved_imports.items index) }
+        IsUnready (D.oracle db.now) session.now list collector.old index) }
     ensures same { IfOk result (λ moved. moved ≡ false → collector.new ≡ collector.old) }
 {
     let mut moved = false;
     let mut from = 0;
-    'unresolved: while let Some(i) = next_tried(collector.unresolved_imports.as_slice(), from) {
-        if try_unresolved_import(collector, db, session, i)? {
+    'tried: while let Some(i) = next_tried(entries(collector, list), from) {
+        if try_import(collector, db, session, list, i)? {
             moved = true;
         }
         from = i + 1;
@@ -72,89 +73,48 @@ fn try_unresolved_imports<'a, D: SourceDatabase>(
     Ok(moved)
 }
 
-/// Tries each import that gave some namespaces before, in order.
-fn try_indeterminate_imports<'a, D: SourceDatabase>(
+/// Records an import, if it is ready. Answers whether it was.
+fn try_import<'a, D: SourceDatabase>(
     collector: &mut DefCollector<'a>,
     db: &D,
     session: &Interner,
-) -> Result<bool, AllocError>
-    ensures run { OnOk result (Leads (D.oracle db.now)
-        [] (state_of collector.old session.now) [] (state_of collector.new session.now)) }
-    ensures fewer { IfOk result (λ moved. moved ≡ true →
-        turns_left (state_of collector.new session.now) < turns_left (state_of collector.old session.now)) }
-    ensures unready { IfOk result (λ moved. moved ≡ false → (index : ℕ) →
-        IsUnreadyAgain (D.oracle db.now) (state_of collector.old session.now) collector.old.indeterminate_imports.items index) }
-    ensures same { IfOk result (λ moved. moved ≡ false → collector.new ≡ collector.old) }
-{
-    let mut moved = false;
-    let mut from = 0;
-    'indeterminate: while let Some(i) = next_tried(
-        collector.indeterminate_imports.as_slice(),
-        from,
-    ) {
-        if try_indeterminate_import(collector, db, session, i)? {
-            moved = true;
-        }
-        from = i + 1;
-    }
-    Ok(moved)
-}
-
-/// Records a waiting import, if it is ready. Answers whether it was.
-fn try_unresolved_import<'a, D: SourceDatabase>(
-    collector: &mut DefCollector<'a>,
-    db: &D,
-    session: &Interner,
+    list: ImportList,
     i: usize,
 ) -> Result<bool, AllocError>
-    requires { i < vec_len collector.old.unresolved_imports }
-    ensures len { OnOk result (vec_len collector.new.unresolved_imports ≡ vec_len collector.old.unresolved_imports) }
+    requires { i < length (entries_of list collector.old) }
+    ensures len { OnOk result (length (entries_of list collector.new) ≡ length (entries_of list collector.old)) }
     ensures moved { IfOk result (λ moved. moved ≡ true →
         Moves (D.oracle db.now) (state_of collector.old session.now) (state_of collector.new session.now)) }
     ensures unready { IfOk result (λ moved. moved ≡ false →
-        IsUnready (D.oracle db.now) (state_of collector.old session.now) collector.old.unresolved_imports.items i) }
+        IsUnready (D.oracle db.now) session.now list collector.old i) }
     ensures same { IfOk result (λ moved. moved ≡ false → collector.new ≡ collector.old) }
 {
-    let Some(directive) = collector.unresolved_imports[i] else {
+    let Some(directive) = entries(collector, list)[i] else {
         return Ok(false);
     };
-    let answer = resolve_import(collector, db, session, &directive);
-    if is_missing(&answer) {
+    let answer = resolve_import(collector, db, session, &directive.import);
+    if !is_ready(directive.recorded, &answer) {
         return Ok(false);
     }
+    let kept = still_indeterminate(directive, &answer);
     let unresolved = &mut collector.unresolved_imports;
     let indeterminate = &mut collector.indeterminate_imports;
-    retire(unresolved, indeterminate, i, directive, &answer)?;
-    record_resolved_import(collector, db, session, &directive, &answer)?;
+    retire(unresolved, indeterminate, list, i, kept)?;
+    record_resolved_import(collector, db, session, &directive.import, &answer)?;
     Ok(true)
 }
 
-/// Records an import once more, if it is ready again. Answers whether it was.
-fn try_indeterminate_import<'a, D: SourceDatabase>(
-    collector: &mut DefCollector<'a>,
-    db: &D,
-    session: &Interner,
-    i: usize,
-) -> Result<bool, AllocError>
-    requires { i < vec_len collector.old.indeterminate_imports }
-    ensures len { OnOk result (vec_len collector.new.indeterminate_imports ≡ vec_len collector.old.indeterminate_imports) }
-    ensures moved { IfOk result (λ moved. moved ≡ true →
-        Moves (D.oracle db.now) (state_of collector.old session.now) (state_of collector.new session.now)) }
-    ensures unready { IfOk result (λ moved. moved ≡ false →
-        IsUnreadyAgain (D.oracle db.now) (state_of collector.old session.now) collector.old.indeterminate_imports.items i) }
-    ensures same { IfOk result (λ moved. moved ≡ false → collector.new ≡ collector.old) }
+/// The entries of one of the two lists.
+fn entries<'b, 'a>(
+    collector: &'b DefCollector<'a>,
+    list: ImportList,
+) -> &'b [Option<ImportDirective<'a>>]
+    ensures { result.now ≡ entries_of list collector.now }
 {
-    let Some(partial) = collector.indeterminate_imports[i] else {
-        return Ok(false);
-    };
-    let directive = partial.directive;
-    let answer = resolve_import(collector, db, session, &directive);
-    if !is_ready_again(partial.recorded, &answer) {
-        return Ok(false);
+    match list {
+        ImportList::Unresolved => collector.unresolved_imports.as_slice(),
+        ImportList::Indeterminate => collector.indeterminate_imports.as_slice(),
     }
-    collector.indeterminate_imports[i] = still_partial(partial, &answer);
-    record_resolved_import(collector, db, session, &directive, &answer)?;
-    Ok(true)
 }
 
 /// What the path of an import gives now.
@@ -162,9 +122,9 @@ fn resolve_import<D: SourceDatabase>(
     collector: &DefCollector,
     db: &D,
     session: &Interner,
-    directive: &ImportDirective,
+    import: &Import,
 ) -> ResolvePathResult
-    ensures { result ≡ answer_now (D.oracle db.now) (state_of collector.now session.now) (pending_of directive.now) }
+    ensures { result ≡ answer_now (D.oracle db.now) (state_of collector.now session.now) (import_of import.now) }
 {
     resolve_path_fp_with_macro(
         &collector.def_map,
@@ -173,8 +133,8 @@ fn resolve_import<D: SourceDatabase>(
         db,
         session,
         ResolveMode::Import,
-        directive.module_id,
-        &directive.import.path,
+        import.module_id,
+        &import.written.path,
         BuiltinShadowMode::Module,
         None,
     )
@@ -185,26 +145,26 @@ fn record_resolved_import<'a, D: SourceDatabase>(
     collector: &mut DefCollector<'a>,
     db: &D,
     session: &Interner,
-    directive: &ImportDirective,
+    import: &Import,
     answer: &ResolvePathResult,
 ) -> Result<(), AllocError>
     ensures performs { OnOk result (let s = state_of collector.old session.now in
-        let effect = record_effect (D.oracle db.now) s (pending_of directive.now) answer.now in
+        let effect = record_effect (D.oracle db.now) s (import_of import.now) answer.now in
         Performs (D.oracle db.now) effect.tasks effect.state (state_of collector.new session.now)) }
     ensures frame { collector.new ≡ record collector.old { def_map = collector.new.def_map; table = collector.new.table; targets = collector.new.targets } }
 {
-    match directive.import.kind {
+    match import.written.kind {
         ImportKind::Plain | ImportKind::TypeOnly => {
-            record_named(collector, db, session, directive, answer)?;
+            record_named(collector, db, session, import, answer)?;
             Ok(())
         }
-        ImportKind::Glob => match new_prelude(directive, answer) {
+        ImportKind::Glob => match new_prelude(import, answer) {
             Some(source) => {
                 collector.def_map.prelude = Some(source);
                 Ok(())
             }
             None => {
-                record_glob(collector, db, session, directive, answer)?;
+                record_glob(collector, db, session, import, answer)?;
                 Ok(())
             }
         },
@@ -216,18 +176,18 @@ fn record_named<'a, D: SourceDatabase>(
     collector: &mut DefCollector<'a>,
     db: &D,
     session: &Interner,
-    directive: &ImportDirective,
+    import: &Import,
     answer: &ResolvePathResult,
 ) -> Result<(), AllocError>
     ensures performs { OnOk result (let s = state_of collector.old session.now in
-        Performs (D.oracle db.now) (record_tasks (D.oracle db.now) s (pending_of directive.now) answer.now Plain)
+        Performs (D.oracle db.now) (record_tasks (D.oracle db.now) s (import_of import.now) answer.now Plain)
         s (state_of collector.new session.now)) }
     ensures frame { collector.new ≡ record collector.old { table = collector.new.table } }
 {
-    let vis = collector.resolve_visibility(db, session, directive.module_id, directive.vis);
+    let vis = collector.resolve_visibility(db, session, import.module_id, import.vis);
     let order = &collector.def_map.tree;
-    let entries = named_entries(collector.alloc, order, directive, vis, answer)?;
-    collector.put(directive.module_id, entries.as_slice())?;
+    let entries = named_entries(collector.alloc, order, import, vis, answer)?;
+    collector.put(import.module_id, entries.as_slice())?;
     Ok(())
 }
 

@@ -1,4 +1,4 @@
-//! The passes over the imports that wait: each records those that are ready.
+//! The passes over the imports that are not resolved: each records those that are ready.
 #![tactic(auto)]
 
 mod globs;

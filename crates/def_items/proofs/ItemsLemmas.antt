@@ -1,5 +1,5 @@
 -- States after what an item puts.
-use Rattle.std.proofs.Common.{◌≡◌, ◌<◌, ◌+◌, ℕ, List, length, map, take, get_or, Option, [], ◌∷◌, ◌++◌, Some, None, refl, sym, ap, subst, ◌∙◌, append-nil, append_assoc, Bool}
+use Rattle.std.proofs.Common.{◌≡◌, ℕ, List, length, map, Option, [], ◌∷◌, ◌++◌, Some, None, refl, sym, ap, subst, ◌∙◌, append-nil, Bool}
 use Rattle.item_tree.specs.declared.ids.FileAstId.{FileAstId}
 use Rattle.item_tree.specs.declared.ids.InFile.{InFile}
 use Rattle.item_tree.specs.declared.items.CtorVisibility.{CtorVisibility}
@@ -26,16 +26,17 @@ use Rattle.def_modules.specs.MapState.{MapState, ModuleState}
 use Rattle.def_map.specs.Oracle.{Oracle}
 use Rattle.def_modules.specs.Scopes.{declared_in, empty_module, with_child, with_extern_block, with_extern_crate, with_impl, with_unnamed_const}
 use Rattle.def_laws.specs.Performs.{Handled, IsDone, Performs, Updated}
-use Rattle.def_rules.specs.Items.{ctor_vis, declare, declared_entry, is_prelude_import, loc_of, pending_imports, position_of, struct_effect, written_vis, container_of, declared_effect, noted_in, walk}
+use Rattle.def_rules.specs.Items.{ctor_vis, declare, declared_entry, is_prelude_import, loc_of, new_imports, position_of, struct_effect, written_vis, container_of, declared_effect, noted_in, walk}
+use Rattle.def_rules.specs.Imports.{no_namespaces}
 use Rattle.def_rules.specs.Modules.{add_module, module_item, next_module}
 use Rattle.def_rules.specs.ExternCrates.{crate_effect, crate_name, named_crate}
 use Rattle.def_rules.specs.Rules.{Handles, Follows, declares, rule_of}
 use Rattle.def_parts.specs.Directories.{Directory}
-use Rattle.def_rules.specs.State.{State, Effect, PendingImport, Site, Task, only, with_map, order, followed_by}
+use Rattle.def_rules.specs.State.{State, Effect, ImportDirective, Rearranges, Site, Task, only, with_map, order, followed_by}
 use Rattle.item_tree.specs.declared.ids.ModItemId.{ModItemId}
 use Rattle.def_ids.specs.declared.ids.ItemContainerId.TheVariants as contained
 use Rattle.def_bindings.specs.declared.bindings.Namespace.{Namespace}
-use Rattle.def_laws.proofs.StepsLaws.{performs_none, performs_updated}
+use Rattle.def_laws.proofs.StepsLaws.{performs_none, performs_rearranged, performs_updated}
 
 module _ (oracle : Oracle) (s s1 t : State) (at : ModuleId) (name : Name) (d : Def) (vis : Visibility) (given : Option Visibility) where
   -- the entries of a struct were put
@@ -96,26 +97,29 @@ handled_module oracle s t site item name raw contents vis inner kind seen done =
 }
 
 -- the imports of a `use` item as the collector makes them
-abbrev pub imports_at : ModuleId → InFile FileAstId → ℕ → RawVisibility → Bool → List UseImport → List PendingImport
+abbrev pub imports_at : ModuleId → InFile FileAstId → ℕ → RawVisibility → Bool → List UseImport → List ImportDirective
 imports_at at position n raw prelude imports =
-    map (λ import. record { scope = at; position = position; use_id = record { 0 = n }; import = import; vis = raw; is_prelude = prelude }) imports
+    map (λ written. record {
+      import = record { scope = at; position = position; use_id = record { 0 = n }; written = written; vis = raw; is_prelude = prelude };
+      recorded = no_namespaces;
+    }) imports
 
--- a `use` item was handled
+-- a `use` item was handled, and its imports stand anywhere among the others
 pub handled_use : (oracle : Oracle) (s t : State) (session : Session) (site : Site) (item : ItemNode) (raw : RawVisibility) (imports : List UseImport) (n : ℕ) (position : InFile FileAstId) (prelude : Bool)
     → item.kind ≡ Use raw imports → AddsLocations s.session session → position ≡ position_of site item → prelude ≡ is_prelude_import item.attrs → session.item UseItem n ≡ Some (in_module site.scope position)
-    → t ≡ record s { session = session; imports = s.imports ++ imports_at site.scope position n raw prelude imports }
+    → Rearranges (record s { session = session; imports = s.imports ++ imports_at site.scope position n raw prelude imports }) t
     → Handled oracle s t site item []
 handled_use oracle s t session site item raw imports n position prelude kind adds placed asked numbered after =
-    let effect : Effect = only (record s { session = session; imports = s.imports ++ pending_imports site item (record { 0 = n }) raw imports }) in
+    let effect : Effect = only (record s { session = session; imports = s.imports ++ new_imports site item (record { 0 = n }) raw imports }) in
     let number : session.item UseItem n ≡ Some (loc_of site UseItem item) = numbered ∙ ap (λ p. Some (in_module site.scope p)) placed in
-    let became : t ≡ effect.state =
-    after
-    ∙ ap (λ p. record s { session = session; imports = s.imports ++ imports_at site.scope p n raw prelude imports }) placed
+    let became : record s { session = session; imports = s.imports ++ imports_at site.scope position n raw prelude imports } ≡ effect.state =
+    ap (λ p. record s { session = session; imports = s.imports ++ imports_at site.scope p n raw prelude imports }) placed
     ∙ ap (λ b. record s { session = session; imports = s.imports ++ imports_at site.scope (position_of site item) n raw b imports }) asked in
+    let same : Rearranges effect.state t = subst (λ u. Rearranges u t) became after in
     record {
       effect = effect;
       handled = (session, adds, subst (λ k. Handles oracle (record s { session = session }) site item k effect) (sym kind) (n, number, refl));
-      done = record { puts = []; tasks = refl; performs = subst (λ u. Performs oracle [] effect.state u) (sym became) (performs_none effect.state) };
+      done = record { puts = []; tasks = refl; performs = performs_rearranged effect.state t same };
     }
 
 -- a struct was handled

@@ -19,11 +19,11 @@ use Rattle.item_tree.specs.declared.items.ImportKind.{ImportKind}
 use Rattle.item_tree.specs.declared.items.ImportKind.TheVariants as kind
 use Rattle.def_laws.specs.Followed.{AreApart, adds_edge, visits_item}
 use Rattle.def_rules.specs.Imports.{answer_now, bound_name, import_vis, named_entries}
-use Rattle.def_rules.specs.Recording.{ImportStep, after_pending, after_partial, edge_tasks, glob_def, glob_edge, glob_tasks, is_own_crate, record_effect, record_tasks, of_pending, of_partial}
+use Rattle.def_rules.specs.Recording.{ImportStep, after_import, edge_tasks, glob_def, glob_edge, glob_tasks, is_own_crate, record_effect, record_tasks}
 use Rattle.def_rules.specs.Globs.{module_entries, variant_entries}
 use Rattle.def_laws.proofs.OpenedLaws.{ArePlain, visits_opened}
 use Rattle.def_laws.proofs.RunsLaws.{kept_along}
-use Rattle.def_rules.specs.State.{State, Effect, Moment, PendingImport, Task, Enter, Visit, Put, AddEdge, order, put_each, world}
+use Rattle.def_rules.specs.State.{State, Effect, Moment, Import, Task, Enter, Visit, Put, AddEdge, order, put_each, world}
 use Rattle.def_rules.specs.Steps.{Does, Reaches, Step, performs, copies, rearranges, records}
 
 -- an edge is added where one of two lists adds one
@@ -72,20 +72,18 @@ glob_visits w glob (Some (def.Builtin x)) = refl
 glob_visits w glob (Some (def.Macro x)) = refl
 
 -- nor does what a recorded import leads to
-recorded_visits : (oracle : Oracle) (u : State) (p : PendingImport) (answer : ResolvePathResult) (k : ImportKind) → visits_item (record_tasks oracle u p answer k) ≡ false
-recorded_visits oracle u p answer kind.Plain = only_puts p.scope (named_entries (order u) p (import_vis oracle u p) answer (bound_name p.import))
-recorded_visits oracle u p answer kind.TypeOnly = only_puts p.scope (named_entries (order u) p (import_vis oracle u p) answer (bound_name p.import))
+recorded_visits : (oracle : Oracle) (u : State) (p : Import) (answer : ResolvePathResult) (k : ImportKind) → visits_item (record_tasks oracle u p answer k) ≡ false
+recorded_visits oracle u p answer kind.Plain = only_puts p.scope (named_entries (order u) p (import_vis oracle u p) answer (bound_name p.written))
+recorded_visits oracle u p answer kind.TypeOnly = only_puts p.scope (named_entries (order u) p (import_vis oracle u p) answer (bound_name p.written))
 recorded_visits oracle u p answer kind.Glob = glob_visits (world oracle u) (glob_edge p (import_vis oracle u p)) (glob_def p answer)
 
 import_visits : (oracle : Oracle) (s : State) (effect : Effect) → ImportStep oracle s effect → visits_item (effect.tasks ++ []) ≡ false
-import_visits oracle s effect (of_pending p rest recorded waits ready recording is) =
-    let u : State = after_pending s p rest (answer_now oracle s p) in
-    subst (λ (e : Effect). visits_item (e.tasks ++ []) ≡ false) (sym is) (subst (λ (e : Effect). visits_item (e.tasks ++ []) ≡ false) (sym recording)
-    (ap visits_item (append-nil (record_effect oracle u p (answer_now oracle s p)).tasks) ∙ recorded_visits oracle u p (answer_now oracle s p) p.import.kind))
-import_visits oracle s effect (of_partial p rest recorded waits ready recording is) =
-    let u : State = after_partial s p rest (answer_now oracle s p.pending) in
-    subst (λ (e : Effect). visits_item (e.tasks ++ []) ≡ false) (sym is) (subst (λ (e : Effect). visits_item (e.tasks ++ []) ≡ false) (sym recording)
-    (ap visits_item (append-nil (record_effect oracle u p.pending (answer_now oracle s p.pending)).tasks) ∙ recorded_visits oracle u p.pending (answer_now oracle s p.pending) p.pending.import.kind))
+import_visits oracle s effect step =
+    let p : Import = step.directive.import in
+    let answer : ResolvePathResult = answer_now oracle s p in
+    let u : State = after_import s step.directive step.rest answer in
+    subst (λ (e : Effect). visits_item (e.tasks ++ []) ≡ false) (sym step.is)
+    (ap visits_item (append-nil (record_effect oracle u p answer).tasks) ∙ recorded_visits oracle u p answer p.written.kind)
 
 -- a moment in which items and edges are apart
 abbrev IsApart : Moment → Type 0

@@ -59,12 +59,11 @@ sound_empty left_out m targets = record {
   single = λ source i j e f at. absurd cc;
 }
 
-own_empty : (m : MapState) (targets : Targets) → HasRoot m → AreOwn m targets empty [] []
+own_empty : (m : MapState) (targets : Targets) → HasRoot m → AreOwn m targets empty []
 own_empty m targets has = record {
   even = has.even;
   lower = has.lower;
-  imports = λ p h. absurd (none_in p h);
-  partial = λ p h. absurd (none_in p h);
+  imports = λ d h. absurd (none_in d h);
   bound = λ at slot h. absurd (unbound at slot h.0 h.1);
   edges = λ source index edge at. absurd cc;
   globs = λ at name ns glob h. absurd (let wrong = h.1 in cc);

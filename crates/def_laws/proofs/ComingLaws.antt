@@ -1,7 +1,6 @@
 -- What was recorded of imports is bound or still to be put, and steps keep that.
-use Rattle.std.proofs.Common.{◌≡◌, ◌⊎◌, inl, inr, Bool, true, false, List, [], ◌∷◌, ◌++◌, Option, Some, None, Contains, IsPermutation, ap, ◌∙◌, subst, arith}
+use Rattle.std.proofs.Common.{◌≡◌, ◌⊎◌, inl, inr, Bool, true, false, List, [], ◌∷◌, ◌++◌, Option, Some, None, Contains, sym, ap, ◌∙◌, subst, arith}
 use Rattle.std.proofs.lemmas.List.Elements.{Contains-append_right}
-use Rattle.std.proofs.lemmas.List.Sorted.{Contains-permutation, IsPermutation-sym}
 use Rattle.item_tree.specs.declared.ids.ModItemId.{ModItemId}
 use Rattle.item_tree.specs.declared.name.Name.{Name}
 use Rattle.def_ids.specs.declared.ids.GlobId.{GlobId}
@@ -17,10 +16,11 @@ use Rattle.def_bindings.specs.Content.{Content}
 use Rattle.def_bindings.specs.Order.{Order}
 use Rattle.def_bindings.specs.Puts.{offered, put_entry}
 use Rattle.def_bindings.specs.PutsLaws.{bound_stays-put_entry, bound_after-put_name}
-use Rattle.def_rules.specs.Imports.{bound_name, is_full, keeps_ns}
+use Rattle.def_rules.specs.Imports.{bound_name, is_full, keeps_ns, no_namespaces}
 use Rattle.def_parts.specs.Directories.{Directory}
-use Rattle.def_rules.specs.State.{Event, PutExplicit, Recorded, NsSet, PendingImport, PartialImport, Site, Task, Enter, Visit, Put, AddEdge}
+use Rattle.def_rules.specs.State.{Event, PutExplicit, Recorded, NsSet, Import, ImportDirective, Site, Task, Enter, Visit, Put, AddEdge}
 use Rattle.def_rules.specs.Steps.{event_of}
+use Rattle.def_laws.proofs.AddedLaws.{AddsNew}
 use Rattle.def_laws.proofs.ListLaws.{contains_cases}
 
 -- whether a set has a namespace
@@ -41,43 +41,53 @@ abbrev pub IsComing : Content Visibility → List Task → ModuleId → Name →
 IsComing content tasks at name ns = IsBound content at (Named name ns) ⊎ IsAhead tasks at name ns
 
 -- each namespace of this set is bound at the import's name, or is still to be put
-abbrev pub HasEach : Content Visibility → List Task → PendingImport → NsSet → Type 0
+abbrev pub HasEach : Content Visibility → List Task → Import → NsSet → Type 0
 HasEach content tasks p set =
-    (name : Name) (ns : Namespace) → bound_name p.import ≡ Some (Some name) → keeps_ns p.import.kind ns ≡ true → has_ns set ns ≡ true → IsComing content tasks p.scope name ns
+    (name : Name) (ns : Namespace) → bound_name p.written ≡ Some (Some name) → keeps_ns p.written.kind ns ≡ true → has_ns set ns ≡ true → IsComing content tasks p.scope name ns
 
--- an import that was recorded from its own crate has a set of namespaces that are bound: all, or those with which it is partial
-pub record HasSet (partial : List PartialImport) (content : Content Visibility) (tasks : List Task) (p : PendingImport) : Type 0 where
+-- no namespace is in the set that has none
+pub no_each : (content : Content Visibility) (tasks : List Task) (p : Import) → HasEach content tasks p no_namespaces
+no_each content tasks p name Types named kind has = cc
+no_each content tasks p name Values named kind has = cc
+no_each content tasks p name Macros named kind has = cc
+
+-- an import that was recorded from its own crate has a set of namespaces that are bound: all, or those with which it stays indeterminate
+pub record HasSet (imports : List ImportDirective) (content : Content Visibility) (tasks : List Task) (p : Import) : Type 0 where
   pub set : NsSet
-  pub stays : (is_full set ≡ true) ⊎ Contains partial (record { pending = p; recorded = set })
+  pub stays : (is_full set ≡ true) ⊎ Contains imports (record { import = p; recorded = set })
   pub each : HasEach content tasks p set
 
--- what was recorded is bound or still to be put, of the partial imports and of those that were recorded
-pub record Covers (partial : List PartialImport) (content : Content Visibility) (tasks : List Task) (events : List Event) : Type 0 where
-  pub partly : (x : PartialImport) → Contains partial x → HasEach content tasks x.pending x.recorded
-  pub recorded : (p : PendingImport) → Contains events (Recorded p false) → Contains events (Recorded p true) ⊎ HasSet partial content tasks p
+-- what was recorded is bound or still to be put, of the imports that are left and of those that were recorded
+pub record Covers (imports : List ImportDirective) (content : Content Visibility) (tasks : List Task) (events : List Event) : Type 0 where
+  pub left : (d : ImportDirective) → Contains imports d → HasEach content tasks d.import d.recorded
+  pub recorded : (p : Import) → Contains events (Recorded p false) → Contains events (Recorded p true) ⊎ HasSet imports content tasks p
 
 -- what is coming stays so
 abbrev pub KeepsComing : Content Visibility → List Task → Content Visibility → List Task → Type 0
 KeepsComing content tasks content' tasks' = (at : ModuleId) (name : Name) (ns : Namespace) → IsComing content tasks at name ns → IsComing content' tasks' at name ns
 
 -- what was recorded is covered where what is coming stays so, and no other import was recorded
-pub covers-kept : (partial partial' : List PartialImport) (content content' : Content Visibility) (tasks tasks' : List Task) (events events' : List Event)
-    → KeepsComing content tasks content' tasks' → IsPermutation partial partial' → ((e : Event) → Contains events e → Contains events' e)
-    → ((p : PendingImport) → Contains events' (Recorded p false) → Contains events (Recorded p false)) → Covers partial content tasks events → Covers partial' content' tasks' events'
-covers-kept partial partial' content content' tasks tasks' events events' keeps same more fewer all =
+pub covers-kept : (imports imports' : List ImportDirective) (content content' : Content Visibility) (tasks tasks' : List Task) (events events' : List Event)
+    → KeepsComing content tasks content' tasks' → AddsNew imports imports' → ((e : Event) → Contains events e → Contains events' e)
+    → ((p : Import) → Contains events' (Recorded p false) → Contains events (Recorded p false)) → Covers imports content tasks events → Covers imports' content' tasks' events'
+covers-kept imports imports' content content' tasks tasks' events events' keeps adds more fewer all =
     record {
-      partly = λ x stands name ns named kind has. keeps x.pending.scope name ns (all.partly x (Contains-permutation partial' partial x (IsPermutation-sym partial partial' same) stands) name ns named kind has);
+      left = λ d stands. left d (adds.others d stands);
       recorded = λ p happened. elim (all.recorded p (fewer p happened)) [
         | inl foreign ↦ inl (more (Recorded p true) foreign)
         | inr has ↦ inr (still p has)
       ];
     }
   where
-    stays : (p : PendingImport) (set : NsSet) → (is_full set ≡ true) ⊎ Contains partial (record { pending = p; recorded = set }) → (is_full set ≡ true) ⊎ Contains partial' (record { pending = p; recorded = set })
-    stays p set (inl full) = inl full
-    stays p set (inr stands) = inr (Contains-permutation partial partial' (record { pending = p; recorded = set }) same stands)
+    left : (d : ImportDirective) → Contains imports d ⊎ (d.recorded ≡ no_namespaces) → HasEach content' tasks' d.import d.recorded
+    left d (inl stands) = λ name ns named kind has. keeps d.import.scope name ns (all.left d stands name ns named kind has)
+    left d (inr new) = subst (λ set. HasEach content' tasks' d.import set) (sym new) (no_each content' tasks' d.import)
 
-    still : (p : PendingImport) → HasSet partial content tasks p → HasSet partial' content' tasks' p
+    stays : (p : Import) (set : NsSet) → (is_full set ≡ true) ⊎ Contains imports (record { import = p; recorded = set }) → (is_full set ≡ true) ⊎ Contains imports' (record { import = p; recorded = set })
+    stays p set (inl full) = inl full
+    stays p set (inr stands) = inr (adds.stay (record { import = p; recorded = set }) stands)
+
+    still : (p : Import) → HasSet imports content tasks p → HasSet imports' content' tasks' p
     still p has = record { set = has.set; stays = stays p has.set has.stays; each = λ name ns named kind is. keeps p.scope name ns (has.each name ns named kind is) }
 
 -- What each step but a recorded import keeps
@@ -137,7 +147,7 @@ put_keeps o place entry content rest at name ns (inr ahead) =
         subst (λ k. IsBound (put_entry o place entry content) at (Named name k)) within (subst (λ m. IsBound (put_entry o place entry content) m (Named name entry.ns)) p (bound_after-put_name o place entry name content named))
 
 -- a put notes no recorded import
-pub unrecorded : (place : ModuleId) (entry : Entry Visibility) (p : PendingImport) (foreign : Bool) (g : Option GlobId) (n : Option Name) → Contains (event_of place entry g n) (Recorded p foreign) → ⊥
+pub unrecorded : (place : ModuleId) (entry : Entry Visibility) (p : Import) (foreign : Bool) (g : Option GlobId) (n : Option Name) → Contains (event_of place entry g n) (Recorded p foreign) → ⊥
 unrecorded place entry p foreign None (Some name) h =
     elim (contains_cases (PutExplicit place name entry.ns (offered entry)) (Recorded p foreign) [] h) [
       | inl same ↦ cc same

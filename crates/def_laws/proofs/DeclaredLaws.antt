@@ -16,9 +16,9 @@ use Rattle.def_bindings.specs.PutsLaws.{explicit_stays-put_entry, explicit_after
 use Rattle.def_oracle.specs.Oracle.{Oracle}
 use Rattle.def_globs.specs.Globs.{with_recorded}
 use Rattle.def_rules.specs.Imports.{answer_now, is_foreign}
-use Rattle.def_rules.specs.Recording.{ImportStep, of_pending, of_partial}
+use Rattle.def_rules.specs.Recording.{ImportStep}
 use Rattle.def_rules.specs.Settled.{IsDeclared, WasPut}
-use Rattle.def_rules.specs.State.{State, Effect, Event, PutExplicit, Recorded, PendingImport, Moment, Task, Enter, Visit, Put, order, AddEdge}
+use Rattle.def_rules.specs.State.{State, Effect, Event, PutExplicit, Recorded, Import, Moment, Task, Enter, Visit, Put, order, AddEdge}
 use Rattle.def_rules.specs.Steps.{Copies, Does, Reaches, Step, performs, copies, rearranges, records, event_of, put_event}
 use Rattle.def_laws.proofs.ListLaws.{not_empty, split_last}
 use Rattle.def_laws.proofs.RunsLaws.{kept_along, visits_leaves}
@@ -53,7 +53,7 @@ still_stands : (old new : Content Visibility) (before : List Event) (at : Module
     → ((b : Binding Visibility) → old.binding at name ns ≡ Some b → IsExplicit b.import → new.binding at name ns ≡ Some b) → Stands old before at name ns held → Stands new before at name ns held
 still_stands old new before at name ns held stay stands = record { now = stands.now; is_bound = stay stands.now stands.is_bound stands.explicit; explicit = stands.explicit; came = stands.came }
 
-recorded_apart : (events before after : List Event) (p : PendingImport) (foreign : Bool) (at : ModuleId) (name : Name) (ns : Namespace) (held : Binding Visibility)
+recorded_apart : (events before after : List Event) (p : Import) (foreign : Bool) (at : ModuleId) (name : Name) (ns : Namespace) (held : Binding Visibility)
     → events ++ Recorded p foreign ∷ [] ≡ before ++ PutExplicit at name ns held ∷ after → (rest : List Event) × (events ≡ before ++ PutExplicit at name ns held ∷ rest)
 recorded_apart events before after p foreign at name ns held e =
     elim (split_last events before after (Recorded p foreign) (PutExplicit at name ns held) e) [
@@ -62,7 +62,7 @@ recorded_apart events before after p foreign at name ns held e =
     ]
 
 -- a recorded import is no put
-declares-recorded : (events : List Event) (content : Content Visibility) (p : PendingImport) (foreign : Bool) → Declares events content → Declares (events ++ Recorded p foreign ∷ []) content
+declares-recorded : (events : List Event) (content : Content Visibility) (p : Import) (foreign : Bool) → Declares events content → Declares (events ++ Recorded p foreign ∷ []) content
 declares-recorded events content p foreign all =
     record {
       known = λ at name ns held there explicit. Contains-append_left events (Recorded p foreign ∷ []) _ (all.known at name ns held there explicit);
@@ -172,12 +172,8 @@ declares-does oracle events s (Put place entry) effect does all = subst (λ (e :
 declares-does oracle events s (AddEdge source edge) effect does all = subst (λ (e : Effect). Declares (events ++ e.events) e.state.content) (sym does) (declares-edge events (order s) source edge s.content all)
 
 declares-import : (oracle : Oracle) (events : List Event) (s : State) (effect : Effect) → ImportStep oracle s effect → Declares events s.content → Declares (events ++ effect.events) effect.state.content
-declares-import oracle events s effect (of_pending pending rest recorded waits ready recording is) all =
-    subst (λ (e : Effect). Declares (events ++ e.events) e.state.content) (sym is)
-    (subst (λ (e : Effect). Declares (events ++ Recorded pending (is_foreign (answer_now oracle s pending)) ∷ e.events) e.state.content) (sym recording) (declares-recorded events s.content pending (is_foreign (answer_now oracle s pending)) all))
-declares-import oracle events s effect (of_partial partial rest recorded waits ready recording is) all =
-    subst (λ (e : Effect). Declares (events ++ e.events) e.state.content) (sym is)
-    (subst (λ (e : Effect). Declares (events ++ Recorded partial.pending (is_foreign (answer_now oracle s partial.pending)) ∷ e.events) e.state.content) (sym recording) (declares-recorded events s.content partial.pending (is_foreign (answer_now oracle s partial.pending)) all))
+declares-import oracle events s effect step all =
+    subst (λ (e : Effect). Declares (events ++ e.events) e.state.content) (sym step.is) (declares-recorded events s.content step.directive.import (is_foreign (answer_now oracle s step.directive.import)) all)
 
 -- what is declared at a moment
 abbrev DeclaresAt : Moment → Type 0

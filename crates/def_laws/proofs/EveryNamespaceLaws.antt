@@ -1,9 +1,9 @@
 -- Each namespace of a recorded import is bound at the end of a run.
-use Rattle.std.proofs.Common.{◌≡◌, inl, inr, Bool, true, false, ◌&&◌, ◌||◌, not, is_some, List, [], ◌∷◌, ◌++◌, Contains, refl, sym, ap, subst, append-nil, arith}
+use Rattle.std.proofs.Common.{◌≡◌, inl, inr, Bool, true, false, ◌&&◌, ◌||◌, not, is_some, List, [], ◌∷◌, ◌++◌, Contains, IsPermutation, refl, sym, ap, subst, append-nil, arith}
 use Rattle.std.specs.Prelude.{IsSome}
 use Rattle.std.proofs.lemmas.Bool.{and_parts, or_parts}
 use Rattle.std.proofs.lemmas.List.Elements.{Contains-append_left, Contains-append_right, Contains-append_cases}
-use Rattle.std.proofs.lemmas.List.Sorted.{Contains-permutation, IsPermutation-refl, IsPermutation-sym}
+use Rattle.std.proofs.lemmas.List.Sorted.{Contains-permutation, IsPermutation-sym}
 use Rattle.item_tree.specs.declared.ids.ModItemId.{ModItemId}
 use Rattle.item_tree.specs.declared.name.Name.{Name}
 use Rattle.def_ids.specs.declared.ids.ModuleId.{ModuleId}
@@ -22,111 +22,107 @@ use Rattle.def_paths.specs.declared.per_ns.PerNs.{PerNs}
 use Rattle.def_oracle.specs.Oracle.{Oracle}
 use Rattle.def_paths.specs.PerNs.{in_namespace}
 use Rattle.def_globs.specs.Globs.{with_recorded}
-use Rattle.def_rules.specs.Imports.{answer_now, given_set, is_extended, is_foreign, is_full, is_ready, no_namespaces}
-use Rattle.def_rules.specs.Recording.{ImportStep, NoneReady, after_partial, after_pending, of_partial, of_pending}
+use Rattle.def_rules.specs.Imports.{answer_now, given_set, is_extended, is_foreign, is_full, is_missing}
+use Rattle.def_rules.specs.Recording.{ImportStep, NoneReady, after_import}
 use Rattle.def_rules.specs.Settled.{HasEveryNamespace}
-use Rattle.def_rules.specs.State.{State, Effect, Event, Recorded, NsSet, PendingImport, PartialImport, Moment, Task, Enter, Visit, Put, Rearranges, Site, order, AddEdge}
+use Rattle.def_rules.specs.State.{State, Effect, Event, Recorded, NsSet, Import, ImportDirective, Moment, Task, Enter, Visit, Put, Rearranges, Site, order, AddEdge}
 use Rattle.def_rules.specs.Steps.{Copies, Does, Reaches, Step, performs, copies, rearranges, records, put_event}
 use Rattle.def_parts.specs.Directories.{Directory}
 use Rattle.def_laws.proofs.RunsLaws.{Leaves, kept_along, visits_leaves}
 use Rattle.def_laws.proofs.ComingLaws.{Covers, HasSet, bound_now, covers-kept, enter_ahead, has_ns, keeps_coming, put_keeps, unrecorded, visit_ahead, edge_ahead}
+use Rattle.def_laws.proofs.AddedLaws.{none_added, reordered}
 use Rattle.def_laws.proofs.ListLaws.{contains_cases}
-use Rattle.def_laws.proofs.RecordedLaws.{all_ahead, covers-recorded, no_each}
+use Rattle.def_laws.proofs.RecordedLaws.{all_ahead, covers-recorded}
 
 -- what was recorded is covered, at a moment
 abbrev CoversAt : Moment → Type 0
-CoversAt m = Covers m.state.partial m.state.content m.tasks m.events
+CoversAt m = Covers m.state.imports m.state.content m.tasks m.events
 
 module _ (s : State) (effect : Effect) (rest : List Task) (events : List Event) where
-  covers-visit : (site : Site) (id : ModItemId) → Leaves s effect → Covers s.partial s.content (Visit site id ∷ rest) events → Covers effect.state.partial effect.state.content (effect.tasks ++ rest) (events ++ effect.events)
+  covers-visit : (site : Site) (id : ModItemId) → Leaves s effect → Covers s.imports s.content (Visit site id ∷ rest) events → Covers effect.state.imports effect.state.content (effect.tasks ++ rest) (events ++ effect.events)
   covers-visit site id leaves all =
-      subst (λ ps. Covers ps effect.state.content (effect.tasks ++ rest) (events ++ effect.events)) (sym leaves.partial)
-      (subst (λ c. Covers s.partial c (effect.tasks ++ rest) (events ++ effect.events)) (sym leaves.content)
-      (subst (λ es. Covers s.partial s.content (effect.tasks ++ rest) (events ++ es)) (sym leaves.events)
-      (subst (λ es. Covers s.partial s.content (effect.tasks ++ rest) es) (sym (append-nil events))
-      (covers-kept s.partial s.partial s.content s.content (Visit site id ∷ rest) (effect.tasks ++ rest) events events (keeps_coming s.content s.content (Visit site id ∷ rest) (effect.tasks ++ rest) (λ at name ns bound. bound) (λ at entry h. visit_ahead site id rest effect.tasks at entry h))
-      (IsPermutation-refl s.partial) (λ e h. h) (λ p h. h) all))))
+      subst (λ c. Covers effect.state.imports c (effect.tasks ++ rest) (events ++ effect.events)) (sym leaves.content)
+      (subst (λ es. Covers effect.state.imports s.content (effect.tasks ++ rest) (events ++ es)) (sym leaves.events)
+      (subst (λ es. Covers effect.state.imports s.content (effect.tasks ++ rest) es) (sym (append-nil events))
+      (covers-kept s.imports effect.state.imports s.content s.content (Visit site id ∷ rest) (effect.tasks ++ rest) events events (keeps_coming s.content s.content (Visit site id ∷ rest) (effect.tasks ++ rest) (λ at name ns bound. bound) (λ at entry h. visit_ahead site id rest effect.tasks at entry h))
+      leaves.imports (λ e h. h) (λ p h. h) all)))
 
 -- a directory that is stored leaves all that is covered
-covers-enter : (s : State) (at : ModuleId) (directory : Directory) (rest : List Task) (events : List Event) → Covers s.partial s.content (Enter at directory ∷ rest) events
-    → Covers s.partial s.content rest (events ++ [])
+covers-enter : (s : State) (at : ModuleId) (directory : Directory) (rest : List Task) (events : List Event) → Covers s.imports s.content (Enter at directory ∷ rest) events
+    → Covers s.imports s.content rest (events ++ [])
 covers-enter s at directory rest events all =
-    subst (λ es. Covers s.partial s.content rest es) (sym (append-nil events))
-    (covers-kept s.partial s.partial s.content s.content (Enter at directory ∷ rest) rest events events
+    subst (λ es. Covers s.imports s.content rest es) (sym (append-nil events))
+    (covers-kept s.imports s.imports s.content s.content (Enter at directory ∷ rest) rest events events
     (keeps_coming s.content s.content (Enter at directory ∷ rest) rest (λ at name ns bound. bound) (λ place entry h. enter_ahead at directory rest place entry h))
-    (IsPermutation-refl s.partial) (λ e h. h) (λ p h. h) all)
+    (none_added s.imports) (λ e h. h) (λ p h. h) all)
 
-covers-put : (s : State) (place : ModuleId) (entry : Entry Visibility) (rest : List Task) (events : List Event) → Covers s.partial s.content (Put place entry ∷ rest) events
-    → Covers s.partial (put_entry (order s) place entry s.content) rest (events ++ put_event place entry)
+covers-put : (s : State) (place : ModuleId) (entry : Entry Visibility) (rest : List Task) (events : List Event) → Covers s.imports s.content (Put place entry ∷ rest) events
+    → Covers s.imports (put_entry (order s) place entry s.content) rest (events ++ put_event place entry)
 covers-put s place entry rest events all =
-    covers-kept s.partial s.partial s.content (put_entry (order s) place entry s.content) (Put place entry ∷ rest) rest events (events ++ put_event place entry) (put_keeps (order s) place entry s.content rest)
-    (IsPermutation-refl s.partial) (λ e h. Contains-append_left events (put_event place entry) e h)
+    covers-kept s.imports s.imports s.content (put_entry (order s) place entry s.content) (Put place entry ∷ rest) rest events (events ++ put_event place entry) (put_keeps (order s) place entry s.content rest)
+    (none_added s.imports) (λ e h. Contains-append_left events (put_event place entry) e h)
     (λ p h. elim (Contains-append_cases events (put_event place entry) (Recorded p false) h) [
       | inl before ↦ before
       | inr now ↦ absurd (unrecorded place entry p false (glob_of entry.origin) entry.name now)
     ]) all
 
-covers-edge : (s : State) (source : ModuleId) (edge : EdgeTo Visibility) (rest : List Task) (events : List Event) → Covers s.partial s.content (AddEdge source edge ∷ rest) events
-    → Covers s.partial (with_recorded (order s) s.content source edge) rest (events ++ [])
+covers-edge : (s : State) (source : ModuleId) (edge : EdgeTo Visibility) (rest : List Task) (events : List Event) → Covers s.imports s.content (AddEdge source edge ∷ rest) events
+    → Covers s.imports (with_recorded (order s) s.content source edge) rest (events ++ [])
 covers-edge s source edge rest events all =
-    subst (λ es. Covers s.partial (with_recorded (order s) s.content source edge) rest es) (sym (append-nil events))
-    (covers-kept s.partial s.partial s.content (with_recorded (order s) s.content source edge) (AddEdge source edge ∷ rest) rest events events
+    subst (λ es. Covers s.imports (with_recorded (order s) s.content source edge) rest es) (sym (append-nil events))
+    (covers-kept s.imports s.imports s.content (with_recorded (order s) s.content source edge) (AddEdge source edge ∷ rest) rest events events
     (keeps_coming s.content (with_recorded (order s) s.content source edge) (AddEdge source edge ∷ rest) rest (λ at name ns bound. bound) (λ at entry h. edge_ahead source edge rest at entry h))
-    (IsPermutation-refl s.partial) (λ e h. h) (λ p h. h) all)
+    (none_added s.imports) (λ e h. h) (λ p h. h) all)
 
-covers-does : (oracle : Oracle) (s : State) (task : Task) (effect : Effect) (rest : List Task) (events : List Event) → Does oracle s task effect → Covers s.partial s.content (task ∷ rest) events
-    → Covers effect.state.partial effect.state.content (effect.tasks ++ rest) (events ++ effect.events)
+covers-does : (oracle : Oracle) (s : State) (task : Task) (effect : Effect) (rest : List Task) (events : List Event) → Does oracle s task effect → Covers s.imports s.content (task ∷ rest) events
+    → Covers effect.state.imports effect.state.content (effect.tasks ++ rest) (events ++ effect.events)
 covers-does oracle s (Enter at directory) effect rest events does all =
-    subst (λ (e : Effect). Covers e.state.partial e.state.content (e.tasks ++ rest) (events ++ e.events)) (sym does) (covers-enter s at directory rest events all)
+    subst (λ (e : Effect). Covers e.state.imports e.state.content (e.tasks ++ rest) (events ++ e.events)) (sym does) (covers-enter s at directory rest events all)
 covers-does oracle s (Visit site id) effect rest events does all = covers-visit s effect rest events site id (visits_leaves oracle s site id effect does) all
 covers-does oracle s (Put place entry) effect rest events does all =
-    subst (λ (e : Effect). Covers e.state.partial e.state.content (e.tasks ++ rest) (events ++ e.events)) (sym does) (covers-put s place entry rest events all)
+    subst (λ (e : Effect). Covers e.state.imports e.state.content (e.tasks ++ rest) (events ++ e.events)) (sym does) (covers-put s place entry rest events all)
 covers-does oracle s (AddEdge source edge) effect rest events does all =
-    subst (λ (e : Effect). Covers e.state.partial e.state.content (e.tasks ++ rest) (events ++ e.events)) (sym does) (covers-edge s source edge rest events all)
+    subst (λ (e : Effect). Covers e.state.imports e.state.content (e.tasks ++ rest) (events ++ e.events)) (sym does) (covers-edge s source edge rest events all)
 
-covers-copied : (s : State) (content : Content Visibility) (tasks : List Task) (events : List Event) → Copies s content → Covers s.partial s.content tasks events → Covers s.partial content tasks events
+covers-copied : (s : State) (content : Content Visibility) (tasks : List Task) (events : List Event) → Copies s content → Covers s.imports s.content tasks events → Covers s.imports content tasks events
 covers-copied s content tasks events copy all =
-    covers-kept s.partial s.partial s.content content tasks tasks events events
+    covers-kept s.imports s.imports s.content content tasks tasks events events
     (keeps_coming s.content content tasks tasks (λ at name ns bound. subst (λ c. IsBound c at (Named name ns)) (sym copy.after) (bound_stays-copied (order s) copy.source copy.edge copy.slot s.content at (Named name ns) bound)) (λ at entry h. h))
-    (IsPermutation-refl s.partial) (λ e h. h) (λ p h. h) all
+    (none_added s.imports) (λ e h. h) (λ p h. h) all
 
-covers-rearranged : (s t : State) (tasks : List Task) (events : List Event) → Rearranges s t → Covers s.partial s.content tasks events → Covers t.partial t.content tasks events
+covers-rearranged : (s t : State) (tasks : List Task) (events : List Event) → Rearranges s t → Covers s.imports s.content tasks events → Covers t.imports t.content tasks events
 covers-rearranged s t tasks events same all =
-    covers-kept s.partial t.partial s.content t.content tasks tasks events events
+    covers-kept s.imports t.imports s.content t.content tasks tasks events events
     (keeps_coming s.content t.content tasks tasks (λ at name ns bound. subst (λ (x : State). IsBound x.content at (Named name ns)) (sym same.rest) bound) (λ at entry h. h))
-    same.partial (λ e h. h) (λ p h. h) all
+    (reordered s.imports t.imports same.imports) (λ e h. h) (λ p h. h) all
 
-covers-import : (oracle : Oracle) (s : State) (effect : Effect) (events : List Event) → ImportStep oracle s effect → Covers s.partial s.content [] events
-    → Covers effect.state.partial effect.state.content (effect.tasks ++ []) (events ++ effect.events)
-covers-import oracle s effect events (of_pending pending rest recorded waits ready recording is) all =
-    let answer = answer_now oracle s pending in
-    subst (λ (e : Effect). Covers e.state.partial e.state.content (e.tasks ++ []) (events ++ e.events)) (sym is)
-    (subst (λ (e : Effect). Covers e.state.partial e.state.content (e.tasks ++ []) (events ++ Recorded pending (is_foreign (answer_now oracle s pending)) ∷ e.events)) (sym recording)
-    (covers-recorded pending answer _ (all_ahead oracle (after_pending s pending rest answer) pending answer) no_namespaces s.partial s.partial s.content events (no_each s.content [] pending) (λ x h. inr h) (λ x h. h) all))
-covers-import oracle s effect events (of_partial partial rest recorded waits ready recording is) all =
-    let answer = answer_now oracle s partial.pending in
-    let stands : Contains s.partial partial = Contains-permutation (partial ∷ rest) s.partial partial (IsPermutation-sym s.partial (partial ∷ rest) waits) (Contains-append_left (partial ∷ []) rest partial (0, omega arith, refl)) in
-    subst (λ (e : Effect). Covers e.state.partial e.state.content (e.tasks ++ []) (events ++ e.events)) (sym is)
-    (subst (λ (e : Effect). Covers e.state.partial e.state.content (e.tasks ++ []) (events ++ Recorded partial.pending (is_foreign (answer_now oracle s partial.pending)) ∷ e.events)) (sym recording)
-    (covers-recorded partial.pending answer _ (all_ahead oracle (after_partial s partial rest answer) partial.pending answer) partial.recorded s.partial rest s.content events (all.partly partial stands)
-    (λ x h. elim (contains_cases partial x rest (Contains-permutation s.partial (partial ∷ rest) x waits h)) [
-      | inl same ↦ inl (ap (λ (y : PartialImport). y.pending) same)
+covers-import : (oracle : Oracle) (s : State) (effect : Effect) (events : List Event) → ImportStep oracle s effect → Covers s.imports s.content [] events
+    → Covers effect.state.imports effect.state.content (effect.tasks ++ []) (events ++ effect.events)
+covers-import oracle s effect events step all =
+    let d : ImportDirective = step.directive in
+    let answer : ResolvePathResult = answer_now oracle s d.import in
+    let back : IsPermutation (d ∷ step.rest) s.imports = IsPermutation-sym s.imports (d ∷ step.rest) step.stands in
+    let stands : Contains s.imports d = Contains-permutation (d ∷ step.rest) s.imports d back (Contains-append_left (d ∷ []) step.rest d (0, omega arith, refl)) in
+    subst (λ (e : Effect). Covers e.state.imports e.state.content (e.tasks ++ []) (events ++ e.events)) (sym step.is)
+    (covers-recorded d.import answer _ (all_ahead oracle (after_import s d step.rest answer) d.import answer) d.recorded s.imports step.rest s.content events (all.left d stands)
+    (λ x h. elim (contains_cases d x step.rest (Contains-permutation s.imports (d ∷ step.rest) x step.stands h)) [
+      | inl same ↦ inl (ap (λ (y : ImportDirective). y.import) same)
       | inr others ↦ inr others
     ])
-    (λ x h. Contains-permutation (partial ∷ rest) s.partial x (IsPermutation-sym s.partial (partial ∷ rest) waits) (Contains-append_right (partial ∷ []) rest x h)) all))
+    (λ x h. Contains-permutation (d ∷ step.rest) s.imports x back (Contains-append_right (d ∷ []) step.rest x h)) all)
 
 covers-step : {oracle : Oracle} (a b : Moment) → Step oracle a b → CoversAt a → CoversAt b
 covers-step {oracle} a b (performs task rest effect first does is) all =
-    subst CoversAt (sym is) (covers-does oracle a.state task effect rest a.events does (subst (λ tasks. Covers a.state.partial a.state.content tasks a.events) first all))
+    subst CoversAt (sym is) (covers-does oracle a.state task effect rest a.events does (subst (λ tasks. Covers a.state.imports a.state.content tasks a.events) first all))
 covers-step a b (copies content copy is) all = subst CoversAt (sym is) (covers-copied a.state content a.tasks a.events copy all)
 covers-step a b (rearranges state same is) all = subst CoversAt (sym is) (covers-rearranged a.state state a.tasks a.events same all)
 covers-step {oracle} a b (records effect idle step is) all =
-    subst CoversAt (sym is) (covers-import oracle a.state effect a.events step (subst (λ tasks. Covers a.state.partial a.state.content tasks a.events) idle all))
+    subst CoversAt (sym is) (covers-import oracle a.state effect a.events step (subst (λ tasks. Covers a.state.imports a.state.content tasks a.events) idle all))
 
 covers_nothing : (content : Content Visibility) (tasks : List Task) → Covers [] content tasks []
 covers_nothing content tasks =
     record {
-      partly = λ x stands. let none = stands.1 in absurd (omega arith);
+      left = λ d stands. let none = stands.1 in absurd (omega arith);
       recorded = λ p happened. let none = happened.1 in absurd (omega arith);
     }
 
@@ -169,20 +165,20 @@ given_has found Types there = there
 given_has found Values there = there
 given_has found Macros there = there
 
--- what is not ready again though it is ready gives nothing new
-nothing_new : (ready foreign extended : Bool) → ready ≡ true → (ready && (foreign || extended)) ≡ false → extended ≡ false
-nothing_new true foreign extended is h = (or_parts foreign extended h).1
-nothing_new false foreign extended is h = absurd cc
+-- what is not ready though it is not missing gives nothing new
+nothing_new : (missing foreign extended : Bool) → missing ≡ false → (not missing && (foreign || extended)) ≡ false → extended ≡ false
+nothing_new false foreign extended is h = (or_parts foreign extended h).1
+nothing_new true foreign extended is h = absurd cc
 
 -- at the end the set of an import has each namespace that its path gives
-set_has : (oracle : Oracle) (end : Moment) (p : PendingImport) (ns : Namespace) → NoneReady oracle end.state → is_ready (answer_now oracle end.state p) ≡ true → IsSome (in_namespace (answer_now oracle end.state p).resolved_def ns)
-    → (has : HasSet end.state.partial end.state.content end.tasks p) → has_ns has.set ns ≡ true
-set_has oracle end p ns none ready there has =
+set_has : (oracle : Oracle) (end : Moment) (p : Import) (ns : Namespace) → NoneReady oracle end.state → is_missing (answer_now oracle end.state p) ≡ false → IsSome (in_namespace (answer_now oracle end.state p).resolved_def ns)
+    → (has : HasSet end.state.imports end.state.content end.tasks p) → has_ns has.set ns ≡ true
+set_has oracle end p ns settled found there has =
     let answer : ResolvePathResult = answer_now oracle end.state p in
     elim has.stays [
       | inl full ↦ full_has has.set ns full
       | inr stands ↦ not_extended has.set (given_set answer.resolved_def) ns
-          (nothing_new (is_ready answer) (is_foreign answer) (is_extended has.set (given_set answer.resolved_def)) ready (none.partial (record { pending = p; recorded = has.set }) stands))
+          (nothing_new (is_missing answer) (is_foreign answer) (is_extended has.set (given_set answer.resolved_def)) found (settled.none (record { import = p; recorded = has.set }) stands))
           (given_has answer.resolved_def ns there)
     ]
 
@@ -190,15 +186,15 @@ bound_is_some : (content : Content Visibility) (at : ModuleId) (name : Name) (ns
 bound_is_some content at name ns bound = ap is_some bound.1
 
 -- where nothing is left to do and no import is ready, each namespace of each recorded import is bound, after a run from nothing
-pub every_namespace_along : {oracle : Oracle} {a b : Moment} → Reaches oracle a b → a.events ≡ [] → a.state.partial ≡ [] → b.tasks ≡ [] → NoneReady oracle b.state → HasEveryNamespace oracle b
-every_namespace_along {oracle} {a} {b} r none nothing done settled p name ns import ready there kind =
+pub every_namespace_along : {oracle : Oracle} {a b : Moment} → Reaches oracle a b → a.events ≡ [] → a.state.imports ≡ [] → b.tasks ≡ [] → NoneReady oracle b.state → HasEveryNamespace oracle b
+every_namespace_along {oracle} {a} {b} r none nothing done settled p name ns import found there kind =
     elim (all.recorded p import.recorded) [
       | inl foreign ↦ absurd (import.own foreign)
-      | inr has ↦ bound_is_some b.state.content p.scope name ns (bound_now b.state.content b.tasks p.scope name ns done (has.each name ns import.name_bound kind (set_has oracle b p ns settled ready there has)))
+      | inr has ↦ bound_is_some b.state.content p.scope name ns (bound_now b.state.content b.tasks p.scope name ns done (has.each name ns import.name_bound kind (set_has oracle b p ns settled found there has)))
     ]
   where
     begins : CoversAt a
-    begins = subst (λ es. Covers a.state.partial a.state.content a.tasks es) (sym none) (subst (λ ps. Covers ps a.state.content a.tasks []) (sym nothing) (covers_nothing a.state.content a.tasks))
+    begins = subst (λ es. Covers a.state.imports a.state.content a.tasks es) (sym none) (subst (λ ps. Covers ps a.state.content a.tasks []) (sym nothing) (covers_nothing a.state.content a.tasks))
 
     all : CoversAt b
     all = kept_along {oracle = oracle} CoversAt (covers-step {oracle = oracle}) r begins

@@ -1,5 +1,5 @@
 -- What a glob brings, gathered entry by entry, and what it was recorded with.
-use Rattle.std.proofs.Common.{◌≡◌, ◌⊎◌, inl, inr, ◌+◌, Bool, true, false, map, if◌then◌else◌, List, [], ◌∷◌, ◌++◌, Option, Some, None, refl, sym, ap, ◌∙◌, subst, inl, inr, append-nil}
+use Rattle.std.proofs.Common.{◌≡◌, ◌⊎◌, inl, inr, Bool, true, false, map, if◌then◌else◌, List, [], ◌∷◌, ◌++◌, Option, Some, None, refl, sym, ap, ◌∙◌, subst, inl, inr, append-nil}
 use Rattle.def_ids.specs.declared.ids.Def.{Def}
 use Rattle.def_ids.specs.declared.ids.GlobId.{GlobId}
 use Rattle.def_ids.specs.Equality.{glob_eq}
@@ -23,7 +23,7 @@ use Rattle.def_laws.specs.Performs.{Performs, Updated, target_state}
 use Rattle.def_rules.specs.Globs.{module_entries, scope_entries, with_target}
 use Rattle.def_rules.specs.Imports.{import_vis}
 use Rattle.def_rules.specs.Recording.{edge_tasks, glob_def, glob_edge, glob_id, glob_tasks, is_own_crate, made_prelude, new_prelude, record_effect, record_tasks, targets_after, types_def, unless_prelude, with_new_prelude}
-use Rattle.def_rules.specs.State.{State, AddEdge, PendingImport, map_view, only, order, put_each, with_content, world}
+use Rattle.def_rules.specs.State.{State, AddEdge, Import, map_view, only, order, put_each, with_content, world}
 use Rattle.def_laws.proofs.EdgeLaws.{glob_raised, glob_sound}
 use Rattle.def_laws.proofs.StepsLaws.{performs_listed, performs_none}
 use Rattle.def_laws.proofs.WaveLaws.{runs_task, runs_trans, runs_wave}
@@ -90,7 +90,7 @@ module _ (oracle : Oracle) (s t u : State) (glob : EdgeTo Visibility) (source : 
         raised = λ rest stands sound before importer slot kept. glob_raised oracle s wave glob source Brought now own refl stands sound rest before importer slot kept.0;
       }
 
-module _ (oracle : Oracle) (s t : State) (p : PendingImport) (answer : ResolvePathResult) where
+module _ (oracle : Oracle) (s t : State) (p : Import) (answer : ResolvePathResult) where
   -- a glob was recorded with a definition
   abbrev GlobRecorded : Option Def → Type 0
   GlobRecorded given = Performs oracle (glob_tasks (world oracle s) (glob_edge p (import_vis oracle s p)) given) (target_state s (glob_id p) given) t
@@ -108,7 +108,7 @@ module _ (oracle : Oracle) (s t : State) (p : PendingImport) (answer : ResolvePa
   IsRecordedNow = let effect = record_effect oracle s p answer in Performs oracle effect.tasks effect.state t
 
   -- by its kind
-  recorded_as : (k : ImportKind) → p.import.kind ≡ k
+  recorded_as : (k : ImportKind) → p.written.kind ≡ k
       → Performs oracle (record_tasks oracle s p answer k) (record s { targets = targets_after k (glob_id p) (glob_def p answer) s.targets; map = with_new_prelude (new_prelude p answer) s.map }) t
       → IsRecordedNow
   recorded_as k is performs =
@@ -120,25 +120,25 @@ module _ (oracle : Oracle) (s t : State) (p : PendingImport) (answer : ResolvePa
   recorded_without k none performs =
       subst (λ made. Performs oracle (record_tasks oracle s p answer k) (record s { targets = targets_after k (glob_id p) (glob_def p answer) s.targets; map = with_new_prelude made s.map }) t) (sym none) performs
 
-  named_by : (k : ImportKind) → p.import.kind ≡ k → made_prelude k p.is_prelude (types_def answer) ≡ None → new_prelude p answer ≡ None
+  named_by : (k : ImportKind) → p.written.kind ≡ k → made_prelude k p.is_prelude (types_def answer) ≡ None → new_prelude p answer ≡ None
   named_by k is none = ap (λ k. made_prelude k p.is_prelude (types_def answer)) is ∙ none
 
   -- an import that binds names was recorded
-  pub recorded_named : (p.import.kind ≡ kind.Plain) ⊎ (p.import.kind ≡ kind.TypeOnly) → Performs oracle (record_tasks oracle s p answer kind.Plain) s t → IsRecordedNow
+  pub recorded_named : (p.written.kind ≡ kind.Plain) ⊎ (p.written.kind ≡ kind.TypeOnly) → Performs oracle (record_tasks oracle s p answer kind.Plain) s t → IsRecordedNow
   recorded_named (inl plain) performs = recorded_as kind.Plain plain (recorded_without kind.Plain (named_by kind.Plain plain refl) performs)
   recorded_named (inr types) performs = recorded_as kind.TypeOnly types (recorded_without kind.TypeOnly (named_by kind.TypeOnly types refl) performs)
 
   -- a glob that makes no module the prelude was recorded
-  pub recorded_glob : p.import.kind ≡ kind.Glob → new_prelude p answer ≡ None → GlobRecorded (types_def answer) → IsRecordedNow
+  pub recorded_glob : p.written.kind ≡ kind.Glob → new_prelude p answer ≡ None → GlobRecorded (types_def answer) → IsRecordedNow
   recorded_glob glob none performs = recorded_as kind.Glob glob (recorded_without kind.Glob none (subst GlobRecorded (ap (λ made. unless_prelude made (types_def answer)) (sym none)) performs))
 
   -- a glob that makes a module the prelude was recorded
-  pub recorded_prelude : (source : ModuleId) → p.import.kind ≡ kind.Glob → new_prelude p answer ≡ Some source → t ≡ record s { map = with_new_prelude (Some source) s.map } → IsRecordedNow
+  pub recorded_prelude : (source : ModuleId) → p.written.kind ≡ kind.Glob → new_prelude p answer ≡ Some source → t ≡ record s { map = with_new_prelude (Some source) s.map } → IsRecordedNow
   recorded_prelude source glob made after =
       recorded_as kind.Glob glob
       (subst (λ o. Performs oracle (glob_tasks (world oracle s) (glob_edge p (import_vis oracle s p)) (unless_prelude o (types_def answer))) (record (target_state s (glob_id p) (unless_prelude o (types_def answer))) { map = with_new_prelude o s.map }) t) (sym made)
       (subst (λ u. Performs oracle [] (record s { map = with_new_prelude (Some source) s.map }) u) (sym after) (performs_none (record s { map = with_new_prelude (Some source) s.map }))))
 
 -- a glob of nothing
-pub glob_nothing : (oracle : Oracle) (s : State) (p : PendingImport) (answer : ResolvePathResult) → types_def answer ≡ None → GlobRecorded oracle s s p answer (types_def answer)
+pub glob_nothing : (oracle : Oracle) (s : State) (p : Import) (answer : ResolvePathResult) → types_def answer ≡ None → GlobRecorded oracle s s p answer (types_def answer)
 glob_nothing oracle s p answer none = subst (GlobRecorded oracle s s p answer) (sym none) (performs_none s)

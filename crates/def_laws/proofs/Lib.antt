@@ -19,6 +19,7 @@ pub mod RecordLaws
 pub mod StartLaws
 pub mod ModulesLaws
 pub mod ListLaws
+pub mod AddedLaws
 pub mod RunsLaws
 pub mod StaysLaws
 pub mod DeclaredLaws

@@ -35,11 +35,12 @@ use Rattle.def_rules.specs.declared.diagnostics.DefDiagnosticKind.TheVariants.{U
 use Rattle.def_laws.specs.Followed.{AreFollowed}
 use Rattle.def_laws.specs.Own.{AreOwnTasks, IsOwn, IsRecorded}
 use Rattle.def_rules.specs.Globs.{Targets}
-use Rattle.def_rules.specs.Items.{ctor_task, diagnostic, ctor_vis, declared_effect, is_crate_root, is_prelude_import, node_at, noted_in, ordered, pending_imports, position_of, struct_effect, top_items, tree_cfg, visits, walk, written_vis}
+use Rattle.def_rules.specs.Items.{ctor_task, diagnostic, ctor_vis, declared_effect, is_crate_root, is_prelude_import, node_at, noted_in, ordered, new_imports, position_of, struct_effect, top_items, tree_cfg, visits, walk, written_vis}
 use Rattle.def_rules.specs.Modules.{add_module, file_tree, inline_contents, inner_site, module_effect, module_item, name_text, next_module, outline_found, outline_item}
 use Rattle.def_rules.specs.ExternCrates.{crate_effect, crate_entry, crate_name, named_crate, naming_crate}
 use Rattle.def_rules.specs.Rules.{Visits, VisitsAt, VisitsNode, Rule, Follows, rule_of, declares, declares_struct, opens_module, opens_block, queues, binds_crate, notes_impl, notes_const}
-use Rattle.def_rules.specs.State.{State, Effect, followed_by, PendingImport, Site, Task, Enter, Visit, Put, AddEdge, reported}
+use Rattle.def_rules.specs.Imports.{no_namespaces}
+use Rattle.def_rules.specs.State.{State, Effect, followed_by, ImportDirective, Site, Task, Enter, Visit, Put, AddEdge, reported}
 use Rattle.def_laws.proofs.SoundLaws.{IsLarger}
 use Rattle.def_laws.proofs.LargerLaws.{larger_add_module, larger_refl, larger_with_module, own_next}
 
@@ -94,9 +95,8 @@ plain_walk oracle site ids = plain_visits site (ordered (oracle.item_tree site.t
 pub record IsOpened (s : State) (site : Site) (effect : Effect) : Type 0 where
   pub content : effect.state.content ≡ s.content
   pub targets : effect.state.targets ≡ s.targets
-  pub partial : effect.state.partial ≡ s.partial
   pub larger : IsLarger s.map effect.state.map
-  pub imports : (p : PendingImport) → Contains effect.state.imports p → Contains s.imports p ⊎ (p.scope ≡ site.scope)
+  pub imports : (d : ImportDirective) → Contains effect.state.imports d → Contains s.imports d ⊎ (d.import.scope ≡ site.scope)
   pub tasks : (targets : Targets) → length s.map.parents ≡ length s.map.modules → IsOwn effect.state.map site.scope → AreOwnTasks effect.state.map targets effect.tasks
   pub plain : ArePlain effect.tasks
 
@@ -116,9 +116,8 @@ module _ (s : State) (site : Site) where
         record {
           content = refl;
           targets = refl;
-          partial = refl;
           larger = larger_add_module s site.scope name vis o;
-          imports = λ p h. inl h;
+          imports = λ d h. inl h;
           tasks = λ targets even at. (put_own (add_module s site.scope name vis o).map targets None refl at, own targets (own_next s site.scope name vis o even));
           plain = (refl, plain);
         }
@@ -133,12 +132,12 @@ module _ (s : State) (site : Site) where
     inline_plain oracle children (Some directory) = plain_walk oracle (inner_site s site site.tree directory) children
 
   -- a change that opens nothing, in a map with the same modules
-  same_opened : (t : State) → t.content ≡ s.content → t.targets ≡ s.targets → t.partial ≡ s.partial → IsLarger s.map t.map → ((p : PendingImport) → Contains t.imports p → Contains s.imports p ⊎ (p.scope ≡ site.scope))
+  same_opened : (t : State) → t.content ≡ s.content → t.targets ≡ s.targets → IsLarger s.map t.map → ((d : ImportDirective) → Contains t.imports d → Contains s.imports d ⊎ (d.import.scope ≡ site.scope))
       → IsOpened s site (record { state = t; tasks = []; events = [] })
-  same_opened t content targets partial larger imports = record { content = content; targets = targets; partial = partial; larger = larger; imports = imports; tasks = λ targets even at. tt; plain = tt }
+  same_opened t content targets larger imports = record { content = content; targets = targets; larger = larger; imports = imports; tasks = λ targets even at. tt; plain = tt }
 
 found_opened : (oracle : Oracle) (s : State) (site : Site) (item : ItemNode) (name : Name) (vis : Visibility) (found : FoundFile) (cfg : Option CfgExpr) → IsOpened s site (outline_found oracle s site item name vis found cfg)
-found_opened oracle s site item name vis found (Some cfg) = same_opened s site _ refl refl refl (larger_refl s.map) (λ p h. inl h)
+found_opened oracle s site item name vis found (Some cfg) = same_opened s site _ refl refl (larger_refl s.map) (λ p h. inl h)
 found_opened oracle s site item name vis found None = (let o : ModuleOrigin = origin.File item.ast_id site.tree found.0 found.1 in
     let inner : Site = inner_site s site (file_tree found) found.2 in
     added_opened s site name vis o (walk oracle inner (top_items oracle (file_tree found))) (λ targets own. own_walk oracle (add_module s site.scope name vis o).map targets inner (top_items oracle (file_tree found)) own) (plain_walk oracle inner (top_items oracle (file_tree found))))
@@ -147,7 +146,7 @@ outline_opened : (oracle : Oracle) (s : State) (site : Site) (item : ItemNode) (
 outline_opened oracle s site item name vis (Ok found) = found_opened oracle s site item name vis found (tree_cfg oracle (file_tree found))
 outline_opened oracle s site item name vis (Err files) =
     let opened = added_opened (reported s (diagnostic site item (UnresolvedModule files))) site name vis _ [] (λ targets own. tt) tt in
-    record { content = opened.content; targets = opened.targets; partial = opened.partial; larger = opened.larger; imports = opened.imports; tasks = opened.tasks; plain = opened.plain }
+    record { content = opened.content; targets = opened.targets; larger = opened.larger; imports = opened.imports; tasks = opened.tasks; plain = opened.plain }
 
 contents_opened : (oracle : Oracle) (s : State) (site : Site) (item : ItemNode) (name : Name) (vis : Visibility) (contents : ModContents) → IsOpened s site (module_item oracle s site item name vis contents)
 contents_opened oracle s site item name vis (Inline children) =
@@ -164,9 +163,8 @@ module _ (oracle : Oracle) (s : State) (site : Site) (item : ItemNode) where
       (record {
         content = refl;
         targets = refl;
-        partial = refl;
         larger = larger_with_module s.map site.scope.index (declared_in (d does.0));
-        imports = λ p h. inl h;
+        imports = λ d h. inl h;
         tasks = λ targets even at. (put_own s site known.state.map targets None refl at, tt);
         plain = (refl, tt);
       })
@@ -179,24 +177,24 @@ module _ (oracle : Oracle) (s : State) (site : Site) (item : ItemNode) where
   ctor_plain name d vis None = tt
   ctor_plain name d vis (Some ctor) = (refl, tt)
 
-  pending_at : (id : UseId) (raw : RawVisibility) (imports : List UseImport) (p : PendingImport) → Contains (pending_imports site item id raw imports) p → p.scope ≡ site.scope
-  pending_at id raw [] p h = absurd (none_in p h)
-  pending_at id raw (x ∷ xs) p h =
-      elim (in_cases (record { scope = site.scope; position = position_of site item; use_id = id; import = x; vis = raw; is_prelude = is_prelude_import item.attrs }) (pending_imports site item id raw xs) p h) [
-        | inl here ↦ ap (λ (q : PendingImport). q.scope) here
-        | inr later ↦ pending_at id raw xs p later
+  new_at : (id : UseId) (raw : RawVisibility) (imports : List UseImport) (d : ImportDirective) → Contains (new_imports site item id raw imports) d → d.import.scope ≡ site.scope
+  new_at id raw [] d h = absurd (none_in d h)
+  new_at id raw (x ∷ xs) d h =
+      elim (in_cases (record { import = record { scope = site.scope; position = position_of site item; use_id = id; written = x; vis = raw; is_prelude = is_prelude_import item.attrs }; recorded = no_namespaces }) (new_imports site item id raw xs) d h) [
+        | inl here ↦ ap (λ (q : ImportDirective). q.import.scope) here
+        | inr later ↦ new_at id raw xs d later
       ]
 
   -- a change of a module's data
   noted_opened : (t : State) (i : ℕ) (f : ModuleState → ModuleState) → t ≡ record s { map = with_module s.map i f } → IsOpened s site (record { state = t; tasks = []; events = [] })
   noted_opened t i f is =
       opened_known s site _ (record { state = record s { map = with_module s.map i f }; tasks = []; events = [] }) (ap (λ x. record { state = x; tasks = []; events = [] }) is)
-      (same_opened s site (record s { map = with_module s.map i f }) refl refl refl (larger_with_module s.map i f) (λ p h. inl h))
+      (same_opened s site (record s { map = with_module s.map i f }) refl refl (larger_with_module s.map i f) (λ p h. inl h))
 
   -- an extern crate is put by its name, or its name is remembered
   crate_opened : (id : ExternCrateId) (name : Option Name) (vis : Visibility) (found : Option ModuleId) → IsOpened s site (crate_effect (noted_in s site.scope (with_extern_crate id)) site item id name vis found)
-  crate_opened id None vis None = same_opened s site _ refl refl refl (larger_with_module s.map site.scope.index (with_extern_crate id)) (λ p h. inl h)
-  crate_opened id (Some name) vis None = same_opened s site _ refl refl refl (larger_with_module s.map site.scope.index (with_extern_crate id)) (λ p h. inl h)
+  crate_opened id None vis None = same_opened s site _ refl refl (larger_with_module s.map site.scope.index (with_extern_crate id)) (λ p h. inl h)
+  crate_opened id (Some name) vis None = same_opened s site _ refl refl (larger_with_module s.map site.scope.index (with_extern_crate id)) (λ p h. inl h)
   crate_opened id name vis (Some root) = at (is_crate_root site.scope)
     where
       t : State
@@ -206,18 +204,16 @@ module _ (oracle : Oracle) (s : State) (site : Site) (item : ItemNode) where
       at false = record {
         content = refl;
         targets = refl;
-        partial = refl;
         larger = larger_with_module s.map site.scope.index (with_extern_crate id);
-        imports = λ p h. inl h;
+        imports = λ d h. inl h;
         tasks = λ targets even own. (put_own s site t.map targets (Some (ByCrate id)) refl own, tt);
         plain = (refl, tt);
       }
       at true = record {
         content = refl;
         targets = refl;
-        partial = refl;
         larger = larger_with_module s.map site.scope.index (with_extern_crate id);
-        imports = λ p h. inl h;
+        imports = λ d h. inl h;
         tasks = λ targets even own. (put_own s site t.map targets (Some (ByCrate id)) refl own, tt);
         plain = (refl, tt);
       }
@@ -226,10 +222,10 @@ module _ (oracle : Oracle) (s : State) (site : Site) (item : ItemNode) where
   follows_opened (opens_module name raw contents) effect does = opened_known s site effect _ does (contents_opened oracle s site item name _ contents)
   follows_opened (queues raw imports) effect does =
       let id : UseId = record { 0 = does.0 } in
-      let t : State = record s { imports = s.imports ++ pending_imports site item id raw imports } in
+      let t : State = record s { imports = s.imports ++ new_imports site item id raw imports } in
       opened_known s site effect _ does.2
-      (same_opened s site t refl refl refl (larger_refl s.map)
-      (λ p h. elim (Contains-append_cases s.imports (pending_imports site item id raw imports) p h) [ inl old ↦ inl old | inr new ↦ inr (pending_at id raw imports p new) ]))
+      (same_opened s site t refl refl (larger_refl s.map)
+      (λ p h. elim (Contains-append_cases s.imports (new_imports site item id raw imports) p h) [ inl old ↦ inl old | inr new ↦ inr (new_at id raw imports p new) ]))
   follows_opened (binds_crate name raw alias) effect does = opened_known s site effect _ does.2 (crate_opened (record { 0 = does.0 }) (crate_name name alias) (written_vis oracle s site.scope raw) (named_crate s name))
   follows_opened (opens_block children) effect does =
       let id : ExternBlockId = record { 0 = does.0 } in
@@ -239,9 +235,8 @@ module _ (oracle : Oracle) (s : State) (site : Site) (item : ItemNode) where
       (record {
         content = refl;
         targets = refl;
-        partial = refl;
         larger = larger_with_module s.map site.scope.index (with_extern_block id);
-        imports = λ p h. inl h;
+        imports = λ d h. inl h;
         tasks = λ targets even at. own_walk oracle known.state.map targets inner children at;
         plain = plain_walk oracle inner children;
       })
@@ -254,9 +249,8 @@ module _ (oracle : Oracle) (s : State) (site : Site) (item : ItemNode) where
       (record {
         content = refl;
         targets = refl;
-        partial = refl;
         larger = larger_with_module s.map site.scope.index (declared_in d);
-        imports = λ p h. inl h;
+        imports = λ d h. inl h;
         tasks = λ targets even at. (put_own s site known.state.map targets None refl at, ctor_own known.state.map targets name d vis (ctor_vis oracle s site.scope ctor) at);
         plain = (refl, ctor_plain name d vis (ctor_vis oracle s site.scope ctor));
       })
@@ -264,15 +258,15 @@ module _ (oracle : Oracle) (s : State) (site : Site) (item : ItemNode) where
   follows_opened notes_const effect does = opened_known s site effect _ does.2 (let f : ModuleState → ModuleState = with_unnamed_const (record { 0 = does.0 }) in noted_opened (noted_in s site.scope f) site.scope.index f refl)
 
 node_opened : (oracle : Oracle) (s : State) (site : Site) (id : ModItemId) (item : ItemNode) (cfg : Option CfgExpr) (effect : Effect) → VisitsNode oracle s site id item cfg effect → IsOpened s site effect
-node_opened oracle s site id item (Some cfg) effect does = opened_known s site effect _ does (same_opened s site _ refl refl refl (larger_refl s.map) (λ p h. inl h))
+node_opened oracle s site id item (Some cfg) effect does = opened_known s site effect _ does (same_opened s site _ refl refl (larger_refl s.map) (λ p h. inl h))
 node_opened oracle s site id item None effect does =
     let opened = follows_opened oracle (record s { session = does.0 }) site item (rule_of item.kind) effect does.2 in
-    record { content = opened.content; targets = opened.targets; partial = opened.partial; larger = opened.larger; imports = opened.imports; tasks = opened.tasks; plain = opened.plain }
+    record { content = opened.content; targets = opened.targets; larger = opened.larger; imports = opened.imports; tasks = opened.tasks; plain = opened.plain }
 
 at_opened : (oracle : Oracle) (s : State) (site : Site) (id : ModItemId) (item : Option ItemNode) (effect : Effect) → VisitsAt oracle s site id item effect → IsOpened s site effect
-at_opened oracle s site id None effect does = opened_known s site effect _ does (same_opened s site s refl refl refl (larger_refl s.map) (λ p h. inl h))
+at_opened oracle s site id None effect does = opened_known s site effect _ does (same_opened s site s refl refl (larger_refl s.map) (λ p h. inl h))
 at_opened oracle s site id (Some item) effect does = node_opened oracle s site id item (disabled_by item.attrs) effect does
 
--- a visit leaves the table, what globs were recorded with and the partial imports, and stays within the map
+-- a visit leaves the table and what globs were recorded with, and stays within the map
 pub visits_opened : (oracle : Oracle) (s : State) (site : Site) (id : ModItemId) (effect : Effect) → Visits oracle s site id effect → IsOpened s site effect
 visits_opened oracle s site id effect does = at_opened oracle s site id (node_at oracle site.tree id) effect does

@@ -32,7 +32,7 @@ use Rattle.def_globs.specs.Waves.{def_at, def_or}
 use Rattle.def_globs.proofs.AddingLaws.{in_with_edge}
 use Rattle.def_laws.specs.Own.{AreOwn, AreOwnTasks, IsOwn, IsOwnTask, IsRecorded}
 use Rattle.def_rules.specs.Globs.{Targets}
-use Rattle.def_rules.specs.State.{PartialImport, PendingImport, Task, Enter, Visit, Put, AddEdge}
+use Rattle.def_rules.specs.State.{ImportDirective, Task, Enter, Visit, Put, AddEdge}
 use Rattle.def_laws.proofs.LargerLaws.{own_larger}
 use Rattle.def_laws.proofs.SoundLaws.{IsLarger}
 
@@ -53,14 +53,12 @@ module _ (m m' : MapState) (targets targets' : Targets) (larger : IsLarger m m')
   tasks_stay (task ∷ tasks) own = (task_stays task own.0, tasks_stay tasks own.1)
 
   -- so does a table, with the imports that are left or that a module of the map has
-  pub own_stays : (c : Content Visibility) (q q' : List PendingImport) (r r' : List PartialImport)
-      → ((p : PendingImport) → Contains q' p → Contains q p ⊎ IsOwn m p.scope) → ((p : PartialImport) → Contains r' p → Contains r p ⊎ IsOwn m p.pending.scope)
-      → AreOwn m targets c q r → AreOwn m' targets' c q' r'
-  own_stays c q q' r r' waiting kept own = record {
+  pub own_stays : (c : Content Visibility) (q q' : List ImportDirective) → ((d : ImportDirective) → Contains q' d → Contains q d ⊎ IsOwn m d.import.scope)
+      → AreOwn m targets c q → AreOwn m' targets' c q'
+  own_stays c q q' left own = record {
     even = larger.even own.even;
     lower = larger.lower own.lower;
-    imports = λ p h. own_larger m m' p.scope larger (elim (waiting p h) [ inl old ↦ own.imports p old | inr new ↦ new ]);
-    partial = λ p h. own_larger m m' p.pending.scope larger (elim (kept p h) [ inl old ↦ own.partial p old | inr new ↦ new ]);
+    imports = λ d h. own_larger m m' d.import.scope larger (elim (left d h) [ inl old ↦ own.imports d old | inr new ↦ new ]);
     bound = λ at slot b. own_larger m m' at larger (own.bound at slot b);
     edges = λ source index edge h. let e = own.edges source index edge h in (own_larger m m' edge.importer larger e.0, stay edge.glob e.1);
     globs = λ at name ns glob h. stay glob (own.globs at name ns glob h);
@@ -136,14 +134,13 @@ bound_before o at (Some slot) offer c n y h =
       ]
     ]
 
-module _ (m : MapState) (targets : Targets) (o : Order Visibility) (c : Content Visibility) (q : List PendingImport) (r : List PartialImport) (own : AreOwn m targets c q r) where
+module _ (m : MapState) (targets : Targets) (o : Order Visibility) (c : Content Visibility) (q : List ImportDirective) (own : AreOwn m targets c q) where
   -- an entry is put in a module of the map
-  pub own_put : (at : ModuleId) (entry : Entry Visibility) → IsOwnTask m targets (Put at entry) → AreOwn m targets (put_entry o at entry c) q r
+  pub own_put : (at : ModuleId) (entry : Entry Visibility) → IsOwnTask m targets (Put at entry) → AreOwn m targets (put_entry o at entry c) q
   own_put at entry here = record {
     even = own.even;
     lower = own.lower;
     imports = own.imports;
-    partial = own.partial;
     bound = λ n slot h. elim (bound_before o at (slot_of entry) (offered entry) c n slot h) [ inl old ↦ own.bound n slot old | inr new ↦ subst (λ x. IsOwn m x) (sym new) here.0 ];
     edges = λ source index edge h. own.edges source index edge (ap (λ (es : ModuleId → List (EdgeTo Visibility)). slice_get (es source) index) (sym (edges_put o at (slot_of entry) (offered entry) c)) ∙ h);
     globs = λ n name ns glob h. elim (globs_puts o at (entry ∷ []) c n name ns glob h) [
@@ -154,12 +151,11 @@ module _ (m : MapState) (targets : Targets) (o : Order Visibility) (c : Content 
   }
 
   -- an edge is added to one
-  pub own_edge : (source : ModuleId) (edge : EdgeTo Visibility) → IsOwn m edge.importer × IsRecorded targets edge.glob → AreOwn m targets (with_recorded o c source edge) q r
+  pub own_edge : (source : ModuleId) (edge : EdgeTo Visibility) → IsOwn m edge.importer × IsRecorded targets edge.glob → AreOwn m targets (with_recorded o c source edge) q
   own_edge source edge here = record {
     even = own.even;
     lower = own.lower;
     imports = own.imports;
-    partial = own.partial;
     bound = λ n slot h. own.bound n slot (h.0, by_slot n slot h.0 h.1);
     edges = λ n index e h. elim (in_with_edge c source (joined o (edge_to (c.edges source) edge.importer) edge) n index e h) [
       | inl old ↦ own.edges n index e old
@@ -178,12 +174,11 @@ module _ (m : MapState) (targets : Targets) (o : Order Visibility) (c : Content 
       beside (Some old) is = let at = found_importer (c.edges source) edge.importer old is in own.edges source at.1.0 old at.1.1
 
   -- something is copied along an edge
-  pub own_copied : (source : ModuleId) (index : ℕ) (edge : EdgeTo Visibility) (slot : Slot) → slice_get (c.edges source) index ≡ Some edge → AreOwn m targets (copied o source edge slot c) q r
+  pub own_copied : (source : ModuleId) (index : ℕ) (edge : EdgeTo Visibility) (slot : Slot) → slice_get (c.edges source) index ≡ Some edge → AreOwn m targets (copied o source edge slot c) q
   own_copied source index edge slot there = record {
     even = own.even;
     lower = own.lower;
     imports = own.imports;
-    partial = own.partial;
     bound = λ n y h. elim (copy_cases o source edge slot c) [
       | inl still ↦ own.bound n y (subst (λ d. IsBound d n y) still.1.same h)
       | inr moved ↦ elim (cases_place edge.importer slot n y) [

@@ -16,9 +16,9 @@ use Rattle.def_paths.specs.declared.asked.ResolvePathResult.{ResolvePathResult}
 use Rattle.def_oracle.specs.Oracle.{Oracle}
 use Rattle.def_paths.specs.PerNs.{Item}
 use Rattle.def_rules.specs.Globs.{is_public}
-use Rattle.def_rules.specs.Imports.{bound_name, entry_of, given_set, is_foreign, is_full, keeps_ns, kept_after, kept_item, import_vis, name_by, named_entries, no_namespaces, reexported, taken_types, union}
+use Rattle.def_rules.specs.Imports.{bound_name, entry_of, given_set, is_foreign, is_full, keeps_ns, kept_after, kept_item, import_vis, name_by, named_entries, reexported, taken_types, union}
 use Rattle.def_rules.specs.Recording.{kept_list, record_tasks}
-use Rattle.def_rules.specs.State.{Event, Recorded, NsSet, PendingImport, PartialImport, State, Task, Put, order, put_each}
+use Rattle.def_rules.specs.State.{Event, Recorded, NsSet, Import, ImportDirective, State, Task, Put, order, put_each}
 use Rattle.def_laws.proofs.ComingLaws.{Covers, HasEach, HasSet, IsAhead, KeepsComing, has_ns, none_ahead}
 use Rattle.def_laws.proofs.ListLaws.{contains_cases}
 
@@ -64,65 +64,59 @@ still_coming : (content : Content Visibility) (tasks : List Task) → KeepsComin
 still_coming content tasks at name ns (inl bound) = inl bound
 still_coming content tasks at name ns (inr ahead) = absurd (none_ahead at name ns ahead)
 
--- no namespace is in the set that has none
-pub no_each : (content : Content Visibility) (tasks : List Task) (p : PendingImport) → HasEach content tasks p no_namespaces
-no_each content tasks p name Types named kind has = cc
-no_each content tasks p name Values named kind has = cc
-no_each content tasks p name Macros named kind has = cc
-
 one_listed : (keeps : Bool) (entry : Entry Visibility) (name : Name) (ns : Namespace) → keeps ≡ true → entry.name ≡ Some name → entry.ns ≡ ns → IsListed (cond keeps (entry ∷ []) []) name ns
 one_listed true entry name ns kept named within = record { entry = entry; listed = Contains-push [] entry; named = named; within = within }
 one_listed false entry name ns kept named within = absurd cc
 
-module _ (o : Order Visibility) (p : PendingImport) (vis : Visibility) (answer : ResolvePathResult) where
-  entry_listed : (name : Name) (ns : Namespace) (item : Option Item) → is_foreign answer ≡ false → keeps_ns p.import.kind ns ≡ true → is_some item ≡ true
+module _ (o : Order Visibility) (p : Import) (vis : Visibility) (answer : ResolvePathResult) where
+  entry_listed : (name : Name) (ns : Namespace) (item : Option Item) → is_foreign answer ≡ false → keeps_ns p.written.kind ns ≡ true → is_some item ≡ true
       → IsListed (entry_of o p vis (Some name) ns (kept_item answer item)) name ns
   entry_listed name ns None own kind given = cc
   entry_listed name ns (Some i) own kind given =
       subst (λ x. IsListed (entry_of o p vis (Some name) ns x) name ns) (sym (kept_own answer (Some i) own))
-      (one_listed (keeps_ns p.import.kind ns) _ name ns kind refl refl)
+      (one_listed (keeps_ns p.written.kind ns) _ name ns kind refl refl)
 
-  types_listed : (name : Name) (item : Option Item) → is_foreign answer ≡ false → keeps_ns p.import.kind Types ≡ true → is_some item ≡ true
-      → IsListed (entry_of o p vis (Some name) Types (option_map (reexported p.import.path vis) (kept_item answer item))) name Types
+  types_listed : (name : Name) (item : Option Item) → is_foreign answer ≡ false → keeps_ns p.written.kind Types ≡ true → is_some item ≡ true
+      → IsListed (entry_of o p vis (Some name) Types (option_map (reexported p.written.path vis) (kept_item answer item))) name Types
   types_listed name None own kind given = cc
   types_listed name (Some i) own kind given =
-      subst (λ x. IsListed (entry_of o p vis (Some name) Types (option_map (reexported p.import.path vis) x)) name Types) (sym (kept_own answer (Some i) own))
-      (one_listed (keeps_ns p.import.kind Types) _ name Types kind refl refl)
+      subst (λ x. IsListed (entry_of o p vis (Some name) Types (option_map (reexported p.written.path vis) x)) name Types) (sym (kept_own answer (Some i) own))
+      (one_listed (keeps_ns p.written.kind Types) _ name Types kind refl refl)
 
   -- each namespace that an import's path gives has an entry
-  given_listed : (name : Name) (ns : Namespace) → is_foreign answer ≡ false → keeps_ns p.import.kind ns ≡ true → has_ns (given_set answer.resolved_def) ns ≡ true
+  given_listed : (name : Name) (ns : Namespace) → is_foreign answer ≡ false → keeps_ns p.written.kind ns ≡ true → has_ns (given_set answer.resolved_def) ns ≡ true
       → IsListed (named_entries o p vis answer (Some (Some name))) name ns
   given_listed name Types own kind given = listed_left _ _ name Types (types_listed name answer.resolved_def.types own kind given)
   given_listed name Values own kind given =
-      listed_right (entry_of o p vis (Some name) Types (taken_types p.import.path vis answer)) _ name Values (listed_left _ _ name Values (entry_listed name Values answer.resolved_def.values own kind given))
+      listed_right (entry_of o p vis (Some name) Types (taken_types p.written.path vis answer)) _ name Values (listed_left _ _ name Values (entry_listed name Values answer.resolved_def.values own kind given))
   given_listed name Macros own kind given =
-      listed_right (entry_of o p vis (Some name) Types (taken_types p.import.path vis answer)) _ name Macros
+      listed_right (entry_of o p vis (Some name) Types (taken_types p.written.path vis answer)) _ name Macros
       (listed_right (entry_of o p vis (Some name) Values (kept_item answer answer.resolved_def.values)) _ name Macros (entry_listed name Macros answer.resolved_def.macros own kind given))
 
 -- each namespace that an import's path gives is to be put at the name that it binds
-abbrev pub IsAllAhead : List Task → PendingImport → ResolvePathResult → Type 0
+abbrev pub IsAllAhead : List Task → Import → ResolvePathResult → Type 0
 IsAllAhead tasks p answer =
-    (name : Name) (ns : Namespace) → bound_name p.import ≡ Some (Some name) → is_foreign answer ≡ false → keeps_ns p.import.kind ns ≡ true → has_ns (given_set answer.resolved_def) ns ≡ true
+    (name : Name) (ns : Namespace) → bound_name p.written ≡ Some (Some name) → is_foreign answer ≡ false → keeps_ns p.written.kind ns ≡ true → has_ns (given_set answer.resolved_def) ns ≡ true
     → IsAhead tasks p.scope name ns
 
 -- a named import puts all that its path gives
-named_ahead : (oracle : Oracle) (s : State) (p : PendingImport) (answer : ResolvePathResult) → IsAllAhead (record_tasks oracle s p answer kind.Plain ++ []) p answer
+named_ahead : (oracle : Oracle) (s : State) (p : Import) (answer : ResolvePathResult) → IsAllAhead (record_tasks oracle s p answer kind.Plain ++ []) p answer
 named_ahead oracle s p answer name ns named own keeps given =
     subst (λ n. IsAhead (put_each p.scope (named_entries (order s) p (import_vis oracle s p) answer n) ++ []) p.scope name ns) (sym named)
     (listed_ahead p.scope (named_entries (order s) p (import_vis oracle s p) answer (Some (Some name))) [] name ns (given_listed (order s) p (import_vis oracle s p) answer name ns own keeps given))
 
 -- so does each import, and a glob binds no name
-ahead_by : (oracle : Oracle) (s : State) (p : PendingImport) (answer : ResolvePathResult) (kind : ImportKind) → p.import.kind ≡ kind → IsAllAhead (record_tasks oracle s p answer kind ++ []) p answer
+ahead_by : (oracle : Oracle) (s : State) (p : Import) (answer : ResolvePathResult) (kind : ImportKind) → p.written.kind ≡ kind → IsAllAhead (record_tasks oracle s p answer kind ++ []) p answer
 ahead_by oracle s p answer kind.Plain is = named_ahead oracle s p answer
 ahead_by oracle s p answer kind.TypeOnly is = named_ahead oracle s p answer
 ahead_by oracle s p answer kind.Glob is = λ name ns named own keeps given.
-    let wrong : None ≡ Some (Some name) = sym (ap (λ k. name_by k p.import.alias p.import.path.segments) is) ∙ named in absurd cc
+    let wrong : None ≡ Some (Some name) = sym (ap (λ k. name_by k p.written.alias p.written.path.segments) is) ∙ named in absurd cc
 
 -- each namespace that an import's path gives is to be put at the name that it binds
-pub all_ahead : (oracle : Oracle) (s : State) (p : PendingImport) (answer : ResolvePathResult) → IsAllAhead (record_tasks oracle s p answer p.import.kind ++ []) p answer
-all_ahead oracle s p answer = ahead_by oracle s p answer p.import.kind refl
+pub all_ahead : (oracle : Oracle) (s : State) (p : Import) (answer : ResolvePathResult) → IsAllAhead (record_tasks oracle s p answer p.written.kind ++ []) p answer
+all_ahead oracle s p answer = ahead_by oracle s p answer p.written.kind refl
 
-module _ (p : PendingImport) (answer : ResolvePathResult) (tasks : List Task) (ahead : IsAllAhead tasks p answer) where
+module _ (p : Import) (answer : ResolvePathResult) (tasks : List Task) (ahead : IsAllAhead tasks p answer) where
   -- what was recorded before and is recorded now is bound or to be put
   each_union : (content : Content Visibility) (recorded : NsSet) → is_foreign answer ≡ false → HasEach content [] p recorded
       → HasEach content tasks p (union recorded (given_set answer.resolved_def))
@@ -132,53 +126,53 @@ module _ (p : PendingImport) (answer : ResolvePathResult) (tasks : List Task) (a
         | inr now ↦ inr (ahead name ns named own kind now)
       ]
 
--- an import of its own crate that lacks a namespace stays partial
-stays_partial : (p : PendingImport) (set : NsSet) (foreign full : Bool) → foreign ≡ false → full ≡ false → Contains (kept_list p (cond foreign None (cond full None (Some set)))) (record { pending = p; recorded = set })
-stays_partial p set true full own lacks = absurd cc
-stays_partial p set false true own lacks = absurd cc
-stays_partial p set false false own lacks = Contains-push [] (record { pending = p; recorded = set })
+-- an import of its own crate that lacks a namespace stays indeterminate
+stays_kept : (p : Import) (set : NsSet) (foreign full : Bool) → foreign ≡ false → full ≡ false → Contains (kept_list p (cond foreign None (cond full None (Some set)))) (record { import = p; recorded = set })
+stays_kept p set true full own lacks = absurd cc
+stays_kept p set false true own lacks = absurd cc
+stays_kept p set false false own lacks = Contains-push [] (record { import = p; recorded = set })
 
--- what stays partial is of its own crate, and has this set
-in_kept : (p : PendingImport) (set : NsSet) (x : PartialImport) (foreign full : Bool) → Contains (kept_list p (cond foreign None (cond full None (Some set)))) x → (foreign ≡ false) × (record { pending = p; recorded = set } ≡ x)
+-- what stays is of its own crate, and has this set
+in_kept : (p : Import) (set : NsSet) (x : ImportDirective) (foreign full : Bool) → Contains (kept_list p (cond foreign None (cond full None (Some set)))) x → (foreign ≡ false) × (record { import = p; recorded = set } ≡ x)
 in_kept p set x true full h = let none = h.1 in absurd (omega arith)
 in_kept p set x false true h = let none = h.1 in absurd (omega arith)
 in_kept p set x false false h =
-    elim (contains_cases (record { pending = p; recorded = set }) x [] h) [
+    elim (contains_cases (record { import = p; recorded = set }) x [] h) [
       | inl same ↦ (refl, same)
       | inr none ↦ let wrong = none.1 in absurd (omega arith)
     ]
 
-module _ (p : PendingImport) (answer : ResolvePathResult) (tasks_now : List Task) (ahead : IsAllAhead tasks_now p answer) (recorded : NsSet) (partial rest : List PartialImport) (content : Content Visibility) (events : List Event) (each : HasEach content [] p recorded)
-    (old : (x : PartialImport) → Contains partial x → (p ≡ x.pending) ⊎ Contains rest x) (back : (x : PartialImport) → Contains rest x → Contains partial x) (all : Covers partial content [] events) where
+module _ (p : Import) (answer : ResolvePathResult) (tasks_now : List Task) (ahead : IsAllAhead tasks_now p answer) (recorded : NsSet) (imports rest : List ImportDirective) (content : Content Visibility) (events : List Event) (each : HasEach content [] p recorded)
+    (old : (x : ImportDirective) → Contains imports x → (p ≡ x.import) ⊎ Contains rest x) (back : (x : ImportDirective) → Contains rest x → Contains imports x) (all : Covers imports content [] events) where
   abbrev both : NsSet
   both = union recorded (given_set answer.resolved_def)
 
-  abbrev partial_now : List PartialImport
-  partial_now = rest ++ kept_list p (kept_after recorded answer)
+  abbrev imports_now : List ImportDirective
+  imports_now = rest ++ kept_list p (kept_after recorded answer)
 
   abbrev events_now : List Event
   events_now = events ++ Recorded p (is_foreign answer) ∷ []
 
   -- what an import is once it was recorded
-  abbrev IsRecorded : PendingImport → Type 0
-  IsRecorded q = Contains events_now (Recorded q true) ⊎ HasSet partial_now content tasks_now q
+  abbrev IsRecorded : Import → Type 0
+  IsRecorded q = Contains events_now (Recorded q true) ⊎ HasSet imports_now content tasks_now q
 
-  stays_now : (full : Bool) → is_foreign answer ≡ false → is_full both ≡ full → (is_full both ≡ true) ⊎ Contains partial_now (record { pending = p; recorded = both })
+  stays_now : (full : Bool) → is_foreign answer ≡ false → is_full both ≡ full → (is_full both ≡ true) ⊎ Contains imports_now (record { import = p; recorded = both })
   stays_now true own is = inl is
-  stays_now false own is = inr (Contains-append_right rest (kept_list p (kept_after recorded answer)) _ (stays_partial p both (is_foreign answer) (is_full both) own is))
+  stays_now false own is = inr (Contains-append_right rest (kept_list p (kept_after recorded answer)) _ (stays_kept p both (is_foreign answer) (is_full both) own is))
 
   new_by : (foreign : Bool) → is_foreign answer ≡ foreign → IsRecorded p
   new_by true is = inl (subst (λ f. Contains (events ++ Recorded p f ∷ []) (Recorded p true)) (sym is) (Contains-push events (Recorded p true)))
   new_by false is = inr (record { set = both; stays = stays_now (is_full both) is refl; each = each_union p answer tasks_now ahead content recorded is each })
 
-  new : (q : PendingImport) → p ≡ q → IsRecorded q
+  new : (q : Import) → p ≡ q → IsRecorded q
   new q same = subst IsRecorded same (new_by (is_foreign answer) refl)
 
-  earlier : (q : PendingImport) → HasSet partial content [] q → IsRecorded q
+  earlier : (q : Import) → HasSet imports content [] q → IsRecorded q
   earlier q has =
       elim has.stays [
         | inl full ↦ inr (record { set = has.set; stays = inl full; each = keeps })
-        | inr stands ↦ elim (old (record { pending = q; recorded = has.set }) stands) [
+        | inr stands ↦ elim (old (record { import = q; recorded = has.set }) stands) [
           | inl same ↦ new q same
           | inr others ↦ inr (record { set = has.set; stays = inr (Contains-append_left rest (kept_list p (kept_after recorded answer)) _ others); each = keeps })
         ]
@@ -187,13 +181,13 @@ module _ (p : PendingImport) (answer : ResolvePathResult) (tasks_now : List Task
       keeps : HasEach content tasks_now q has.set
       keeps name ns named kind is = still_coming content tasks_now q.scope name ns (has.each name ns named kind is)
 
-  partly_now : (x : PartialImport) → Contains rest x ⊎ Contains (kept_list p (kept_after recorded answer)) x → HasEach content tasks_now x.pending x.recorded
-  partly_now x (inl others) = λ name ns named kind has. still_coming content tasks_now x.pending.scope name ns (all.partly x (back x others) name ns named kind has)
-  partly_now x (inr stays) =
+  left_now : (x : ImportDirective) → Contains rest x ⊎ Contains (kept_list p (kept_after recorded answer)) x → HasEach content tasks_now x.import x.recorded
+  left_now x (inl others) = λ name ns named kind has. still_coming content tasks_now x.import.scope name ns (all.left x (back x others) name ns named kind has)
+  left_now x (inr stays) =
       let same = in_kept p both x (is_foreign answer) (is_full both) stays in
-      subst (λ (y : PartialImport). HasEach content tasks_now y.pending y.recorded) same.1 (each_union p answer tasks_now ahead content recorded same.0 each)
+      subst (λ (y : ImportDirective). HasEach content tasks_now y.import y.recorded) same.1 (each_union p answer tasks_now ahead content recorded same.0 each)
 
-  recorded_now : (q : PendingImport) → Contains events (Recorded q false) ⊎ (Recorded p (is_foreign answer) ≡ Recorded q false) → IsRecorded q
+  recorded_now : (q : Import) → Contains events (Recorded q false) ⊎ (Recorded p (is_foreign answer) ≡ Recorded q false) → IsRecorded q
   recorded_now q (inl before) =
       elim (all.recorded q before) [
         | inl foreign ↦ inl (Contains-append_left events (Recorded p (is_foreign answer) ∷ []) (Recorded q true) foreign)
@@ -205,6 +199,6 @@ module _ (p : PendingImport) (answer : ResolvePathResult) (tasks_now : List Task
   pub covers-recorded : Covers (rest ++ kept_list p (kept_after recorded answer)) content tasks_now (events ++ Recorded p (is_foreign answer) ∷ [])
   covers-recorded =
       record {
-        partly = λ x stands. partly_now x (Contains-append_cases rest (kept_list p (kept_after recorded answer)) x stands);
+        left = λ x stands. left_now x (Contains-append_cases rest (kept_list p (kept_after recorded answer)) x stands);
         recorded = λ q happened. recorded_now q (Contains-push_cases events (Recorded p (is_foreign answer)) (Recorded q false) happened);
       }

@@ -20,7 +20,7 @@ use Rattle.def_modules.specs.Scopes.{declared_in, empty_module, with_child, with
 use Rattle.def_modules.specs.Updates.{update_at}
 use Rattle.def_parts.specs.Directories.{FoundFile}
 use Rattle.def_rules.specs.declared.diagnostics.DefDiagnosticKind.TheVariants.{UnresolvedModule}
-use Rattle.def_rules.specs.Recording.{ImportStep, of_pending, of_partial}
+use Rattle.def_rules.specs.Recording.{ImportStep}
 use Rattle.def_rules.specs.Items.{diagnostic, is_crate_root, node_at, noted_in, tree_cfg, written_vis}
 use Rattle.def_rules.specs.Modules.{add_module, file_tree, module_effect, module_item, outline_found, outline_item}
 use Rattle.def_rules.specs.ExternCrates.{crate_effect, crate_entry, crate_name, named_crate, naming_crate}
@@ -28,6 +28,7 @@ use Rattle.def_rules.specs.Rules.{VisitsAt, VisitsNode, Visits, Rule, Follows, r
 use Rattle.def_laws.specs.Finished.{NoneFailed}
 use Rattle.def_rules.specs.State.{State, Effect, followed_by, Moment, Site, Task, Enter, Visit, Put, reported, AddEdge}
 use Rattle.def_rules.specs.Steps.{Does, Reaches, Step, here, one, join, performs, copies, rearranges, records}
+use Rattle.def_laws.proofs.AddedLaws.{AddsNew, added_new, none_added}
 
 module _ {oracle : Oracle} where
   -- what holds of a moment with itself, of each step, and of two runs in a row where it holds of both, holds of all runs
@@ -71,7 +72,7 @@ none_failed-add_module s at name vis o none =
 -- what a rule that puts nothing leaves as it is
 pub record Leaves (s : State) (effect : Effect) : Type 0 where
   pub content : effect.state.content ≡ s.content
-  pub partial : effect.state.partial ≡ s.partial
+  pub imports : AddsNew s.imports effect.state.imports
   pub events : effect.events ≡ []
   pub none_failed : NoneFailed s.map → NoneFailed effect.state.map
 
@@ -79,12 +80,12 @@ leaves_known : (s : State) (effect known : Effect) → effect ≡ known → Leav
 leaves_known s effect known same leaves = subst (λ x. Leaves s x) (sym same) leaves
 
 -- a module that is added
-module_leaves : (s r : State) (site : Site) (name : Name) (vis : Visibility) (o : ModuleOrigin) (contents : List Task) → r.content ≡ s.content → r.partial ≡ s.partial → r.map ≡ s.map → Leaves s (module_effect r site name vis o contents)
+module_leaves : (s r : State) (site : Site) (name : Name) (vis : Visibility) (o : ModuleOrigin) (contents : List Task) → r.content ≡ s.content → r.imports ≡ s.imports → r.map ≡ s.map → Leaves s (module_effect r site name vis o contents)
 module_leaves s r site name vis o contents bound kept same =
-    record { content = bound; partial = kept; events = refl; none_failed = λ none. none_failed-add_module r site.scope name vis o (subst NoneFailed (sym same) none) }
+    record { content = bound; imports = subst (λ q. AddsNew s.imports q) (sym kept) (none_added s.imports); events = refl; none_failed = λ none. none_failed-add_module r site.scope name vis o (subst NoneFailed (sym same) none) }
 
 found_leaves : (oracle : Oracle) (s : State) (site : Site) (item : ItemNode) (name : Name) (vis : Visibility) (found : FoundFile) (cfg : Option CfgExpr) → Leaves s (outline_found oracle s site item name vis found cfg)
-found_leaves oracle s site item name vis found (Some cfg) = record { content = refl; partial = refl; events = refl; none_failed = λ none. none }
+found_leaves oracle s site item name vis found (Some cfg) = record { content = refl; imports = none_added s.imports; events = refl; none_failed = λ none. none }
 found_leaves oracle s site item name vis found None = module_leaves s s site name vis _ _ refl refl refl
 
 outline_leaves : (oracle : Oracle) (s : State) (site : Site) (item : ItemNode) (name : Name) (vis : Visibility) (found : Result FoundFile (List (List ℕ))) → Leaves s (outline_item oracle s site item name vis found)
@@ -97,51 +98,48 @@ contents_leave oracle s site item name vis Outline = outline_leaves oracle s sit
 
 -- an extern crate
 crate_leaves : (s : State) (site : Site) (item : ItemNode) (id : ExternCrateId) (name : Option Name) (vis : Visibility) (found : Option ModuleId) → Leaves s (crate_effect (noted_in s site.scope (with_extern_crate id)) site item id name vis found)
-crate_leaves s site item id None vis None = record { content = refl; partial = refl; events = refl; none_failed = λ none. none_failed-with_module s.map site.scope.index (with_extern_crate id) (λ d h. h) none }
-crate_leaves s site item id (Some name) vis None = record { content = refl; partial = refl; events = refl; none_failed = λ none. none_failed-with_module s.map site.scope.index (with_extern_crate id) (λ d h. h) none }
+crate_leaves s site item id None vis None = record { content = refl; imports = none_added s.imports; events = refl; none_failed = λ none. none_failed-with_module s.map site.scope.index (with_extern_crate id) (λ d h. h) none }
+crate_leaves s site item id (Some name) vis None = record { content = refl; imports = none_added s.imports; events = refl; none_failed = λ none. none_failed-with_module s.map site.scope.index (with_extern_crate id) (λ d h. h) none }
 crate_leaves s site item id name vis (Some root) = at (is_crate_root site.scope)
   where
     at : (named : Bool) → Leaves s (followed_by (naming_crate named name (record { root = root; by = Some id }) (noted_in s site.scope (with_extern_crate id))) (Put site.scope (crate_entry id name root vis) ∷ []))
-    at false = record { content = refl; partial = refl; events = refl; none_failed = λ none. none_failed-with_module s.map site.scope.index (with_extern_crate id) (λ d h. h) none }
-    at true = record { content = refl; partial = refl; events = refl; none_failed = λ none. none_failed-with_module s.map site.scope.index (with_extern_crate id) (λ d h. h) none }
+    at false = record { content = refl; imports = none_added s.imports; events = refl; none_failed = λ none. none_failed-with_module s.map site.scope.index (with_extern_crate id) (λ d h. h) none }
+    at true = record { content = refl; imports = none_added s.imports; events = refl; none_failed = λ none. none_failed-with_module s.map site.scope.index (with_extern_crate id) (λ d h. h) none }
 
 follows_leaves : (oracle : Oracle) (s : State) (site : Site) (item : ItemNode) (rule : Rule) (effect : Effect) → Follows oracle s site item rule effect → Leaves s effect
 follows_leaves oracle s site item (declares kind d ns name raw) effect does =
-    leaves_known s effect _ does.2 (record { content = refl; partial = refl; events = refl; none_failed = λ none. none_failed-declare s.map site.scope.index _ none })
+    leaves_known s effect _ does.2 (record { content = refl; imports = none_added s.imports; events = refl; none_failed = λ none. none_failed-declare s.map site.scope.index _ none })
 follows_leaves oracle s site item (declares_struct name raw ctor) effect does =
-    leaves_known s effect _ does.2 (record { content = refl; partial = refl; events = refl; none_failed = λ none. none_failed-declare s.map site.scope.index _ none })
+    leaves_known s effect _ does.2 (record { content = refl; imports = none_added s.imports; events = refl; none_failed = λ none. none_failed-declare s.map site.scope.index _ none })
 follows_leaves oracle s site item (opens_module name raw contents) effect does = leaves_known s effect _ does (contents_leave oracle s site item name _ contents)
 follows_leaves oracle s site item (opens_block children) effect does =
-    leaves_known s effect _ does.2 (record { content = refl; partial = refl; events = refl; none_failed = λ none. none_failed-with_module s.map site.scope.index (with_extern_block _) (λ d h. h) none })
+    leaves_known s effect _ does.2 (record { content = refl; imports = none_added s.imports; events = refl; none_failed = λ none. none_failed-with_module s.map site.scope.index (with_extern_block _) (λ d h. h) none })
 follows_leaves oracle s site item (queues raw imports) effect does =
-    leaves_known s effect _ does.2 (record { content = refl; partial = refl; events = refl; none_failed = λ none. none })
+    leaves_known s effect _ does.2 (record { content = refl; imports = added_new s.imports site item (record { 0 = does.0 }) raw imports; events = refl; none_failed = λ none. none })
 follows_leaves oracle s site item (binds_crate name raw alias) effect does = leaves_known s effect _ does.2 (crate_leaves s site item (record { 0 = does.0 }) (crate_name name alias) (written_vis oracle s site.scope raw) (named_crate s name))
 follows_leaves oracle s site item (notes_impl of_trait) effect does =
-    leaves_known s effect _ does.2 (record { content = refl; partial = refl; events = refl; none_failed = λ none. none_failed-with_module s.map site.scope.index (with_impl _ of_trait) (λ d h. h) none })
+    leaves_known s effect _ does.2 (record { content = refl; imports = none_added s.imports; events = refl; none_failed = λ none. none_failed-with_module s.map site.scope.index (with_impl _ of_trait) (λ d h. h) none })
 follows_leaves oracle s site item notes_const effect does =
-    leaves_known s effect _ does.2 (record { content = refl; partial = refl; events = refl; none_failed = λ none. none_failed-with_module s.map site.scope.index (with_unnamed_const _) (λ d h. h) none })
+    leaves_known s effect _ does.2 (record { content = refl; imports = none_added s.imports; events = refl; none_failed = λ none. none_failed-with_module s.map site.scope.index (with_unnamed_const _) (λ d h. h) none })
 
 node_leaves : (oracle : Oracle) (s : State) (site : Site) (id : ModItemId) (item : ItemNode) (cfg : Option CfgExpr) (effect : Effect) → VisitsNode oracle s site id item cfg effect → Leaves s effect
-node_leaves oracle s site id item (Some cfg) effect does = leaves_known s effect _ does (record { content = refl; partial = refl; events = refl; none_failed = λ none. none })
+node_leaves oracle s site id item (Some cfg) effect does = leaves_known s effect _ does (record { content = refl; imports = none_added s.imports; events = refl; none_failed = λ none. none })
 node_leaves oracle s site id item None effect does =
     let leaves = follows_leaves oracle (record s { session = does.0 }) site item (rule_of item.kind) effect does.2 in
-    record { content = leaves.content; partial = leaves.partial; events = leaves.events; none_failed = leaves.none_failed }
+    record { content = leaves.content; imports = leaves.imports; events = leaves.events; none_failed = leaves.none_failed }
 
 visits_leaves_at : (oracle : Oracle) (s : State) (site : Site) (id : ModItemId) (item : Option ItemNode) (effect : Effect) → VisitsAt oracle s site id item effect → Leaves s effect
-visits_leaves_at oracle s site id None effect does = leaves_known s effect _ does (record { content = refl; partial = refl; events = refl; none_failed = λ none. none })
+visits_leaves_at oracle s site id None effect does = leaves_known s effect _ does (record { content = refl; imports = none_added s.imports; events = refl; none_failed = λ none. none })
 visits_leaves_at oracle s site id (Some item) effect does = node_leaves oracle s site id item (disabled_by item.attrs) effect does
 
--- a visit leaves the table and the partial imports, and marks no name as failed
+-- a visit leaves the table and the imports of which something is recorded, and marks no name as failed
 pub visits_leaves : (oracle : Oracle) (s : State) (site : Site) (id : ModItemId) (effect : Effect) → Visits oracle s site id effect → Leaves s effect
 visits_leaves oracle s site id effect does = visits_leaves_at oracle s site id (node_at oracle site.tree id) effect does
 
 -- No name fails along a run
 
 import_none_failed : (oracle : Oracle) (s : State) (effect : Effect) → ImportStep oracle s effect → NoneFailed s.map → NoneFailed effect.state.map
-import_none_failed oracle s effect (of_pending pending rest recorded waits ready recording is) none =
-    subst (λ (e : Effect). NoneFailed e.state.map) (sym is) (subst (λ (e : Effect). NoneFailed e.state.map) (sym recording) none)
-import_none_failed oracle s effect (of_partial partial rest recorded waits ready recording is) none =
-    subst (λ (e : Effect). NoneFailed e.state.map) (sym is) (subst (λ (e : Effect). NoneFailed e.state.map) (sym recording) none)
+import_none_failed oracle s effect step none = subst (λ (e : Effect). NoneFailed e.state.map) (sym step.is) none
 
 does_none_failed : (oracle : Oracle) (s : State) (task : Task) (effect : Effect) → Does oracle s task effect → NoneFailed s.map → NoneFailed effect.state.map
 does_none_failed oracle s (Enter at directory) effect does none = subst (λ (e : Effect). NoneFailed e.state.map) (sym does) none

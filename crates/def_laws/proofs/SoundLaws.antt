@@ -31,7 +31,7 @@ use Rattle.def_laws.specs.Sound.{AreSound, order_in}
 use Rattle.def_rules.specs.Targets.{own_target, target_of}
 use Rattle.def_rules.specs.Globs.{Targets, is_among, with_def, with_target}
 use Rattle.def_laws.specs.Travels.{Travels}
-use Rattle.def_rules.specs.State.{PartialImport, PendingImport}
+use Rattle.def_rules.specs.State.{ImportDirective}
 use Rattle.def_laws.proofs.ChainsLaws.{sees_kept}
 
 -- a map with perhaps more modules
@@ -43,7 +43,7 @@ pub record IsLarger (m m' : MapState) : Type 0 where
   pub even : length m.parents ≡ length m.modules → length m'.parents ≡ length m'.modules
   pub lower : AreParentsLower m.parents → AreParentsLower m'.parents
 
-module _ {left_out : ModuleId → Bool} {m : MapState} {targets : Targets} {c : Content Visibility} {pending : List PendingImport} {recorded : List PartialImport} (own : AreOwn m targets c pending recorded) (sound : AreSound left_out m targets c) where
+module _ {left_out : ModuleId → Bool} {m : MapState} {targets : Targets} {c : Content Visibility} {directives : List ImportDirective} (own : AreOwn m targets c directives) (sound : AreSound left_out m targets c) where
   module _ {m' : MapState} (larger : IsLarger m m') where
     sees : (place : ModuleId) (vis : Visibility) → IsOwn m place → (order_in m').can_see place vis ≡ (order_in m).can_see place vis
     sees place vis at =

@@ -9,8 +9,8 @@ use Rattle.def_globs.proofs.ListLaws.{first_in, later_in, none_in, only_in}
 use Rattle.def_laws.specs.Own.{AreOwn, IsOwn, IsRecorded, Stands}
 use Rattle.def_laws.specs.Sound.{IsSound}
 use Rattle.def_rules.specs.Imports.{answer_now}
-use Rattle.def_rules.specs.Recording.{ImportStep, after_pending, after_partial, kept_list, new_prelude, record_effect, record_state, record_tasks, with_new_prelude, of_pending, of_partial}
-use Rattle.def_rules.specs.State.{State, Effect, Moment, NsSet, PartialImport, PendingImport, Task, Enter, Visit, Put, AddEdge, order}
+use Rattle.def_rules.specs.Recording.{ImportStep, after_import, kept_list, new_prelude, record_effect, record_state, record_tasks, with_new_prelude}
+use Rattle.def_rules.specs.State.{State, Effect, Moment, NsSet, ImportDirective, Import, Task, Enter, Visit, Put, AddEdge, order}
 use Rattle.def_rules.specs.Steps.{Does, Reaches, Step, performs, copies, rearranges, records}
 use Rattle.def_laws.proofs.LargerLaws.{larger_prelude, larger_refl, own_larger}
 use Rattle.def_laws.proofs.OpenedLaws.{visits_opened}
@@ -30,12 +30,11 @@ module _ (oracle : Oracle) (s : State) where
       let opened = visits_opened oracle s site id effect does in
       let stay : (g : _) → IsRecorded s.targets g → IsRecorded effect.state.targets g = λ g h. subst (λ t. IsRecorded t g) (sym opened.targets) h in
       let own : IsOwn effect.state.map site.scope = own_larger s.map effect.state.map site.scope opened.larger st.tasks.0 in
-      let state : AreOwn effect.state.map effect.state.targets s.content effect.state.imports s.partial =
-      own_stays s.map effect.state.map s.targets effect.state.targets opened.larger stay s.content s.imports effect.state.imports s.partial s.partial
-      (λ p h. elim (opened.imports p h) [ inl old ↦ inl old | inr new ↦ inr (subst (λ x. IsOwn s.map x) (sym new) st.tasks.0) ]) (λ p h. inl h) st.state in
+      let state : AreOwn effect.state.map effect.state.targets s.content effect.state.imports =
+      own_stays s.map effect.state.map s.targets effect.state.targets opened.larger stay s.content s.imports effect.state.imports
+      (λ d h. elim (opened.imports d h) [ inl old ↦ inl old | inr new ↦ inr (subst (λ x. IsOwn s.map x) (sym new) st.tasks.0) ]) st.state in
       record {
-        state = subst (λ c. AreOwn effect.state.map effect.state.targets c effect.state.imports effect.state.partial) (sym opened.content)
-            (subst (λ r. AreOwn effect.state.map effect.state.targets s.content effect.state.imports r) (sym opened.partial) state);
+        state = subst (λ c. AreOwn effect.state.map effect.state.targets c effect.state.imports) (sym opened.content) state;
         tasks = own_both effect.state.map effect.state.targets effect.tasks rest (opened.tasks effect.state.targets st.state.even own)
             (tasks_stay s.map effect.state.map s.targets effect.state.targets opened.larger stay rest st.tasks.1);
       }
@@ -44,73 +43,57 @@ module _ (oracle : Oracle) (s : State) where
   does_stands (Enter at directory) rest effect does st = subst (λ (e : Effect). Stands (e.tasks ++ rest) e.state) (sym does) (record { state = st.state; tasks = st.tasks.1 })
   does_stands (Visit site id) rest effect does st = visit_stands site id rest effect does st
   does_stands (Put at entry) rest effect does st =
-      subst (λ (e : Effect). Stands (e.tasks ++ rest) e.state) (sym does) (record { state = own_put s.map s.targets (order s) s.content s.imports s.partial st.state at entry st.tasks.0; tasks = st.tasks.1 })
+      subst (λ (e : Effect). Stands (e.tasks ++ rest) e.state) (sym does) (record { state = own_put s.map s.targets (order s) s.content s.imports st.state at entry st.tasks.0; tasks = st.tasks.1 })
   does_stands (AddEdge source edge) rest effect does st =
-      subst (λ (e : Effect). Stands (e.tasks ++ rest) e.state) (sym does) (record { state = own_edge s.map s.targets (order s) s.content s.imports s.partial st.state source edge st.tasks.0; tasks = st.tasks.1 })
+      subst (λ (e : Effect). Stands (e.tasks ++ rest) e.state) (sym does) (record { state = own_edge s.map s.targets (order s) s.content s.imports st.state source edge st.tasks.0; tasks = st.tasks.1 })
 
 -- the state in which an import was recorded, and its tasks
-pub recorded_stands : (oracle : Oracle) (u : State) (p : PendingImport) (answer : ResolvePathResult) → AreOwn u.map u.targets u.content u.imports u.partial → IsOwn u.map p.scope
+pub recorded_stands : (oracle : Oracle) (u : State) (p : Import) (answer : ResolvePathResult) → AreOwn u.map u.targets u.content u.imports → IsOwn u.map p.scope
     → (let effect = record_effect oracle u p answer in Stands effect.tasks effect.state)
 recorded_stands oracle u p answer own at =
     let now : State = record_state u p answer in
     let larger : IsLarger u.map now.map = larger_prelude (new_prelude p answer) u.map in
     record {
-      state = own_stays u.map now.map u.targets now.targets larger (record_stays oracle u p answer p.import.kind) u.content u.imports u.imports u.partial u.partial (λ p h. inl h) (λ p h. inl h) own;
-      tasks = tasks_stay u.map now.map now.targets now.targets larger (λ g h. h) (record_tasks oracle u p answer p.import.kind) (record_own oracle u p answer p.import.kind at);
+      state = own_stays u.map now.map u.targets now.targets larger (record_stays oracle u p answer p.written.kind) u.content u.imports u.imports (λ d h. inl h) own;
+      tasks = tasks_stay u.map now.map now.targets now.targets larger (λ g h. h) (record_tasks oracle u p answer p.written.kind) (record_own oracle u p answer p.written.kind at);
     }
 
 -- names stay sound in it
-recorded_sound : (oracle : Oracle) (u : State) (p : PendingImport) (answer : ResolvePathResult) {q : List PendingImport} {r : List PartialImport} → AreOwn u.map u.targets u.content q r → IsSound u
+recorded_sound : (oracle : Oracle) (u : State) (p : Import) (answer : ResolvePathResult) {q : List ImportDirective} → AreOwn u.map u.targets u.content q → IsSound u
     → IsSound (record_effect oracle u p answer).state
-recorded_sound oracle u p answer {q} {r} own sound =
+recorded_sound oracle u p answer {q} own sound =
     let m : MapState = with_new_prelude (new_prelude p answer) u.map in
     let larger : IsLarger u.map m = larger_prelude (new_prelude p answer) u.map in
     record_sound oracle (record u { map = m }) p answer
-    (own_stays u.map m u.targets u.targets larger (λ g h. h) u.content q q r r (λ p h. inl h) (λ p h. inl h) own)
-    (sound_larger own sound larger) p.import.kind
+    (own_stays u.map m u.targets u.targets larger (λ g h. h) u.content q q (λ d h. inl h) own)
+    (sound_larger own sound larger) p.written.kind
 
-kept_in : (p : PendingImport) (kept : Option NsSet) (x : PartialImport) → Contains (kept_list p kept) x → x.pending ≡ p
+kept_in : (p : Import) (kept : Option NsSet) (x : ImportDirective) → Contains (kept_list p kept) x → x.import ≡ p
 kept_in p None x h = absurd (none_in x h)
-kept_in p (Some recorded) x h = ap (λ (y : PartialImport). y.pending) (only_in (record { pending = p; recorded = recorded }) x h)
+kept_in p (Some recorded) x h = ap (λ (y : ImportDirective). y.import) (only_in (record { import = p; recorded = recorded }) x h)
 
--- the state without an import that is recorded
-pub pending_own : (s : State) (p : PendingImport) (rest : List PendingImport) (answer : ResolvePathResult) → IsOwn s.map p.scope → ((x : PendingImport) → Contains rest x → Contains s.imports x)
-    → AreOwn s.map s.targets s.content s.imports s.partial → (let u = after_pending s p rest answer in AreOwn u.map u.targets u.content u.imports u.partial)
-pending_own s p rest answer at left own =
-    own_stays s.map s.map s.targets s.targets (larger_refl s.map) (λ g h. h) s.content s.imports rest s.partial _ (λ x h. inl (left x h))
-    (λ x h. elim (Contains-append_cases s.partial (kept_list p _) x h) [ inl old ↦ inl old | inr new ↦ inr (subst (λ y. IsOwn s.map y.scope) (sym (kept_in p _ x new)) at) ]) own
-
-pub partial_own : (s : State) (p : PartialImport) (rest : List PartialImport) (answer : ResolvePathResult) → IsOwn s.map p.pending.scope → ((x : PartialImport) → Contains rest x → Contains s.partial x)
-    → AreOwn s.map s.targets s.content s.imports s.partial → (let u = after_partial s p rest answer in AreOwn u.map u.targets u.content u.imports u.partial)
-partial_own s p rest answer at left own =
-    own_stays s.map s.map s.targets s.targets (larger_refl s.map) (λ g h. h) s.content s.imports s.imports s.partial _ (λ x h. inl h)
-    (λ x h. elim (Contains-append_cases rest (kept_list p.pending _) x h) [ inl old ↦ inl (left x old) | inr new ↦ inr (subst (λ y. IsOwn s.map y.scope) (sym (kept_in p.pending _ x new)) at) ]) own
+-- the state without an import that is recorded, or with it
+pub import_own : (s : State) (d : ImportDirective) (rest : List ImportDirective) (answer : ResolvePathResult) → IsOwn s.map d.import.scope → ((x : ImportDirective) → Contains rest x → Contains s.imports x)
+    → AreOwn s.map s.targets s.content s.imports → (let u = after_import s d rest answer in AreOwn u.map u.targets u.content u.imports)
+import_own s d rest answer at left own =
+    own_stays s.map s.map s.targets s.targets (larger_refl s.map) (λ g h. h) s.content s.imports _
+    (λ x h. elim (Contains-append_cases rest (kept_list d.import _) x h) [ inl old ↦ inl (left x old) | inr new ↦ inr (subst (λ y. IsOwn s.map y.scope) (sym (kept_in d.import _ x new)) at) ]) own
 
 -- an import is recorded
-pub import_stands : (oracle : Oracle) (s : State) (effect : Effect) → ImportStep oracle s effect → AreOwn s.map s.targets s.content s.imports s.partial → Stands effect.tasks effect.state
-import_stands oracle s effect (of_pending p rest recorded waits ready recording is) own =
-    let answer : ResolvePathResult = answer_now oracle s p in
-    let back = IsPermutation-sym s.imports (p ∷ rest) waits in
-    let at : IsOwn s.map p.scope = own.imports p (Contains-permutation (p ∷ rest) s.imports p back (first_in p rest)) in
-    let st = recorded_stands oracle (after_pending s p rest answer) p answer (pending_own s p rest answer at (λ x h. Contains-permutation (p ∷ rest) s.imports x back (later_in p rest x h)) own) at in
-    subst (λ (e : Effect). Stands e.tasks e.state) (sym is) (subst (λ (e : Effect). Stands e.tasks e.state) (sym recording) st)
-import_stands oracle s effect (of_partial p rest recorded waits ready recording is) own =
-    let answer : ResolvePathResult = answer_now oracle s p.pending in
-    let back = IsPermutation-sym s.partial (p ∷ rest) waits in
-    let at : IsOwn s.map p.pending.scope = own.partial p (Contains-permutation (p ∷ rest) s.partial p back (first_in p rest)) in
-    let st = recorded_stands oracle (after_partial s p rest answer) p.pending answer (partial_own s p rest answer at (λ x h. Contains-permutation (p ∷ rest) s.partial x back (later_in p rest x h)) own) at in
-    subst (λ (e : Effect). Stands e.tasks e.state) (sym is) (subst (λ (e : Effect). Stands e.tasks e.state) (sym recording) st)
+pub import_stands : (oracle : Oracle) (s : State) (effect : Effect) → ImportStep oracle s effect → AreOwn s.map s.targets s.content s.imports → Stands effect.tasks effect.state
+import_stands oracle s effect step own =
+    let d : ImportDirective = step.directive in
+    let answer : ResolvePathResult = answer_now oracle s d.import in
+    let back = IsPermutation-sym s.imports (d ∷ step.rest) step.stands in
+    let at : IsOwn s.map d.import.scope = own.imports d (Contains-permutation (d ∷ step.rest) s.imports d back (first_in d step.rest)) in
+    let st = recorded_stands oracle (after_import s d step.rest answer) d.import answer (import_own s d step.rest answer at (λ x h. Contains-permutation (d ∷ step.rest) s.imports x back (later_in d step.rest x h)) own) at in
+    subst (λ (e : Effect). Stands e.tasks e.state) (sym step.is) st
 
 -- names stay sound where an import is recorded
-pub import_sound : (oracle : Oracle) (s : State) (effect : Effect) → ImportStep oracle s effect → AreOwn s.map s.targets s.content s.imports s.partial → IsSound s → IsSound effect.state
-import_sound oracle s effect (of_pending p rest recorded waits ready recording is) own sound =
-    let answer : ResolvePathResult = answer_now oracle s p in
-    let u : State = after_pending s p rest answer in
-    subst (λ (e : Effect). IsSound e.state) (sym is) (subst (λ (e : Effect). IsSound e.state) (sym recording) (recorded_sound oracle u p answer own sound))
-import_sound oracle s effect (of_partial p rest recorded waits ready recording is) own sound =
-    let answer : ResolvePathResult = answer_now oracle s p.pending in
-    let u : State = after_partial s p rest answer in
-    subst (λ (e : Effect). IsSound e.state) (sym is) (subst (λ (e : Effect). IsSound e.state) (sym recording) (recorded_sound oracle u p.pending answer own sound))
+pub import_sound : (oracle : Oracle) (s : State) (effect : Effect) → ImportStep oracle s effect → AreOwn s.map s.targets s.content s.imports → IsSound s → IsSound effect.state
+import_sound oracle s effect step own sound =
+    let answer : ResolvePathResult = answer_now oracle s step.directive.import in
+    subst (λ (e : Effect). IsSound e.state) (sym step.is) (recorded_sound oracle (after_import s step.directive step.rest answer) step.directive.import answer own sound)
 
 -- a moment stands
 abbrev StandsAt : Moment → Type 0
@@ -121,15 +104,14 @@ step_stands {oracle} a b (performs task rest effect first does is) st =
     subst StandsAt (sym is) (does_stands oracle a.state task rest effect does (subst (λ tasks. Stands tasks a.state) first st))
 step_stands a b (copies content copy is) st =
     let s : State = a.state in
-    let own : AreOwn s.map s.targets content s.imports s.partial =
-    subst (λ c. AreOwn s.map s.targets c s.imports s.partial) (sym copy.after) (own_copied s.map s.targets (order s) s.content s.imports s.partial st.state copy.source copy.index copy.edge copy.slot copy.stands) in
+    let own : AreOwn s.map s.targets content s.imports =
+    subst (λ c. AreOwn s.map s.targets c s.imports) (sym copy.after) (own_copied s.map s.targets (order s) s.content s.imports st.state copy.source copy.index copy.edge copy.slot copy.stands) in
     subst StandsAt (sym is) (record { state = own; tasks = st.tasks })
 step_stands a b (rearranges state same is) st =
     let s : State = a.state in
-    let own : AreOwn s.map s.targets s.content state.imports state.partial =
-    own_stays s.map s.map s.targets s.targets (larger_refl s.map) (λ g h. h) s.content s.imports state.imports s.partial state.partial
-    (λ p h. inl (Contains-permutation state.imports s.imports p (IsPermutation-sym s.imports state.imports same.imports) h))
-    (λ p h. inl (Contains-permutation state.partial s.partial p (IsPermutation-sym s.partial state.partial same.partial) h)) st.state in
+    let own : AreOwn s.map s.targets s.content state.imports =
+    own_stays s.map s.map s.targets s.targets (larger_refl s.map) (λ g h. h) s.content s.imports state.imports
+    (λ d h. inl (Contains-permutation state.imports s.imports d (IsPermutation-sym s.imports state.imports same.imports) h)) st.state in
     subst StandsAt (sym is) (subst (Stands a.tasks) (sym same.rest) (record { state = own; tasks = st.tasks }))
 step_stands {oracle} a b (records effect idle step is) st =
     subst StandsAt (sym is) (subst (λ tasks. Stands tasks effect.state) (sym (append-nil effect.tasks)) (import_stands oracle a.state effect step st.state))

@@ -9,7 +9,7 @@ use Rattle.def_bindings.specs.Content.{Content}
 use Rattle.def_bindings.specs.Puts.{IsExplicit}
 use Rattle.def_bindings.specs.PutsLaws.{explicit_stays-put_entry, explicit_stays-copied}
 use Rattle.def_oracle.specs.Oracle.{Oracle}
-use Rattle.def_rules.specs.Recording.{ImportStep, of_pending, of_partial}
+use Rattle.def_rules.specs.Recording.{ImportStep}
 use Rattle.def_rules.specs.Settled.{ExplicitStays}
 use Rattle.def_rules.specs.State.{State, Effect, Moment, Task, Enter, Visit, Put, order, AddEdge}
 use Rattle.def_rules.specs.Steps.{Copies, Does, Reaches, Step, performs, copies, rearranges, records}
@@ -24,8 +24,7 @@ same_keeps old new same at name ns held there explicit = ap (λ (c : Content Vis
 
 -- a recorded import leaves the table as it is
 import_content : (oracle : Oracle) (s : State) (effect : Effect) → ImportStep oracle s effect → effect.state.content ≡ s.content
-import_content oracle s effect (of_pending pending rest recorded waits ready recording is) = ap (λ (e : Effect). e.state.content) is ∙ ap (λ (e : Effect). e.state.content) recording
-import_content oracle s effect (of_partial partial rest recorded waits ready recording is) = ap (λ (e : Effect). e.state.content) is ∙ ap (λ (e : Effect). e.state.content) recording
+import_content oracle s effect step = ap (λ (e : Effect). e.state.content) step.is
 
 -- a copy keeps explicit bindings
 pub copies_keep : (s : State) (content : Content Visibility) → Copies s content → KeepsExplicit s.content content

@@ -19,7 +19,7 @@ use Rattle.def_laws.specs.Sound.{AreSound, IsRaisedIn, IsSound, IsSoundWith}
 use Rattle.def_rules.specs.Targets.{leaves_out, target_of}
 use Rattle.def_laws.specs.Travels.{Travels}
 use Rattle.def_laws.specs.Performs.{Handled, IsDone, Performs, Updated}
-use Rattle.def_rules.specs.Recording.{ImportStep, of_pending, of_partial}
+use Rattle.def_rules.specs.Recording.{ImportStep}
 use Rattle.def_rules.specs.Items.{diagnostic, node_at}
 use Rattle.def_rules.specs.Rules.{VisitsAt, VisitsNode}
 use Rattle.def_rules.specs.State.{State, Effect, Site, Task, Enter, Visit, Rearranges, entered, only, order, put_each, reported, with_content}
@@ -39,10 +39,7 @@ raised_nowhere o c none importer slot source index edge at = absurd (let wrong :
 module _ {oracle : Oracle} where
   -- a place stays raised where an import is recorded
   import_raised : (s : State) (effect : Effect) → ImportStep oracle s effect → (importer : ModuleId) (slot : Slot) → IsRaisedIn s importer slot → IsRaisedIn effect.state importer slot
-  import_raised s effect (of_pending p rest recorded waits ready recording is) importer slot raised =
-      subst (λ (e : Effect). IsRaisedIn e.state importer slot) (sym is) (subst (λ (e : Effect). IsRaisedIn e.state importer slot) (sym recording) raised)
-  import_raised s effect (of_partial p rest recorded waits ready recording is) importer slot raised =
-      subst (λ (e : Effect). IsRaisedIn e.state importer slot) (sym is) (subst (λ (e : Effect). IsRaisedIn e.state importer slot) (sym recording) raised)
+  import_raised s effect step importer slot raised = subst (λ (e : Effect). IsRaisedIn e.state importer slot) (sym step.is) raised
 
   -- a run that takes no step
   pub leads_refl : (tasks : List Task) (s : State) → Leads oracle tasks s tasks s
@@ -93,7 +90,7 @@ module _ {oracle : Oracle} where
     raised = λ apart stands sound before importer slot kept raised. import_raised s effect step importer slot raised;
   }
 
-  -- the bags are put into another order
+  -- the imports are put into another order
   pub leads_rearranged : (tasks : List Task) (s t : State) → Rearranges s t → Leads oracle tasks s tasks t
   leads_rearranged tasks s t same = record {
     runs = λ before. (before, one (rearranges t same refl));
@@ -122,6 +119,14 @@ module _ {oracle : Oracle} where
   -- nothing is performed
   pub performs_none : (s : State) → Performs oracle [] s s
   performs_none s = record { runs = λ rest. runs_refl rest s; keeps = λ followed stands sound. sound; raised = λ rest stands sound before importer slot kept raised. raised }
+
+  -- the imports are put into another order
+  pub performs_rearranged : (s t : State) → Rearranges s t → Performs oracle [] s t
+  performs_rearranged s t same = record {
+    runs = λ rest before. (before, one (rearranges t same refl));
+    keeps = λ followed stands sound. subst IsSound (sym same.rest) sound;
+    raised = λ rest stands sound before importer slot kept raised. subst (λ x. IsRaisedIn x importer slot) (sym same.rest) raised;
+  }
 
   -- the directory of a walk is stored
   pub leads_enter : (at : ModuleId) (directory : Directory) (rest : List Task) (s : State) → Leads oracle (Enter at directory ∷ rest) s rest (entered s at directory)

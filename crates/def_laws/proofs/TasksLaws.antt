@@ -31,7 +31,7 @@ use Rattle.def_rules.specs.Targets.{leaves_out, own_module, target_of}
 use Rattle.def_rules.specs.Globs.{Targets, module_entries, variant_entries, with_target}
 use Rattle.def_rules.specs.Imports.{bound_name, entry_of, import_vis, keeps_ns, kept_item, named_entries, origin_of, taken_types}
 use Rattle.def_rules.specs.Recording.{edge_tasks, glob_def, glob_edge, glob_id, glob_tasks, is_own_crate, record_tasks, targets_after}
-use Rattle.def_rules.specs.State.{State, PendingImport, PartialImport, Task, AddEdge, order, put_each, world}
+use Rattle.def_rules.specs.State.{State, Import, ImportDirective, Task, AddEdge, order, put_each, world}
 use Rattle.def_laws.proofs.BroughtLaws.{module_by, variants_by}
 use Rattle.def_laws.proofs.OwnLaws.{StayRecorded, own_both}
 use Rattle.def_laws.proofs.SoundLaws.{sound_target}
@@ -39,10 +39,10 @@ use Rattle.def_laws.proofs.TargetsLaws.{followed_puts, own_module_is, own_puts, 
 
 -- An import that is recorded
 
-module _ (o : Order Visibility) (p : PendingImport) (vis : Visibility) where
+module _ (o : Order Visibility) (p : Import) (vis : Visibility) where
   named_by : (name : Option Name) (ns : Namespace) (item : Option Item) (e : Entry Visibility) → Contains (entry_of o p vis name ns item) e → e.origin ≡ Some (origin_of p)
   named_by name ns None e h = absurd (none_in e h)
-  named_by name ns (Some item) e h = in_cond (keeps_ns p.import.kind ns) h
+  named_by name ns (Some item) e h = in_cond (keeps_ns p.written.kind ns) h
     where
       made : Entry Visibility
       made = record { name = name; ns = ns; def = item.def; vis = lessened o item.vis vis; origin = Some (origin_of p) }
@@ -54,8 +54,8 @@ module _ (o : Order Visibility) (p : PendingImport) (vis : Visibility) where
   all_named : (answer : ResolvePathResult) (bound : Option (Option Name)) (e : Entry Visibility) → Contains (named_entries o p vis answer bound) e → e.origin ≡ Some (origin_of p)
   all_named answer None e h = absurd (none_in e h)
   all_named answer (Some name) e h =
-      elim (Contains-append_cases (entry_of o p vis name Types (taken_types p.import.path vis answer)) _ e h) [
-        | inl types ↦ named_by name Types (taken_types p.import.path vis answer) e types
+      elim (Contains-append_cases (entry_of o p vis name Types (taken_types p.written.path vis answer)) _ e h) [
+        | inl types ↦ named_by name Types (taken_types p.written.path vis answer) e types
         | inr rest ↦ elim (Contains-append_cases (entry_of o p vis name Values (kept_item answer answer.resolved_def.values)) _ e rest) [
           | inl values ↦ named_by name Values (kept_item answer answer.resolved_def.values) e values
           | inr macros ↦ named_by name Macros (kept_item answer answer.resolved_def.macros) e macros
@@ -150,19 +150,19 @@ module _ (oracle : Oracle) (u : State) (glob : EdgeTo Visibility) where
   glob_followed (Some (def.Builtin x)) = tt
   glob_followed (Some (def.Macro x)) = tt
 
-module _ (oracle : Oracle) (u : State) (p : PendingImport) (answer : ResolvePathResult) where
+module _ (oracle : Oracle) (u : State) (p : Import) (answer : ResolvePathResult) where
   -- what globs were recorded with once the import was recorded
   abbrev After : ImportKind → Targets
   After k = targets_after k (glob_id p) (glob_def p answer) u.targets
 
-  named_own : (targets : Targets) → IsOwn u.map p.scope → AreOwnTasks u.map targets (put_each p.scope (named_entries (order u) p (import_vis oracle u p) answer (bound_name p.import)))
-  named_own targets own = own_puts u.map targets p.scope _ own (λ e g listed by. absurd (none_by (order u) p (import_vis oracle u p) answer (bound_name p.import) e g listed by))
+  named_own : (targets : Targets) → IsOwn u.map p.scope → AreOwnTasks u.map targets (put_each p.scope (named_entries (order u) p (import_vis oracle u p) answer (bound_name p.written)))
+  named_own targets own = own_puts u.map targets p.scope _ own (λ e g listed by. absurd (none_by (order u) p (import_vis oracle u p) answer (bound_name p.written) e g listed by))
 
-  named_followed : (T : GlobId → Option ModuleId) → AreFollowed T (put_each p.scope (named_entries (order u) p (import_vis oracle u p) answer (bound_name p.import)))
+  named_followed : (T : GlobId → Option ModuleId) → AreFollowed T (put_each p.scope (named_entries (order u) p (import_vis oracle u p) answer (bound_name p.written)))
   named_followed T =
-      let list : List (Entry Visibility) = named_entries (order u) p (import_vis oracle u p) answer (bound_name p.import) in
+      let list : List (Entry Visibility) = named_entries (order u) p (import_vis oracle u p) answer (bound_name p.written) in
       subst (AreFollowed T) (append-nil (put_each p.scope list))
-      (followed_puts T p.scope list [] (λ e g listed by. absurd (none_by (order u) p (import_vis oracle u p) answer (bound_name p.import) e g listed by)) tt)
+      (followed_puts T p.scope list [] (λ e g listed by. absurd (none_by (order u) p (import_vis oracle u p) answer (bound_name p.written) e g listed by)) tt)
 
   -- the tasks of a recorded import are within the map
   pub record_own : (k : ImportKind) → IsOwn u.map p.scope → AreOwnTasks u.map (After k) (record_tasks oracle u p answer k)
@@ -185,7 +185,7 @@ module _ (oracle : Oracle) (u : State) (p : PendingImport) (answer : ResolvePath
   record_stays kind.TypeOnly g h = h
   record_stays kind.Glob g h = after_stays (glob_def p answer) g h
 
-  module _ {q : List PendingImport} {r : List PartialImport} (own : AreOwn u.map u.targets u.content q r) (sound : IsSound u) where
+  module _ {q : List ImportDirective} (own : AreOwn u.map u.targets u.content q) (sound : IsSound u) where
     after_sound : (given : Option Def) → AreSound (leaves_out u) u.map (targets_after kind.Glob (glob_id p) given u.targets) u.content
     after_sound None = sound
     after_sound (Some d) = sound_target own sound (glob_id p) d

@@ -16,7 +16,7 @@ use Rattle.def_bindings.specs.Tree.{AreParentsLower}
 use Rattle.def_modules.specs.MapState.{MapState}
 use Rattle.def_globs.specs.Waves.{HoldsBy}
 use Rattle.def_rules.specs.Globs.{Targets}
-use Rattle.def_rules.specs.State.{State, PartialImport, PendingImport, Task, Enter, Visit, Put, AddEdge}
+use Rattle.def_rules.specs.State.{State, ImportDirective, Task, Enter, Visit, Put, AddEdge}
 
 -- a module of this map
 abbrev pub IsOwn : MapState → ModuleId → Type 0
@@ -29,11 +29,10 @@ pub record IsRecorded (targets : Targets) (glob : GlobId) : Type 0 where
   pub is : targets glob ≡ Some (first ∷ others)
 
 -- modules bind only within this map, edges lead only to its modules, imports stand only in them, and only recorded globs have edges and bindings; names that are bound are listed
-pub record AreOwn (m : MapState) (targets : Targets) (c : Content Visibility) (pending : List PendingImport) (recorded : List PartialImport) : Type 0 where
+pub record AreOwn (m : MapState) (targets : Targets) (c : Content Visibility) (directives : List ImportDirective) : Type 0 where
   pub even : length m.parents ≡ length m.modules
   pub lower : AreParentsLower m.parents
-  pub imports : (p : PendingImport) → Contains pending p → IsOwn m p.scope
-  pub partial : (p : PartialImport) → Contains recorded p → IsOwn m p.pending.scope
+  pub imports : (d : ImportDirective) → Contains directives d → IsOwn m d.import.scope
   pub bound : (at : ModuleId) (slot : Slot) → IsBound c at slot → IsOwn m at
   pub edges : (source : ModuleId) (index : ℕ) (edge : EdgeTo Visibility) → slice_get (c.edges source) index ≡ Some edge → IsOwn m edge.importer × IsRecorded targets edge.glob
   pub globs : (at : ModuleId) (name : Name) (ns : Namespace) (glob : GlobId) → HoldsBy c at name ns glob → IsRecorded targets glob
@@ -53,5 +52,5 @@ AreOwnTasks m targets (task ∷ tasks) = IsOwnTask m targets task × AreOwnTasks
 
 -- a state with what is to be done in it is of its map alone
 pub record Stands (todo : List Task) (s : State) : Type 0 where
-  pub state : AreOwn s.map s.targets s.content s.imports s.partial
+  pub state : AreOwn s.map s.targets s.content s.imports
   pub tasks : AreOwnTasks s.map s.targets todo

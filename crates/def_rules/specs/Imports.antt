@@ -1,5 +1,5 @@
 -- Imports: their classes, when one is ready, and what recording one does.
-use Rattle.std.specs.Prelude.{Bool, true, false, cond, ◌&&◌, ◌||◌, not, nat_eq, nat_lt, List, [], ◌∷◌, ◌++◌, length, slice_get, ◌-◌, Option, None, Some, is_some, option_map, unwrap_or}
+use Rattle.std.specs.Prelude.{Bool, true, false, cond, ◌&&◌, ◌||◌, not, nat_eq, nat_lt, List, [], ◌∷◌, ◌++◌, length, filter, map, slice_get, ◌-◌, Option, None, Some, is_some, option_map, unwrap_or}
 use Rattle.item_tree.specs.declared.items.ImportAlias.{ImportAlias}
 use Rattle.item_tree.specs.declared.items.ImportAlias.TheVariants.{Alias, Underscore}
 use Rattle.item_tree.specs.declared.items.ImportKind.{ImportKind}
@@ -11,7 +11,7 @@ use Rattle.item_tree.specs.declared.mod_path.PathKind.TheVariants.{Plain, Super}
 use Rattle.item_tree.specs.declared.name.Name.{Name}
 use Rattle.def_bindings.specs.declared.bindings.Entry.{Entry}
 use Rattle.def_bindings.specs.declared.bindings.ImportOrExternCrate.{ImportOrExternCrate}
-use Rattle.def_bindings.specs.declared.bindings.ImportOrExternCrate.TheVariants.{Import, ExternCrate}
+use Rattle.def_bindings.specs.declared.bindings.ImportOrExternCrate.TheVariants as made_by
 use Rattle.def_bindings.specs.declared.bindings.Namespace.{Namespace}
 use Rattle.def_bindings.specs.declared.bindings.Namespace.TheVariants.{Types, Values, Macros}
 use Rattle.def_bindings.specs.declared.visibility.Visibility.{Visibility}
@@ -24,8 +24,20 @@ use Rattle.def_oracle.specs.Oracle.{Oracle}
 use Rattle.def_paths.specs.Answers.{is_reached}
 use Rattle.def_paths.specs.Paths.{resolve, for_import, resolve_visibility}
 use Rattle.def_paths.specs.PerNs.{Item, is_nothing, kept}
-use Rattle.def_rules.specs.State.{State, PendingImport, NsSet, world, order}
+use Rattle.def_rules.specs.State.{State, Import, ImportDirective, NsSet, world, order}
 use Rattle.def_rules.specs.Globs.{is_public}
+
+-- nothing is recorded yet
+abbrev pub no_namespaces : NsSet
+no_namespaces = record { types = false; values = false; macros = false }
+
+-- whether a set has no namespace
+abbrev pub is_empty : NsSet → Bool
+is_empty set = not (set.types || (set.values || set.macros))
+
+-- the imports that are unresolved, in order: nothing was recorded of them
+abbrev pub unresolved_imports : List ImportDirective → List Import
+unresolved_imports directives = map (λ directive. directive.import) (filter (λ directive. is_empty directive.recorded) directives)
 
 -- the namespaces that are there
 abbrev pub given_set : PerNs → NsSet
@@ -44,12 +56,8 @@ abbrev pub is_foreign : ResolvePathResult → Bool
 is_foreign answer = answer.prefix_info.differing_crate
 
 -- what an import's path gives now
-abbrev pub answer_now : Oracle → State → PendingImport → ResolvePathResult
-answer_now oracle s pending = resolve (world oracle s) for_import pending.scope pending.import.path
-
--- whether a pending import is ready: its path gives something
-abbrev pub is_ready : ResolvePathResult → Bool
-is_ready answer = not (is_missing answer)
+abbrev pub answer_now : Oracle → State → Import → ResolvePathResult
+answer_now oracle s import = resolve (world oracle s) for_import import.scope import.written.path
 
 -- the namespaces of either set
 abbrev pub union : NsSet → NsSet → NsSet
@@ -59,25 +67,21 @@ union a b = record { types = a.types || b.types; values = a.values || b.values; 
 abbrev pub is_extended : NsSet → NsSet → Bool
 is_extended recorded given = (given.types && not recorded.types) || ((given.values && not recorded.values) || (given.macros && not recorded.macros))
 
--- whether a partial import is ready again: it is not missing, and is foreign or gives a namespace that it has not recorded
-abbrev pub is_ready_again : NsSet → ResolvePathResult → Bool
-is_ready_again recorded answer = not (is_missing answer) && (is_foreign answer || is_extended recorded (given_set answer.resolved_def))
+-- whether an import is ready: it is not missing, and is foreign or gives a namespace that it has not recorded
+abbrev pub is_ready : NsSet → ResolvePathResult → Bool
+is_ready recorded answer = not (is_missing answer) && (is_foreign answer || is_extended recorded (given_set answer.resolved_def))
 
--- an import stays partial until it has recorded all three namespaces
+-- an import stays indeterminate until it has recorded all three namespaces
 abbrev pub kept_unless_full : NsSet → Option NsSet
 kept_unless_full recorded = cond (is_full recorded) None (Some recorded)
 
--- what an import that is recorded stays partial with, after what it had recorded: nothing where it is foreign or has all three namespaces
+-- what an import that is recorded stays indeterminate with, after what it had recorded; it is resolved where it is foreign or has all three namespaces
 abbrev pub kept_after : NsSet → ResolvePathResult → Option NsSet
 kept_after recorded answer = cond (is_foreign answer) None (kept_unless_full (union recorded (given_set answer.resolved_def)))
 
--- nothing is recorded yet
-abbrev pub no_namespaces : NsSet
-no_namespaces = record { types = false; values = false; macros = false }
-
 -- the visibility of an import; public where it means nothing
-abbrev pub import_vis : Oracle → State → PendingImport → Visibility
-import_vis oracle s pending = unwrap_or (resolve_visibility (world oracle s) pending.scope pending.vis) Public
+abbrev pub import_vis : Oracle → State → Import → Visibility
+import_vis oracle s import = unwrap_or (resolve_visibility (world oracle s) import.scope import.vis) Public
 
 -- the last segment of a path
 abbrev pub last_segment : List Name → Option Name
@@ -120,15 +124,15 @@ keeps_ns kind.TypeOnly ns = is_types ns
 keeps_ns kind.Glob ns = true
 
 -- what brings an import's bindings
-abbrev pub origin_of : PendingImport → ImportOrExternCrate
-origin_of pending = Import (record { use_id = pending.use_id; idx = pending.import.idx })
+abbrev pub origin_of : Import → ImportOrExternCrate
+origin_of import = made_by.Import (record { use_id = import.use_id; idx = import.written.idx })
 
 -- the entry that an import of this visibility puts in one namespace
-abbrev pub entry_of : Order Visibility → PendingImport → Visibility → Option Name → Namespace → Option Item → List (Entry Visibility)
-entry_of order pending vis name ns None = []
-entry_of order pending vis name ns (Some item) =
-    cond (keeps_ns pending.import.kind ns)
-    (record { name = name; ns = ns; def = item.def; vis = lessened order item.vis vis; origin = Some (origin_of pending) } ∷ [])
+abbrev pub entry_of : Order Visibility → Import → Visibility → Option Name → Namespace → Option Item → List (Entry Visibility)
+entry_of order import vis name ns None = []
+entry_of order import vis name ns (Some item) =
+    cond (keeps_ns import.written.kind ns)
+    (record { name = name; ns = ns; def = item.def; vis = lessened order item.vis vis; origin = Some (origin_of import) } ∷ [])
     []
 
 -- a path without a word before its first segment, or after `self`
@@ -139,7 +143,7 @@ is_plain_or_self _ = false
 
 -- whether an extern crate made a binding
 abbrev pub is_by_crate : Option ImportOrExternCrate → Bool
-is_by_crate (Some (ExternCrate id)) = true
+is_by_crate (Some (made_by.ExternCrate id)) = true
 is_by_crate _ = false
 
 -- an extern crate that is imported by its name alone is as visible as the import
@@ -151,9 +155,9 @@ abbrev pub taken_types : ModPath → Visibility → ResolvePathResult → Option
 taken_types path vis answer = option_map (reexported path vis) (kept_item answer answer.resolved_def.types)
 
 -- the entries of a named import, one in each namespace that its path gives
-abbrev pub named_entries : Order Visibility → PendingImport → Visibility → ResolvePathResult → Option (Option Name) → List (Entry Visibility)
-named_entries order pending vis answer None = []
-named_entries order pending vis answer (Some name) =
-    entry_of order pending vis name Types (taken_types pending.import.path vis answer)
-    ++ (entry_of order pending vis name Values (kept_item answer answer.resolved_def.values)
-    ++ entry_of order pending vis name Macros (kept_item answer answer.resolved_def.macros))
+abbrev pub named_entries : Order Visibility → Import → Visibility → ResolvePathResult → Option (Option Name) → List (Entry Visibility)
+named_entries order import vis answer None = []
+named_entries order import vis answer (Some name) =
+    entry_of order import vis name Types (taken_types import.written.path vis answer)
+    ++ (entry_of order import vis name Values (kept_item answer answer.resolved_def.values)
+    ++ entry_of order import vis name Macros (kept_item answer answer.resolved_def.macros))

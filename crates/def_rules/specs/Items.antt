@@ -37,7 +37,8 @@ use Rattle.def_oracle.specs.Oracle.{Oracle}
 use Rattle.def_paths.specs.Paths.{resolve_visibility}
 use Rattle.def_rules.specs.declared.diagnostics.DefDiagnostic.{DefDiagnostic}
 use Rattle.def_rules.specs.declared.diagnostics.DefDiagnosticKind.{DefDiagnosticKind}
-use Rattle.def_rules.specs.State.{State, Effect, followed_by, with_map, Site, Task, Enter, Visit, Put, PendingImport, world, order}
+use Rattle.def_rules.specs.State.{State, Effect, followed_by, with_map, Site, Task, Enter, Visit, Put, ImportDirective, world, order}
+use Rattle.def_rules.specs.Imports.{no_namespaces}
 
 -- an item of a tree; a tree that is not there has none
 abbrev pub node_at : Oracle → TreeId → ModItemId → Option ItemNode
@@ -136,10 +137,13 @@ put_declared at name ns d vis = Put at (declared_entry name ns d vis)
 abbrev pub is_prelude_import : Option AttrsOrCfg → Bool
 is_prelude_import attrs = has_attr prelude_import_name (attrs_of attrs)
 
--- the imports of a `use` as they pend
-abbrev pub pending_imports : Site → ItemNode → UseId → RawVisibility → List UseImport → List PendingImport
-pending_imports site item id vis imports =
-    map (λ import. record { scope = site.scope; position = position_of site item; use_id = id; import = import; vis = vis; is_prelude = is_prelude_import item.attrs }) imports
+-- the imports of a `use`, of which nothing is recorded yet
+abbrev pub new_imports : Site → ItemNode → UseId → RawVisibility → List UseImport → List ImportDirective
+new_imports site item id vis imports =
+    map (λ written. record {
+      import = record { scope = site.scope; position = position_of site item; use_id = id; written = written; vis = vis; is_prelude = is_prelude_import item.attrs };
+      recorded = no_namespaces;
+    }) imports
 
 -- the least of a visibility and those of a list, met in order; none where two that meet are unrelated
 abbrev pub least_of : Order Visibility → Visibility → List Visibility → Option Visibility

@@ -18,18 +18,17 @@ use Rattle.def_oracle.specs.Oracle.{Oracle}
 use Rattle.def_paths.specs.Answers.{variants_of}
 use Rattle.def_paths.specs.Sources.{World}
 use Rattle.def_paths.specs.Paths.{for_import, map_of, question}
-use Rattle.def_paths.specs.PerNs.{kept}
-use Rattle.def_rules.specs.State.{State, Effect, followed_by, PendingImport, PartialImport, NsSet, Task, AddEdge, Recorded, noting, put_each, world, order}
+use Rattle.def_rules.specs.State.{State, Effect, followed_by, Import, ImportDirective, NsSet, Task, AddEdge, Recorded, noting, put_each, world, order}
 use Rattle.def_rules.specs.Globs.{Targets, module_entries, variant_entries, with_target}
-use Rattle.def_rules.specs.Imports.{answer_now, bound_name, import_vis, is_foreign, is_ready, is_ready_again, kept_after, kept_item, named_entries, no_namespaces}
+use Rattle.def_rules.specs.Imports.{answer_now, bound_name, import_vis, is_foreign, is_ready, kept_after, kept_item, named_entries}
 
 -- a glob import's number
-abbrev pub glob_id : PendingImport → GlobId
-glob_id pending = record { use_id = pending.use_id; idx = pending.import.idx }
+abbrev pub glob_id : Import → GlobId
+glob_id import = record { use_id = import.use_id; idx = import.written.idx }
 
 -- a glob import with its visibility, as its edge keeps it
-abbrev pub glob_edge : PendingImport → Visibility → EdgeTo Visibility
-glob_edge pending vis = record { importer = pending.scope; vis = vis; glob = glob_id pending }
+abbrev pub glob_edge : Import → Visibility → EdgeTo Visibility
+glob_edge import vis = record { importer = import.scope; vis = vis; glob = glob_id import }
 
 -- the definition that an import's path gives in types, if it is kept
 abbrev pub types_def : ResolvePathResult → Option Def
@@ -51,8 +50,8 @@ made_prelude kind.TypeOnly prelude given = None
 made_prelude kind.Glob prelude given = module_if prelude given
 
 -- the module that an import makes the prelude, if it makes one
-abbrev pub new_prelude : PendingImport → ResolvePathResult → Option ModuleId
-new_prelude pending answer = made_prelude pending.import.kind pending.is_prelude (types_def answer)
+abbrev pub new_prelude : Import → ResolvePathResult → Option ModuleId
+new_prelude import answer = made_prelude import.written.kind import.is_prelude (types_def answer)
 
 -- a definition, unless it became the prelude
 abbrev pub unless_prelude : Option ModuleId → Option Def → Option Def
@@ -60,8 +59,8 @@ unless_prelude None given = given
 unless_prelude (Some source) given = None
 
 -- what a glob is recorded with: what its path gives in types, unless that became the prelude
-abbrev pub glob_def : PendingImport → ResolvePathResult → Option Def
-glob_def pending answer = unless_prelude (new_prelude pending answer) (types_def answer)
+abbrev pub glob_def : Import → ResolvePathResult → Option Def
+glob_def import answer = unless_prelude (new_prelude import answer) (types_def answer)
 
 -- the map with this prelude in the place of an earlier one, if there is one
 abbrev pub with_new_prelude : Option ModuleId → MapState → MapState
@@ -82,12 +81,12 @@ glob_tasks w glob (Some (def.Enum id)) =
 glob_tasks w glob _ = []
 
 -- what a recorded import leads to, by its kind
-abbrev pub record_tasks : Oracle → State → PendingImport → ResolvePathResult → ImportKind → List Task
-record_tasks oracle s pending answer kind.Plain =
-    put_each pending.scope (named_entries (order s) pending (import_vis oracle s pending) answer (bound_name pending.import))
-record_tasks oracle s pending answer kind.TypeOnly =
-    put_each pending.scope (named_entries (order s) pending (import_vis oracle s pending) answer (bound_name pending.import))
-record_tasks oracle s pending answer kind.Glob = glob_tasks (world oracle s) (glob_edge pending (import_vis oracle s pending)) (glob_def pending answer)
+abbrev pub record_tasks : Oracle → State → Import → ResolvePathResult → ImportKind → List Task
+record_tasks oracle s import answer kind.Plain =
+    put_each import.scope (named_entries (order s) import (import_vis oracle s import) answer (bound_name import.written))
+record_tasks oracle s import answer kind.TypeOnly =
+    put_each import.scope (named_entries (order s) import (import_vis oracle s import) answer (bound_name import.written))
+record_tasks oracle s import answer kind.Glob = glob_tasks (world oracle s) (glob_edge import (import_vis oracle s import)) (glob_def import answer)
 
 -- a glob is recorded with the definition that its path gives
 abbrev pub targets_after : ImportKind → GlobId → Option Def → Targets → Targets
@@ -97,46 +96,39 @@ targets_after kind.Glob glob None targets = targets
 targets_after kind.Glob glob (Some d) targets = with_target glob d targets
 
 -- the state in which an import was recorded with what its path gives, and nothing is put yet
-abbrev pub record_state : State → PendingImport → ResolvePathResult → State
-record_state s pending answer =
+abbrev pub record_state : State → Import → ResolvePathResult → State
+record_state s import answer =
     record s {
-      targets = targets_after pending.import.kind (glob_id pending) (glob_def pending answer) s.targets;
-      map = with_new_prelude (new_prelude pending answer) s.map;
+      targets = targets_after import.written.kind (glob_id import) (glob_def import answer) s.targets;
+      map = with_new_prelude (new_prelude import answer) s.map;
     }
 
 -- an import is recorded with what its path gives
-abbrev pub record_effect : Oracle → State → PendingImport → ResolvePathResult → Effect
-record_effect oracle s pending answer = followed_by (record_state s pending answer) (record_tasks oracle s pending answer pending.import.kind)
+abbrev pub record_effect : Oracle → State → Import → ResolvePathResult → Effect
+record_effect oracle s import answer = followed_by (record_state s import answer) (record_tasks oracle s import answer import.written.kind)
 
--- a partial import as a list, if it stays one
-abbrev pub kept_list : PendingImport → Option NsSet → List PartialImport
-kept_list pending None = []
-kept_list pending (Some recorded) = record { pending = pending; recorded = recorded } ∷ []
+-- an import as a list, if it stays indeterminate
+abbrev pub kept_list : Import → Option NsSet → List ImportDirective
+kept_list import None = []
+kept_list import (Some recorded) = record { import = import; recorded = recorded } ∷ []
 
--- the state with one more partial import, if it stays one
-abbrev pub with_partial : State → PendingImport → Option NsSet → State
-with_partial s pending kept = record s { partial = s.partial ++ kept_list pending kept }
+-- the state in which an import leaves, or stays with more namespaces
+abbrev pub after_import : State → ImportDirective → List ImportDirective → ResolvePathResult → State
+after_import s directive rest answer = record s { imports = rest ++ kept_list directive.import (kept_after directive.recorded answer) }
 
--- the state without a pending import, which stays partial unless it is whole or foreign
-abbrev pub after_pending : State → PendingImport → List PendingImport → ResolvePathResult → State
-after_pending s pending rest answer = with_partial (record s { imports = rest }) pending (kept_after no_namespaces answer)
+-- what recording an import does, beside the imports that are left: it is noted, and recorded with what its path gives
+abbrev pub import_effect : Oracle → State → ImportDirective → List ImportDirective → ResolvePathResult → Effect
+import_effect oracle s directive rest answer =
+    noting (Recorded directive.import (is_foreign answer)) (record_effect oracle (after_import s directive rest answer) directive.import answer)
 
--- the state in which a partial import leaves, or stays with more namespaces
-abbrev pub after_partial : State → PartialImport → List PartialImport → ResolvePathResult → State
-after_partial s partial rest answer = with_partial (record s { partial = rest }) partial.pending (kept_after partial.recorded answer)
-
--- one import is recorded with what its path gives now: one that pends and is ready, or a partial one that is ready again
-pub data ImportStep (oracle : Oracle) (s : State) (effect : Effect) : Type 0 where
-  of_pending : (pending : PendingImport) (rest : List PendingImport) (recorded : Effect) → IsPermutation s.imports (pending ∷ rest)
-      → is_ready (answer_now oracle s pending) ≡ true
-      → recorded ≡ record_effect oracle (after_pending s pending rest (answer_now oracle s pending)) pending (answer_now oracle s pending)
-      → effect ≡ noting (Recorded pending (is_foreign (answer_now oracle s pending))) recorded → ImportStep oracle s effect
-  of_partial : (partial : PartialImport) (rest : List PartialImport) (recorded : Effect) → IsPermutation s.partial (partial ∷ rest)
-      → is_ready_again partial.recorded (answer_now oracle s partial.pending) ≡ true
-      → recorded ≡ record_effect oracle (after_partial s partial rest (answer_now oracle s partial.pending)) partial.pending (answer_now oracle s partial.pending)
-      → effect ≡ noting (Recorded partial.pending (is_foreign (answer_now oracle s partial.pending))) recorded → ImportStep oracle s effect
+-- one import that is ready is recorded with what its path gives now
+pub record ImportStep (oracle : Oracle) (s : State) (effect : Effect) : Type 0 where
+  pub directive : ImportDirective
+  pub rest : List ImportDirective
+  pub stands : IsPermutation s.imports (directive ∷ rest)
+  pub ready : is_ready directive.recorded (answer_now oracle s directive.import) ≡ true
+  pub is : effect ≡ import_effect oracle s directive rest (answer_now oracle s directive.import)
 
 -- no import is ready
 pub record NoneReady (oracle : Oracle) (s : State) : Type 0 where
-  pub pending : (p : PendingImport) → Contains s.imports p → is_ready (answer_now oracle s p) ≡ false
-  pub partial : (p : PartialImport) → Contains s.partial p → is_ready_again p.recorded (answer_now oracle s p.pending) ≡ false
+  pub none : (directive : ImportDirective) → Contains s.imports directive → is_ready directive.recorded (answer_now oracle s directive.import) ≡ false

@@ -23,9 +23,9 @@ use Rattle.def_rules.specs.declared.diagnostics.DefDiagnosticKind.TheVariants.{U
 use Rattle.def_rules.specs.declared.outcome.Edge.{Edge}
 use Rattle.def_rules.specs.declared.outcome.LeftImport.{LeftImport}
 use Rattle.def_rules.specs.declared.outcome.Outcome.{Outcome}
-use Rattle.def_rules.specs.Imports.{bound_name}
+use Rattle.def_rules.specs.Imports.{bound_name, unresolved_imports}
 use Rattle.def_rules.specs.Globs.{Targets}
-use Rattle.def_rules.specs.State.{State, PendingImport}
+use Rattle.def_rules.specs.State.{State, Import}
 
 -- all that a run answers
 pub record Answer : Type 0 where
@@ -41,22 +41,22 @@ binds_name (Some (Some bound)) name = name_eq bound name
 binds_name _ name = false
 
 -- whether an import of the module with this number, and of this name, is left over
-abbrev pub is_left : List PendingImport → ℕ → Name → Bool
+abbrev pub is_left : List Import → ℕ → Name → Bool
 is_left [] index name = false
-is_left (p ∷ rest) index name = (nat_eq p.scope.index index && binds_name (bound_name p.import) name) || is_left rest index name
+is_left (p ∷ rest) index name = (nat_eq p.scope.index index && binds_name (bound_name p.written) name) || is_left rest index name
 
 -- the modules from this number on, each with the names that failed to import there
-abbrev pub marked_from : List PendingImport → ℕ → List ModuleState → List ModuleState
+abbrev pub marked_from : List Import → ℕ → List ModuleState → List ModuleState
 marked_from left index [] = []
 marked_from left index (d ∷ ds) = record d { failed = is_left left index } ∷ marked_from left (suc index) ds
 
 -- the map in which exactly the names of the imports left over are marked as failed
-abbrev pub marked : MapState → List PendingImport → MapState
+abbrev pub marked : MapState → List Import → MapState
 marked m left = record m { modules = marked_from left 0 m.modules }
 
 -- an import as it is left over
-abbrev pub left_import : PendingImport → LeftImport
-left_import p = record { «module» = p.scope; ast_id = p.position; idx = p.import.idx; path = p.import.path }
+abbrev pub left_import : Import → LeftImport
+left_import p = record { «module» = p.scope; ast_id = p.position; idx = p.written.idx; path = p.written.path }
 
 -- an edge as it is listed
 abbrev pub listed_edge : ModuleId → EdgeTo Visibility → Edge
@@ -81,15 +81,15 @@ shown_targets t = (t.0, t.1.items)
 
 -- how a run ended: the imports left over, in order, the edges of globs, and what each glob was recorded with
 pub record IsOutcome (end : State) (outcome : Outcome) : Type 0 where
-  pub imports : outcome.imports.items ≡ map left_import end.imports
+  pub imports : outcome.imports.items ≡ map left_import (unresolved_imports end.imports)
   pub macros : outcome.macros.items ≡ []
   pub edges : AreEdges end.content outcome.edges.items
   pub targets : AreTargets end.targets (map shown_targets outcome.targets.items)
   pub limit : outcome.limit_met ≡ false
 
 -- an import that is left over is reported
-abbrev pub unresolved : PendingImport → DefDiagnostic
-unresolved p = record { «module» = p.scope; ast_id = p.position; kind = UnresolvedImport p.import.idx }
+abbrev pub unresolved : Import → DefDiagnostic
+unresolved p = record { «module» = p.scope; ast_id = p.position; kind = UnresolvedImport p.written.idx }
 
 -- whether a path may begin with the name of a crate
 abbrev pub may_name_crate : PathKind → Bool
@@ -107,16 +107,16 @@ abbrev pub is_excused : (Name → Bool) → ModPath → Bool
 is_excused missing path = may_name_crate path.kind && begins_with missing path.segments
 
 -- what is reported of an import that is left over
-abbrev pub import_report : (Name → Bool) → PendingImport → List DefDiagnostic
-import_report missing p = cond (is_excused missing p.import.path) [] (unresolved p ∷ [])
+abbrev pub import_report : (Name → Bool) → Import → List DefDiagnostic
+import_report missing p = cond (is_excused missing p.written.path) [] (unresolved p ∷ [])
 
 -- the run's diagnostics, and then those of the imports left over
 abbrev pub report : State → List DefDiagnostic
-report end = end.diagnostics ++ flat_map (import_report end.missing_crates) end.imports
+report end = end.diagnostics ++ flat_map (import_report end.missing_crates) (unresolved_imports end.imports)
 
 -- the answer is what the end has, with the failed names marked
 pub record IsAnswerOf (end : State) (answer : Answer) : Type 0 where
-  pub map : answer.map ≡ marked end.map end.imports
+  pub map : answer.map ≡ marked end.map (unresolved_imports end.imports)
   pub content : answer.content ≡ end.content
   pub local : answer.local ≡ end.local
   pub outcome : IsOutcome end answer.outcome

@@ -22,7 +22,7 @@ use Rattle.def_modules.specs.Scopes.{with_extern_block, with_extern_crate, with_
 use Rattle.def_oracle.specs.Oracle.{Oracle}
 use Rattle.def_rules.specs.declared.diagnostics.DefDiagnosticKind.TheVariants.{UnconfiguredCode}
 use Rattle.def_rules.specs.State.{State, Effect, only, followed_by, reported, Site}
-use Rattle.def_rules.specs.Items.{IsNumber, ctor_vis, declared_effect, diagnostic, node_at, noted_in, pending_imports, struct_effect, walk, written_vis}
+use Rattle.def_rules.specs.Items.{IsNumber, ctor_vis, declared_effect, diagnostic, node_at, noted_in, new_imports, struct_effect, walk, written_vis}
 use Rattle.def_rules.specs.Modules.{module_item}
 use Rattle.def_rules.specs.ExternCrates.{crate_effect, crate_name, named_crate}
 
@@ -36,7 +36,7 @@ pub data Rule : Type 0 where
   opens_module : Name → RawVisibility → ModContents → Rule
   -- the items of an extern block are walked
   opens_block : List ModItemId → Rule
-  -- imports wait
+  -- imports are to be resolved
   queues : RawVisibility → List UseImport → Rule
   -- an extern crate is put by its name
   binds_crate : Name → RawVisibility → Option ImportAlias → Rule
@@ -74,7 +74,7 @@ Follows oracle s site item (opens_block children) effect =
     (n : ℕ) × IsNumber s ExternBlockItem site item n
     × (effect ≡ followed_by (noted_in s site.scope (with_extern_block (record { 0 = n }))) (walk oracle (record site { container = contained.ExternBlock (record { 0 = n }) }) children))
 Follows oracle s site item (queues raw imports) effect =
-    (n : ℕ) × IsNumber s UseItem site item n × (effect ≡ only (record s { imports = s.imports ++ pending_imports site item (record { 0 = n }) raw imports }))
+    (n : ℕ) × IsNumber s UseItem site item n × (effect ≡ only (record s { imports = s.imports ++ new_imports site item (record { 0 = n }) raw imports }))
 Follows oracle s site item (binds_crate name raw alias) effect =
     (n : ℕ) × IsNumber s ExternCrateItem site item n
     × (effect ≡ crate_effect (noted_in s site.scope (with_extern_crate (record { 0 = n }))) site item (record { 0 = n }) (crate_name name alias) (written_vis oracle s site.scope raw) (named_crate s name))

@@ -9,8 +9,8 @@ use Rattle.def_bindings.specs.Content.{Content}
 use Rattle.def_bindings.specs.Puts.{IsExplicit}
 use Rattle.def_oracle.specs.Oracle.{Oracle}
 use Rattle.def_paths.specs.PerNs.{in_namespace}
-use Rattle.def_rules.specs.State.{State, PendingImport, Event, PutExplicit, Recorded, Moment}
-use Rattle.def_rules.specs.Imports.{is_ready, answer_now, bound_name, keeps_ns}
+use Rattle.def_rules.specs.State.{State, Import, Event, PutExplicit, Recorded, Moment}
+use Rattle.def_rules.specs.Imports.{is_missing, answer_now, bound_name, keeps_ns}
 use Rattle.def_rules.specs.Recording.{NoneReady}
 
 -- no import is ready
@@ -37,19 +37,19 @@ ExplicitStays a b =
     → a.state.content.binding at name ns ≡ Some held → IsExplicit held.import → b.state.content.binding at name ns ≡ Some held
 
 -- an import was once recorded from another crate
-abbrev pub IsForeignImport : List Event → PendingImport → Type 0
+abbrev pub IsForeignImport : List Event → Import → Type 0
 IsForeignImport events p = Contains events (Recorded p true)
 
 -- an import that was recorded, always from this crate, and that binds this name
-pub record IsNamedImport (end : Moment) (p : PendingImport) (name : Name) : Type 0 where
+pub record IsNamedImport (end : Moment) (p : Import) (name : Name) : Type 0 where
   pub recorded : Contains end.events (Recorded p false)
   pub own : ¬ IsForeignImport end.events p
-  pub name_bound : bound_name p.import ≡ Some (Some name)
+  pub name_bound : bound_name p.written ≡ Some (Some name)
 
 -- each namespace that a recorded named import's path gives, and its kind keeps, is bound at its name
 abbrev pub HasEveryNamespace : Oracle → Moment → Type 0
 HasEveryNamespace oracle end =
-    (p : PendingImport) (name : Name) (ns : Namespace)
-    → IsNamedImport end p name → is_ready (answer_now oracle end.state p) ≡ true
-    → IsSome (in_namespace (answer_now oracle end.state p).resolved_def ns) → keeps_ns p.import.kind ns ≡ true
+    (p : Import) (name : Name) (ns : Namespace)
+    → IsNamedImport end p name → is_missing (answer_now oracle end.state p) ≡ false
+    → IsSome (in_namespace (answer_now oracle end.state p).resolved_def ns) → keeps_ns p.written.kind ns ≡ true
     → IsSome (end.state.content.binding p.scope name ns)

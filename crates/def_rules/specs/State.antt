@@ -39,11 +39,12 @@ pub record Setting : Type 0 where
   pub crate_local : Option LocalView
 
 -- one import of a `use`, with the module and the item that it stands in
-pub record PendingImport : Type 0 where
+pub record Import : Type 0 where
   pub scope : ModuleId
   pub position : InFile FileAstId
   pub use_id : UseId
-  pub import : UseImport
+  -- its path, alias and kind, as they are written
+  pub written : UseImport
   pub vis : RawVisibility
   -- whether the item has `#[prelude_import]`
   pub is_prelude : Bool
@@ -54,9 +55,9 @@ pub record NsSet : Type 0 where
   pub values : Bool
   pub macros : Bool
 
--- an import that was recorded, from these namespaces so far
-pub record PartialImport : Type 0 where
-  pub pending : PendingImport
+-- an import that may still be recorded, with the namespaces that it was recorded from so far: with none it is unresolved, with some indeterminate
+pub record ImportDirective : Type 0 where
+  pub import : Import
   pub recorded : NsSet
 
 -- all that a run has so far
@@ -78,8 +79,8 @@ pub record State : Type 0 where
   pub is_proc_macro : Bool
   -- the directory of each module that a walk began in
   pub directories : ModuleId → Option Directory
-  pub imports : List PendingImport
-  pub partial : List PartialImport
+  -- the imports that are not resolved
+  pub imports : List ImportDirective
   pub diagnostics : List DefDiagnostic
 
 -- where the items of a list stand: their module, what contains them, the tree that holds them, how deep in expansions of macros, and the directory of their modules' files
@@ -115,7 +116,7 @@ pub data Event : Type 0 where
   -- an explicit binding was put
   PutExplicit : ModuleId → Name → Namespace → Binding Visibility → Event
   -- an import was recorded; true: from another crate
-  Recorded : PendingImport → Bool → Event
+  Recorded : Import → Bool → Event
 
 -- what a rule does: the state after it, what is to be done next, and what happened
 pub record Effect : Type 0 where
@@ -186,8 +187,7 @@ world oracle s = record { oracle = oracle; session = s.session; map = map_view s
 abbrev pub root : MapState → ModuleId
 root m = record { map = m.id; index = 0 }
 
--- the same state with its bags in another order
+-- the same state with its imports in another order
 pub record Rearranges (old new : State) : Type 0 where
   pub imports : IsPermutation old.imports new.imports
-  pub partial : IsPermutation old.partial new.partial
-  pub rest : new ≡ record old { imports = new.imports; partial = new.partial }
+  pub rest : new ≡ record old { imports = new.imports }

@@ -1,9 +1,12 @@
 -- The end of a run: names marked one after the other are marked by what is left over.
-use Rattle.std.proofs.Common.{◌≡◌, ◌+◌, ◌<◌, ◌≤◌, ℕ, zero, suc, Bool, true, false, cond, ◌&&◌, ◌||◌, nat_eq, List, [], ◌∷◌, ◌++◌, length, filter, map, take, get_or, All, Option, Some, None, refl, sym, ap, subst, ◌∙◌, arith, inl, inr, append-nil, append_assoc}
+use Rattle.std.proofs.Common.{◌≡◌, ◌+◌, ℕ, zero, suc, Bool, true, false, cond, ◌&&◌, ◌||◌, nat_eq, List, [], ◌∷◌, ◌++◌, filter, map, All, Option, Some, None, refl, sym, ap, subst, ◌∙◌, arith, inl, inr, append_assoc}
 use Rattle.std.specs.List.{flat_map}
+use Rattle.std.proofs.lemmas.Grind.{flat_map-append}
+use Rattle.def_steps.specs.declared.directive.ImportDirective.{ImportDirective}
+use Rattle.def_steps.proofs.LeftLemmas.{marked_each-append, unresolved-append}
 use Rattle.std.proofs.lemmas.Bool.{cases_Bool}
 use Rattle.std.proofs.lemmas.Bool.Decides.{eqb_tells}
-use Rattle.std.proofs.lemmas.List.{map-append, take_all, take_more}
+use Rattle.std.proofs.lemmas.List.{map-append}
 use Rattle.std.proofs.lemmas.List.Elements.{All-head, All-tail}
 use Rattle.item_tree.specs.declared.name.Name.{Name}
 use Rattle.indexmap.specs.IndexMap.{IndexMap, IsUnique, get}
@@ -26,32 +29,32 @@ use Rattle.def_modules.specs.Scopes.{marked_failed}
 use Rattle.def_modules.specs.Updates.{update_at}
 use Rattle.def_rules.specs.declared.diagnostics.DefDiagnostic.{DefDiagnostic}
 use Rattle.def_rules.specs.declared.outcome.LeftImport.{LeftImport}
-use Rattle.def_steps.specs.Waiting.{marked_each, marked_once}
+use Rattle.def_steps.specs.ImportLists.{marked_each, marked_once, unresolved_in, directives_in}
 use Rattle.def_steps.specs.Shown.{shown_edge}
-use Rattle.def_rules.specs.Imports.{bound_name}
+use Rattle.def_rules.specs.Imports.{bound_name, unresolved_imports}
 use Rattle.def_rules.specs.Report.{Answer, AreEdges, AreTargets, binds_name, is_left, leaves, left_import, listed_edge, marked, marked_from, shown_targets, import_report}
 use Rattle.def_laws.specs.Finished.{NoneFailed, IsFinished}
-use Rattle.def_rules.specs.State.{State, PendingImport}
+use Rattle.def_rules.specs.State.{State, Import}
 
 -- Marks
 
 -- a module on which the names of imports left over are marked beside those that were
-abbrev also_failed : List PendingImport → ℕ → ModuleState → ModuleState
+abbrev also_failed : List Import → ℕ → ModuleState → ModuleState
 also_failed left index d = record d { failed = λ name. is_left left index name || d.failed name }
 
 -- the modules from this number on, each so
-abbrev also_from : List PendingImport → ℕ → List ModuleState → List ModuleState
+abbrev also_from : List Import → ℕ → List ModuleState → List ModuleState
 also_from left index [] = []
 also_from left index (d ∷ ds) = also_failed left index d ∷ also_from left (suc index) ds
 
-abbrev also_marked : MapState → List PendingImport → MapState
+abbrev also_marked : MapState → List Import → MapState
 also_marked m left = record m { modules = also_from left 0 m.modules }
 
 -- an import that does not mark a module leaves it as the rest marks it
-module _ (p : PendingImport) (ps : List PendingImport) where
+module _ (p : Import) (ps : List Import) where
   -- the import marks this name of this module
   abbrev hits : ℕ → Name → Bool
-  hits index name = nat_eq p.scope.index index && binds_name (bound_name p.import) name
+  hits index name = nat_eq p.scope.index index && binds_name (bound_name p.written) name
 
   missed : (index : ℕ) (d : ModuleState) → ((name : Name) → hits index name ≡ false) → also_failed ps index d ≡ also_failed (p ∷ ps) index d
   missed index d miss = λ i. record d { failed = λ name. (sym (ap (λ h. (h || is_left ps index name) || d.failed name) (miss name))) i }
@@ -65,10 +68,10 @@ module _ (p : PendingImport) (ps : List PendingImport) where
   elsewhere : (index : ℕ) (name : Name) → (p.scope.index ≡ index → ⊥) → hits index name ≡ false
   elsewhere index name apart = elim (eqb_tells p.scope.index index) [
     | inl w ↦ absurd (apart w.1)
-    | inr w ↦ ap (λ b. b && binds_name (bound_name p.import) name) w.0
+    | inr w ↦ ap (λ b. b && binds_name (bound_name p.written) name) w.0
   ]
 
-  module _ (name : Name) (bound : bound_name p.import ≡ Some (Some name)) where
+  module _ (name : Name) (bound : bound_name p.written ≡ Some (Some name)) where
     both : (left before : Bool) (x : Name) (test : Bool) → left || cond test true before ≡ (test || left) || before
     both left before x true = or_true left
       where
@@ -82,7 +85,7 @@ module _ (p : PendingImport) (ps : List PendingImport) where
       where
         tests : (x : Name) → hits index x ≡ binds_name (Some (Some name)) x
         tests x = elim (eqb_tells p.scope.index index) [
-          | inl w ↦ ap (λ b. b && binds_name (bound_name p.import) x) w.0 ∙ ap (λ b. binds_name b x) bound
+          | inl w ↦ ap (λ b. b && binds_name (bound_name p.written) x) w.0 ∙ ap (λ b. binds_name b x) bound
           | inr w ↦ absurd (w.1 here)
         ]
 
@@ -100,11 +103,11 @@ module _ (p : PendingImport) (ps : List PendingImport) where
   and_false false = refl
 
   -- an import that binds no name marks nothing
-  unbound : (m : MapState) (x : Option (Option Name)) → ((name : Name) → binds_name x name ≡ false) → bound_name p.import ≡ x → also_marked m ps ≡ also_marked m (p ∷ ps)
+  unbound : (m : MapState) (x : Option (Option Name)) → ((name : Name) → binds_name x name ≡ false) → bound_name p.written ≡ x → also_marked m ps ≡ also_marked m (p ∷ ps)
   unbound m x never is =
       ap (λ ds. record m { modules = ds }) (missed_from 0 m.modules (λ k name. ap (λ b. nat_eq p.scope.index (0 + k) && b) (ap (λ b. binds_name b name) is ∙ never name) ∙ and_false (nat_eq p.scope.index (0 + k))))
 
-  once : (m : MapState) (x : Option (Option Name)) → bound_name p.import ≡ x → also_marked (marked_once p x m) ps ≡ also_marked m (p ∷ ps)
+  once : (m : MapState) (x : Option (Option Name)) → bound_name p.written ≡ x → also_marked (marked_once p x m) ps ≡ also_marked m (p ∷ ps)
   once m None is = unbound m None (λ name. refl) is
   once m (Some None) is = unbound m (Some None) (λ name. refl) is
   once m (Some (Some name)) is = ap (λ ds. record m { modules = ds }) (hit_from name is 0 p.scope.index m.modules (omega arith))
@@ -113,22 +116,22 @@ none_from : (index : ℕ) (ds : List ModuleState) → also_from [] index ds ≡ 
 none_from index [] = refl
 none_from index (d ∷ ds) = ap (λ xs. d ∷ xs) (none_from (suc index) ds)
 
-each_also : (ps : List PendingImport) (m : MapState) → marked_each ps m ≡ also_marked m ps
+each_also : (ps : List Import) (m : MapState) → marked_each ps m ≡ also_marked m ps
 each_also [] m = ap (λ ds. record m { modules = ds }) (sym (none_from 0 m.modules))
-each_also (p ∷ ps) m = each_also ps (marked_once p (bound_name p.import) m) ∙ once p ps m (bound_name p.import) refl
+each_also (p ∷ ps) m = each_also ps (marked_once p (bound_name p.written) m) ∙ once p ps m (bound_name p.written) refl
 
 or_false : (b before : Bool) → before ≡ false → b || before ≡ b
 or_false true before none = refl
 or_false false before none = none
 
-fresh_from : (ps : List PendingImport) (index : ℕ) (ds : List ModuleState) → All (λ d. (name : Name) → d.failed name ≡ false) ds → also_from ps index ds ≡ marked_from ps index ds
+fresh_from : (ps : List Import) (index : ℕ) (ds : List ModuleState) → All (λ d. (name : Name) → d.failed name ≡ false) ds → also_from ps index ds ≡ marked_from ps index ds
 fresh_from ps index [] none = refl
 fresh_from ps index (d ∷ ds) none =
     ap (λ x. x ∷ also_from ps (suc index) ds) (λ i. record d { failed = λ name. (or_false (is_left ps index name) (d.failed name) (All-head (λ (e : ModuleState). (name : Name) → e.failed name ≡ false) d ds none name)) i })
     ∙ ap (λ xs. record d { failed = is_left ps index } ∷ xs) (fresh_from ps (suc index) ds (All-tail (λ (e : ModuleState). (name : Name) → e.failed name ≡ false) d ds none))
 
 -- where no name was marked before, exactly those of the imports left over are
-pub marked_together : (ps : List PendingImport) (m : MapState) → NoneFailed m → marked_each ps m ≡ marked m ps
+pub marked_together : (ps : List Import) (m : MapState) → NoneFailed m → marked_each ps m ≡ marked m ps
 marked_together ps m none = each_also ps m ∙ ap (λ ds. record m { modules = ds }) (fresh_from ps 0 m.modules none)
 
 -- Edges and targets
@@ -158,16 +161,34 @@ targets_listed targets listed all unique =
 
 -- The answer
 
--- the answer is that of the end
-pub finished : (end : State) (answer : Answer) (m : MapState) (imports : List LeftImport) (diagnostics : List DefDiagnostic)
-    → m ≡ marked_each end.imports end.map → imports ≡ map left_import end.imports → diagnostics ≡ end.diagnostics ++ flat_map (import_report end.missing_crates) end.imports
+-- the answer is that of the end, whose unresolved imports were gone through in two lists
+pub finished : (end : State) (answer : Answer) (m1 m : MapState) (imports1 imports : List LeftImport) (said1 diagnostics : List DefDiagnostic) (first second : List (Option ImportDirective))
+    → end.imports ≡ directives_in first ++ directives_in second
+    → m1 ≡ marked_each (unresolved_in first) end.map → m ≡ marked_each (unresolved_in second) m1
+    → imports1 ≡ map left_import (unresolved_in first) → imports ≡ imports1 ++ map left_import (unresolved_in second)
+    → said1 ≡ end.diagnostics ++ flat_map (import_report end.missing_crates) (unresolved_in first) → diagnostics ≡ said1 ++ flat_map (import_report end.missing_crates) (unresolved_in second)
     → answer.map ≡ m → answer.content ≡ end.content → answer.local ≡ end.local → answer.diagnostics ≡ diagnostics
     → answer.outcome.imports.items ≡ imports → answer.outcome.macros.items ≡ [] → AreEdges end.content answer.outcome.edges.items → AreTargets end.targets (map shown_targets answer.outcome.targets.items) → answer.outcome.limit_met ≡ false
     → IsFinished end answer
-finished end answer m imports diagnostics marks left reports marking content local said lefts macros edges targets limit = record {
-  map = λ none. marking ∙ marks ∙ marked_together end.imports end.map none;
+finished end answer m1 m imports1 imports said1 diagnostics first second all marks1 marks left1 left reports1 reports marking content local said lefts macros edges targets limit = record {
+  map = λ none. marking ∙ marks ∙ ap (marked_each (unresolved_in second)) marks1 ∙ sym (marked_each-append (unresolved_in first) (unresolved_in second) end.map) ∙ ap (λ ps. marked_each ps end.map) (sym both)
+      ∙ marked_together (unresolved_imports end.imports) end.map none;
   content = content;
   local = local;
-  outcome = record { imports = lefts ∙ left; macros = macros; edges = edges; targets = targets; limit = limit };
-  reported = said ∙ reports;
+  outcome = record {
+    imports = lefts ∙ left ∙ ap (λ l. l ++ map left_import (unresolved_in second)) left1 ∙ sym (map-append left_import (unresolved_in first) (unresolved_in second)) ∙ ap (map left_import) (sym both);
+    macros = macros;
+    edges = edges;
+    targets = targets;
+    limit = limit;
+  };
+  reported =
+      said
+      ∙ reports
+      ∙ ap (λ l. l ++ flat_map (import_report end.missing_crates) (unresolved_in second)) reports1
+      ∙ append_assoc end.diagnostics (flat_map (import_report end.missing_crates) (unresolved_in first)) (flat_map (import_report end.missing_crates) (unresolved_in second))
+      ∙ ap (λ l. end.diagnostics ++ l) (sym (flat_map-append (import_report end.missing_crates) (unresolved_in first) (unresolved_in second)) ∙ ap (flat_map (import_report end.missing_crates)) (sym both));
 }
+  where
+    both : unresolved_imports end.imports ≡ unresolved_in first ++ unresolved_in second
+    both = ap unresolved_imports all ∙ unresolved-append (directives_in first) (directives_in second)

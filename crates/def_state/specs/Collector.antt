@@ -1,5 +1,5 @@
 -- What the collector's parts stand for.
-use Rattle.std.specs.Prelude.{map, option_map}
+use Rattle.std.specs.Prelude.{◌++◌, option_map}
 use Rattle.def_ids.specs.declared.interner.Interner.{Interner}
 use Rattle.def_ids.specs.Equality.{glob_eq}
 use Rattle.def_ids.specs.Session.{session_of}
@@ -10,8 +10,7 @@ use Rattle.def_modules.specs.Locals.{local_view}
 use Rattle.def_modules.specs.Maps.{map_state}
 use Rattle.def_modules.specs.Tables.{bound_by}
 use Rattle.def_state.specs.declared.collector.DefCollector.{DefCollector}
-use Rattle.def_steps.specs.Shown.{partial_of}
-use Rattle.def_steps.specs.Waiting.{imports_in, waiting}
+use Rattle.def_steps.specs.ImportLists.{directives_in}
 use Rattle.def_rules.specs.declared.outcome.Collected.{Collected}
 use Rattle.indexmap.specs.IndexMap.{get}
 use Rattle.def_rules.specs.Report.{Answer}
@@ -31,8 +30,7 @@ state_of c session =
       deps = local_view c.deps;
       missing_crates = missing_in c.missing_crates;
       directories = directories_of c.mod_dirs;
-      imports = imports_in c.unresolved_imports.items;
-      partial = map partial_of (waiting c.indeterminate_imports.items);
+      imports = directives_in c.unresolved_imports.items ++ directives_in c.indeterminate_imports.items;
       diagnostics = c.diagnostics.items;
     }
 

@@ -16,7 +16,7 @@ use def_items::ModDirs;
 use def_map::{LocalDefMap, MapData, Table};
 use def_parts::Globs;
 use def_rules::DefDiagnostic;
-use def_steps::{ImportDirective, PartialDirective};
+use def_steps::ImportDirective;
 use indexmap::IndexMap;
 use item_tree::Seq;
 use std::alloc::Global;
@@ -39,10 +39,11 @@ pub struct DefCollector<'a> {
     /// The extern crates that were not found.
     pub missing_crates: MissingCrates,
     pub mod_dirs: ModDirs,
-    /// Imports that no pass could resolve so far. One that was recorded leaves `None`.
+    /// Imports of which nothing is recorded so far. One that was recorded leaves `None`.
     pub unresolved_imports: Vec<Option<ImportDirective<'a>>>,
-    /// Imports that were recorded, and that may give more namespaces. One that left leaves `None`.
-    pub indeterminate_imports: Vec<Option<PartialDirective<'a>>>,
+    /// Imports that were recorded, and that may give more namespaces, in the order in which they
+    /// came here. One that left leaves `None`.
+    pub indeterminate_imports: Vec<Option<ImportDirective<'a>>>,
     pub diagnostics: Vec<DefDiagnostic>,
 }
 

@@ -1,4 +1,4 @@
 pub mod GatherLemmas
 pub mod TargetsLemmas
-pub mod WaitingLaws
+pub mod ImportListsLaws
 pub mod LeftLemmas

@@ -1,2 +1,2 @@
 pub mod Shown
-pub mod Waiting
+pub mod ImportLists

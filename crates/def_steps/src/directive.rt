@@ -1,10 +1,10 @@
-//! Imports that wait, and the namespaces that they were recorded from.
+//! Imports, and the namespaces that they were recorded from.
 ghost use Rattle.std.specs.Prelude.{◌≡◌, ◌&&◌, true, length, nat_lt, option_map};
 ghost use Rattle.def_rules.specs.Imports as imports;
 ghost use Rattle.def_rules.specs.Recording as recording;
 ghost use Rattle.def_rules.specs.Items as items;
 ghost use Rattle.def_rules.specs.ExternCrates as crate_rules;
-ghost use Rattle.def_steps.specs.Shown.{kept_of, ns_set, pending_of};
+ghost use Rattle.def_steps.specs.Shown.{directives_kept, import_of, kept_of, ns_set};
 ghost use Rattle.def_rules.specs.Globs.{is_public};
 
 use def_bindings::{ImportOrExternCrate, Namespace, Visibility};
@@ -18,11 +18,12 @@ use item_tree::{
 /// One import of a `use` item that was reached, with the module and the item that it stands in.
 /// It refers to the item tree.
 #[derive(Clone, Copy)]
-pub struct ImportDirective<'a> {
+pub struct Import<'a> {
     pub module_id: ModuleId,
     pub position: InFile<FileAstId>,
     pub use_id: UseId,
-    pub import: &'a UseImport,
+    /// Its path, alias and kind.
+    pub written: &'a UseImport,
     pub vis: &'a RawVisibility,
     /// Whether the item has `#[prelude_import]`.
     pub is_prelude: bool,
@@ -36,10 +37,11 @@ pub struct NamespaceSet {
     pub macros: bool,
 }
 
-/// An import that was recorded, from these namespaces so far, and that may be recorded again.
+/// An import that may still be recorded, with the namespaces that it was recorded from so far. With
+/// none it is unresolved, with some indeterminate.
 #[derive(Clone, Copy)]
-pub struct PartialDirective<'a> {
-    pub directive: ImportDirective<'a>,
+pub struct ImportDirective<'a> {
+    pub import: Import<'a>,
     pub recorded: NamespaceSet,
 }
 
@@ -60,6 +62,13 @@ impl NamespaceSet {
             values: found.values.is_some(),
             macros: found.macros.is_some(),
         }
+    }
+
+    /// Whether it has no namespace.
+    pub fn is_empty(self) -> bool
+        ensures { result ≡ imports.is_empty (ns_set self) }
+    {
+        !(self.types || self.values || self.macros)
     }
 
     /// All three namespaces.
@@ -92,7 +101,7 @@ impl NamespaceSet {
 
 /// Whether a path gives nothing for an import: a prefix or everything is missing, or a segment is
 /// left.
-pub fn is_missing(answer: &ResolvePathResult) -> bool
+fn is_missing(answer: &ResolvePathResult) -> bool
     ensures { result ≡ imports.is_missing answer.now }
 {
     answer.reached_fixedpoint == ReachedFixedPoint::No
@@ -100,9 +109,9 @@ pub fn is_missing(answer: &ResolvePathResult) -> bool
         || answer.segment_index.is_some()
 }
 
-/// What an import that is recorded stays partial with, after what it had recorded: nothing where
-/// another crate was entered, or where it has all three namespaces.
-pub fn kept_after(recorded: NamespaceSet, answer: &ResolvePathResult) -> Option<NamespaceSet>
+/// What an import that is recorded stays indeterminate with, after what it had recorded. It is
+/// resolved where another crate was entered, or where it has all three namespaces.
+fn kept_after(recorded: NamespaceSet, answer: &ResolvePathResult) -> Option<NamespaceSet>
     ensures { kept_of result ≡ imports.kept_after (ns_set recorded) answer.now }
 {
     if answer.prefix_info.differing_crate {
@@ -112,9 +121,27 @@ pub fn kept_after(recorded: NamespaceSet, answer: &ResolvePathResult) -> Option<
     if all.is_full() { None } else { Some(all) }
 }
 
-/// Whether an import that was recorded from these namespaces is to be recorded once more.
-pub fn is_ready_again(recorded: NamespaceSet, answer: &ResolvePathResult) -> bool
-    ensures { result ≡ imports.is_ready_again (ns_set recorded) answer.now }
+/// What stays of an import that is recorded with this answer, if it does not become resolved.
+pub fn still_indeterminate<'a>(
+    directive: ImportDirective<'a>,
+    answer: &ResolvePathResult,
+) -> Option<ImportDirective<'a>>
+    ensures { directives_kept result
+        ≡ recording.kept_list (import_of directive.entry.import) (imports.kept_after (ns_set directive.entry.recorded) answer.now) }
+{
+    match kept_after(directive.recorded, answer) {
+        Some(recorded) => Some(ImportDirective {
+            import: directive.import,
+            recorded,
+        }),
+        None => None,
+    }
+}
+
+/// Whether an import that was recorded from these namespaces is to be recorded, for the first time
+/// or once more.
+pub fn is_ready(recorded: NamespaceSet, answer: &ResolvePathResult) -> bool
+    ensures { result ≡ imports.is_ready (ns_set recorded) answer.now }
 {
     !is_missing(answer)
         && (answer.prefix_info.differing_crate
@@ -184,13 +211,13 @@ fn is_plain_or_self(kind: PathKind) -> bool
 
 /// The module that an import makes the prelude: that which the glob of an item with
 /// `#[prelude_import]` leads to.
-pub fn new_prelude(directive: &ImportDirective, answer: &ResolvePathResult) -> Option<ModuleId>
-    ensures { result ≡ recording.new_prelude (pending_of directive.now) answer.now }
+pub fn new_prelude(import: &Import, answer: &ResolvePathResult) -> Option<ModuleId>
+    ensures { result ≡ recording.new_prelude (import_of import.now) answer.now }
 {
-    match directive.import.kind {
+    match import.written.kind {
         ImportKind::Plain | ImportKind::TypeOnly => None,
         ImportKind::Glob => {
-            if !directive.is_prelude {
+            if !import.is_prelude {
                 return None;
             }
             module_of(kept_item(answer, answer.resolved_def.types))
@@ -246,11 +273,11 @@ pub fn keeps_ns(kind: ImportKind, ns: Namespace) -> bool
 
 /// The name that an import binds: its alias, else the last segment of its path. A glob binds none of
 /// its own.
-pub fn import_name(import: &UseImport) -> Option<Option<Name>>
-    ensures { result ≡ imports.bound_name import.now }
+pub fn import_name(written: &UseImport) -> Option<Option<Name>>
+    ensures { result ≡ imports.bound_name written.now }
 {
-    match import.kind {
-        ImportKind::Plain | ImportKind::TypeOnly => plain_name(import),
+    match written.kind {
+        ImportKind::Plain | ImportKind::TypeOnly => plain_name(written),
         ImportKind::Glob => None,
     }
 }
@@ -267,25 +294,25 @@ pub fn crate_name(name: Name, alias: Option<ImportAlias>) -> Option<Name>
 }
 
 /// The alias of an import, else the last segment of its path.
-fn plain_name(import: &UseImport) -> Option<Option<Name>>
-    ensures { result ≡ imports.name_or import.now.alias import.now.path.segments }
+fn plain_name(written: &UseImport) -> Option<Option<Name>>
+    ensures { result ≡ imports.name_or written.now.alias written.now.path.segments }
 {
-    match import.alias {
+    match written.alias {
         Some(ImportAlias::Alias(name)) => Some(Some(name)),
         Some(ImportAlias::Underscore) => Some(None),
-        None => match import.path.segments.as_slice().last() {
+        None => match written.path.segments.as_slice().last() {
             Some(name) => Some(Some(*name)),
             None => None,
         },
     }
 }
 
-impl ImportDirective<'_> {
+impl Import<'_> {
     /// Its number, as a glob.
     pub fn glob_id(&self) -> GlobId
-        ensures { result ≡ recording.glob_id (pending_of self.now) }
+        ensures { result ≡ recording.glob_id (import_of self.now) }
     {
-        let idx = self.import.idx;
+        let idx = self.written.idx;
         GlobId {
             use_id: self.use_id,
             idx,
@@ -294,11 +321,11 @@ impl ImportDirective<'_> {
 
     /// What its bindings are brought by.
     pub fn origin(&self) -> ImportOrExternCrate
-        ensures { result ≡ imports.origin_of (pending_of self.now) }
+        ensures { result ≡ imports.origin_of (import_of self.now) }
     {
         ImportOrExternCrate::Import(ImportId {
             use_id: self.use_id,
-            idx: self.import.idx,
+            idx: self.written.idx,
         })
     }
 }

@@ -29,7 +29,7 @@ impl DefCollector<'_> {
             missing_crates,
             mod_dirs: _,
             unresolved_imports,
-            indeterminate_imports: _,
+            indeterminate_imports,
             diagnostics,
         } = self;
         let mut def_map = def_map;
@@ -41,6 +41,14 @@ impl DefCollector<'_> {
             &mut diagnostics,
             &missing_crates,
             unresolved_imports.as_slice(),
+        )?;
+        // The indeterminate ones have recorded something, and so add nothing.
+        report_left_imports(
+            &mut def_map,
+            &mut imports,
+            &mut diagnostics,
+            &missing_crates,
+            indeterminate_imports.as_slice(),
         )?;
         let table = table.into_table();
         let edges = edges_of(alloc, &table)?;

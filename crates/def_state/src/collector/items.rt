@@ -1,4 +1,4 @@
-//! Imports that begin to wait.
+//! Imports that are to be resolved.
 ghost use Rattle.std.specs.Prelude.{◌≡◌, [], OnOk};
 ghost use Rattle.item_tree.specs.declared.items.ModItemKind.TheVariants as kinds;
 ghost use Rattle.def_ids.specs.Session.{AddsLocations, session_of};
@@ -42,8 +42,8 @@ impl<'a> DefCollector<'a> {
             vis: visibility,
             is_prelude: is_prelude_import(node),
         };
-        let waiting = &mut self.unresolved_imports;
-        queue_imports(waiting, site.module_id, written, imports.as_slice())?;
+        let unresolved = &mut self.unresolved_imports;
+        queue_imports(unresolved, site.module_id, written, imports.as_slice())?;
         Ok(())
     }
 }

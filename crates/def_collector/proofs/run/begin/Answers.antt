@@ -4,7 +4,7 @@ use Rattle.def_modules.specs.Locals.{local_view}
 use Rattle.def_modules.specs.Tables.{bound_by}
 use Rattle.def_collector.specs.Collector.{setting_of}
 use Rattle.def_rules.specs.Crates.{deps_by_name, is_proc_macro_crate}
-use Rattle.def_collector.proofs.CollectLemmas.{begins, no_imports, no_partial}
+use Rattle.def_collector.proofs.CollectLemmas.{begins, no_imports}
 use Rattle.def_laws.proofs.GlobsLaws.{no_targets}
 use Rattle.def_collector.proofs.run.begin.Goals as goal
 
@@ -12,7 +12,7 @@ pub returns : goal.returns
 returns g c = λ tree session.
     let oracle = g.D.SourceDatabase.oracle c.args.db.now in
     let map = c.into_parts-data.ensures.state in
-    begins (setting_of oracle c.args.def_map tree (option_map (λ l. local_view l.now) c.args.crate_local)) (session_of session) _ _ _ _ _ _ _ _ _ _ _
+    begins (setting_of oracle c.args.def_map tree (option_map (λ l. local_view l.now) c.args.crate_local)) (session_of session) _ _ _ _ _ _ _ _ _ _
     map (ap bound_by c.new.ensures ∙ c.into_parts-data.ensures.content ∙ c.requires.bindings) (no_targets c.new-2.result c.new-2.ensures.empty) c.new-3.ensures
     (c.is_proc_macro_crate-is_proc_macro.ensures ∙ ap (λ m. is_proc_macro_crate oracle m.id.krate) map) (c.in_ok-deps.ensures ∙ ap (λ m. deps_by_name oracle m.id.krate) map) c.new-4.ensures c.new-5.ensures
-    (no_imports c.new-6.result.items c.new-6.ensures.items) (no_partial c.new-7.result.items c.new-7.ensures.items) c.new-8.ensures.items
+    (no_imports c.new-6.result.items c.new-7.result.items c.new-6.ensures.items c.new-7.ensures.items) c.new-8.ensures.items

@@ -2,7 +2,7 @@ use Rattle.std.proofs.Common.{ap, sym, ◌∙◌}
 use Rattle.std.specs.Prelude.{option_map}
 use Rattle.def_bindings.specs.declared.bindings.EdgeTo.{EdgeTo}
 use Rattle.def_bindings.specs.declared.visibility.Visibility.{Visibility}
-use Rattle.def_steps.specs.Shown.{pending_of}
+use Rattle.def_steps.specs.Shown.{import_of}
 use Rattle.def_state.specs.Collector.{state_of}
 use Rattle.def_rules.specs.Globs.{Targets}
 use Rattle.def_laws.proofs.GlobsLaws.{glob_nothing, glob_recorded}
@@ -10,15 +10,15 @@ use Rattle.def_imports.proofs.globs.record_glob.Goals as goal
 
 pub returns-in_default-clause-performs : goal.returns-in_default-clause-performs
 returns-in_default-clause-performs g c =
-    glob_nothing (g.D.SourceDatabase.oracle c.args.db.now) (state_of c.args.collector.now c.args.session.now) (pending_of c.args.directive.now) c.args.answer.now
+    glob_nothing (g.D.SourceDatabase.oracle c.args.db.now) (state_of c.args.collector.now c.args.session.now) (import_of c.args.import.now) c.args.answer.now
     (ap (λ o. option_map (λ item. item.def) o) (sym c.kept_item.ensures ∙ c.in_default.is))
 
 pub returns-clause-performs : goal.returns-clause-performs
 returns-clause-performs g c =
     let s = state_of c.args.collector.now c.args.session.now in
-    let glob : EdgeTo Visibility = record { importer = c.args.directive.now.module_id; vis = c.resolve_visibility-vis.result; glob = c.glob_id.result } in
-    glob_recorded (g.D.SourceDatabase.oracle c.args.db.now) s (state_of c.put_glob.new.collector c.args.session.now) (pending_of c.args.directive.now) c.args.answer.now _ c.in-Some.item.def glob
+    let glob : EdgeTo Visibility = record { importer = c.args.import.now.module_id; vis = c.resolve_visibility-vis.result; glob = c.glob_id.result } in
+    glob_recorded (g.D.SourceDatabase.oracle c.args.db.now) s (state_of c.put_glob.new.collector c.args.session.now) (import_of c.args.import.now) c.args.answer.now _ c.in-Some.item.def glob
     (ap (λ (targets : Targets). record s { targets = targets }) c.in_ok-add_target.ensures)
     (ap (λ o. option_map (λ item. item.def) o) (sym c.kept_item.ensures ∙ c.in-Some.is))
-    (λ i. record { importer = c.args.directive.now.module_id; vis = c.resolve_visibility-vis.ensures i; glob = c.glob_id.ensures i })
+    (λ i. record { importer = c.args.import.now.module_id; vis = c.resolve_visibility-vis.ensures i; glob = c.glob_id.ensures i })
     c.in_ok-put_glob.ensures.performs

@@ -21,7 +21,7 @@ returns-then-moved-clause-fewer g c = λ moved.
       | else-unresolved w ↦ w.moved-is ∙ ap (λ b. b || second) (sym w.if-unresolved.false)
     ] in
     subst (λ s. turns_left s < turns_left (state_of c.args.collector.now c.args.session.now)) (sym (c.drop_resolved.ensures c.args.session.now))
-    (fewer_after_both c.args.session.now c.args.collector.now c.try_unresolved_imports.new.collector c.try_indeterminate_imports.new.collector first second (sym either ∙ moved)
+    (fewer_after_both c.args.session.now c.args.collector.now c.try_imports.new.collector c.try_imports-2.new.collector first second (sym either ∙ moved)
     c.in_ok-unresolved.ensures.fewer c.in_ok-unresolved.ensures.same c.in_ok-indeterminate.ensures.fewer c.in_ok-indeterminate.ensures.same)
 
 pub returns-else-moved-clause-run : goal.returns-else-moved-clause-run
@@ -35,5 +35,5 @@ returns-else-moved-clause-settled g c = λ moved.
       | then-unresolved w ↦ w.moved-is ∙ w.if-unresolved.true ∙ ap (λ b. b || second) (sym w.if-unresolved.true)
       | else-unresolved w ↦ w.moved-is ∙ ap (λ b. b || second) (sym w.if-unresolved.false)
     ] in
-    settled_after_both (g.D.SourceDatabase.oracle c.args.db.now) c.args.session.now c.args.collector.now c.try_unresolved_imports.new.collector c.try_indeterminate_imports.new.collector first second (sym either ∙ moved)
+    settled_after_both (g.D.SourceDatabase.oracle c.args.db.now) c.args.session.now c.args.collector.now c.try_imports.new.collector c.try_imports-2.new.collector first second (sym either ∙ moved)
     c.in_ok-unresolved.ensures.unready c.in_ok-unresolved.ensures.same c.in_ok-indeterminate.ensures.unready c.in_ok-indeterminate.ensures.same

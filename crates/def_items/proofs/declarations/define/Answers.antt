@@ -1,4 +1,4 @@
-use Rattle.std.proofs.Common.{◌≡◌, ◌∷◌, [], ap, subst}
+use Rattle.std.proofs.Common.{◌∷◌, [], ap, subst}
 use Rattle.def_items.specs.Parts.{with_parts}
 use Rattle.def_items.proofs.ItemsLemmas.{declared_put}
 use Rattle.def_items.proofs.declarations.define.Goals as goal

@@ -1,8 +1,5 @@
 use Rattle.std.proofs.Common.{rules}
 use Rattle.def_steps.proofs.left_imports.report_unresolved_import.Goals as goal
 
-pub returns-then-excuses : goal.returns-then-excuses
-returns-then-excuses c = search rules
-
-pub returns : goal.returns
-returns c = search rules
+pub returns-clause-map : goal.returns-clause-map
+returns-clause-map c = search rules

@@ -1,4 +1,4 @@
-use Rattle.std.proofs.Common.{sym, subst}
+use Rattle.std.proofs.Common.{subst}
 use Rattle.def_state.specs.Collector.{state_of}
 use Rattle.def_rules.specs.Items.{declared_effect}
 use Rattle.def_rules.specs.State.{State}

@@ -1,4 +1,4 @@
-use Rattle.std.proofs.Common.{[], ◌∷◌, Some, subst}
+use Rattle.std.proofs.Common.{[], ◌∷◌, subst}
 use Rattle.def_laws.specs.Performs.{Updated}
 use Rattle.def_rules.specs.ExternCrates.{crate_entry}
 use Rattle.def_rules.specs.State.{State}

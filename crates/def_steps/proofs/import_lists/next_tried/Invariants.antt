@@ -1,5 +1,5 @@
 use Rattle.std.proofs.Common.{◌≡◌, ◌<◌, ◌≤◌, ℕ, None, Some, slice_get}
-use Rattle.def_steps.proofs.waiting.next_tried.Given as goal
+use Rattle.def_steps.proofs.import_lists.next_tried.Given as goal
 
 -- no import stands at the places so far
 abbrev pub invariant-entries : goal.invariant-entries

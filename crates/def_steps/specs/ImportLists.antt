@@ -1,0 +1,61 @@
+-- Imports in lists whose places may be empty, and what the end of a run does with those that are unresolved.
+use Rattle.std.specs.Prelude.{List, [], ◌∷◌, ◌++◌, cond, map, filter_map, Option, Some, None, IsPermutation}
+use Rattle.item_tree.specs.declared.items.UseImport.{UseImport}
+use Rattle.item_tree.specs.declared.name.Name.{Name}
+use Rattle.def_ids.specs.declared.ids.ModuleId.{ModuleId}
+use Rattle.def_modules.specs.Maps.{with_module}
+use Rattle.def_modules.specs.MapState.{MapState}
+use Rattle.def_modules.specs.Scopes.{marked_failed}
+use Rattle.def_rules.specs.Imports.{bound_name, is_empty, no_namespaces, unresolved_imports}
+use Rattle.def_rules.specs.State as rules
+use Rattle.def_steps.specs.declared.directive.ImportDirective.{ImportDirective}
+use Rattle.def_steps.specs.declared.import_lists.ImportList.{ImportList}
+use Rattle.def_steps.specs.declared.import_lists.ImportList.TheVariants.{Unresolved, Indeterminate}
+use Rattle.def_steps.specs.declared.import_lists.WrittenUse.{WrittenUse}
+use Rattle.def_steps.specs.Shown.{directive_of, import_of, ns_set}
+
+-- the entries of a list that are still there
+unfoldable pub present : {A : Type 0} → List (Option A) → List A
+present entries = filter_map (λ entry. entry) entries
+
+-- the imports of a list
+abbrev pub directives_in : List (Option ImportDirective) → List rules.ImportDirective
+directives_in entries = map directive_of (present entries)
+
+-- one of two lists
+abbrev pub entries_in : ImportList → List (Option ImportDirective) → List (Option ImportDirective) → List (Option ImportDirective)
+entries_in Unresolved unresolved indeterminate = unresolved
+entries_in Indeterminate unresolved indeterminate = indeterminate
+
+-- the imports of a `use` item, of which nothing is recorded yet
+abbrev pub queued : ModuleId → WrittenUse → List UseImport → List rules.ImportDirective
+queued at written imports =
+    map (λ import. record {
+      import = record { scope = at; position = written.position; use_id = written.use_id; written = import; vis = written.vis.now; is_prelude = written.is_prelude };
+      recorded = no_namespaces;
+    }) imports
+
+-- an import left the others, and what is kept of it stands among them
+pub record IsRetired (old : List rules.ImportDirective) (d : rules.ImportDirective) (kept new : List rules.ImportDirective) : Type 0 where
+  pub rest : List rules.ImportDirective
+  pub stands : IsPermutation old (d ∷ rest)
+  pub left : IsPermutation (rest ++ kept) new
+
+-- the imports of a list that are unresolved
+abbrev pub unresolved_in : List (Option ImportDirective) → List rules.Import
+unresolved_in entries = unresolved_imports (directives_in entries)
+
+-- the import that an entry holds, if it is there and unresolved
+abbrev pub left_in : Option ImportDirective → List rules.Import
+left_in None = []
+left_in (Some d) = cond (is_empty (ns_set d.recorded)) (import_of d.import ∷ []) []
+
+-- the map with the name that an import would have bound marked as failed
+abbrev pub marked_once : rules.Import → Option (Option Name) → MapState → MapState
+marked_once p (Some (Some name)) m = with_module m p.scope.index (marked_failed name)
+marked_once p _ m = m
+
+-- the map with the names of these imports marked, one after the other
+abbrev pub marked_each : List rules.Import → MapState → MapState
+marked_each [] m = m
+marked_each (p ∷ ps) m = marked_each ps (marked_once p (bound_name p.written) m)
