@@ -1,7 +1,6 @@
 -- What was recorded of imports is bound or still to be put, and steps keep that.
 use Rattle.std.proofs.Common.{◌≡◌, ◌⊎◌, inl, inr, Bool, true, false, List, [], ◌∷◌, ◌++◌, Option, Some, None, Contains, sym, ap, ◌∙◌, subst, arith}
 use Rattle.std.proofs.lemmas.List.Elements.{Contains-append_right}
-use Rattle.item_tree.specs.declared.ids.ModItemId.{ModItemId}
 use Rattle.item_tree.specs.declared.name.Name.{Name}
 use Rattle.def_ids.specs.declared.ids.GlobId.{GlobId}
 use Rattle.def_ids.specs.declared.ids.ModuleId.{ModuleId}
@@ -17,10 +16,11 @@ use Rattle.def_bindings.specs.Order.{Order}
 use Rattle.def_bindings.specs.Puts.{offered, put_entry}
 use Rattle.def_bindings.specs.PutsLaws.{bound_stays-put_entry, bound_after-put_name}
 use Rattle.def_rules.specs.Imports.{bound_name, is_full, keeps_ns, no_namespaces}
-use Rattle.def_parts.specs.Directories.{Directory}
-use Rattle.def_rules.specs.State.{Event, PutExplicit, Recorded, NsSet, Import, ImportDirective, Site, Task, Enter, Visit, Put, AddEdge}
+use Rattle.def_rules.specs.State.{Event, PutExplicit, Recorded, NsSet, Import, ImportDirective, Task, Put, AddEdge}
 use Rattle.def_rules.specs.Steps.{event_of}
 use Rattle.def_laws.proofs.AddedLaws.{AddsNew}
+use Rattle.def_laws.specs.Roles.{is_still, role_of}
+use Rattle.def_laws.proofs.MovesLaws.{AreStill}
 use Rattle.def_laws.proofs.ListLaws.{contains_cases}
 
 -- whether a set has a namespace
@@ -107,21 +107,17 @@ pub keeps_coming : (content content' : Content Visibility) (tasks tasks' : List 
 keeps_coming content content' tasks tasks' bound more at name ns (inl now) = inl (bound at name ns now)
 keeps_coming content content' tasks tasks' bound more at name ns (inr ahead) = inr (record { entry = ahead.entry; ahead = more at ahead.entry ahead.ahead; named = ahead.named; within = ahead.within })
 
--- a visit leaves what is ahead
-pub visit_ahead : (site : Site) (id : ModItemId) (rest more : List Task) (at : ModuleId) (entry : Entry Visibility) → Contains (Visit site id ∷ rest) (Put at entry) → Contains (more ++ rest) (Put at entry)
-visit_ahead site id rest more at entry h =
-    elim (contains_cases (Visit site id) (Put at entry) rest h) [
-      | inl same ↦ absurd (cc same)
-      | inr later ↦ Contains-append_right more rest (Put at entry) later
+-- what is done beside puts and edges leaves what is ahead
+pub still_ahead : (gone rest more : List Task) → AreStill gone → (at : ModuleId) (entry : Entry Visibility) → Contains (gone ++ rest) (Put at entry) → Contains (more ++ rest) (Put at entry)
+still_ahead [] rest more still at entry h = Contains-append_right more rest (Put at entry) h
+still_ahead (task ∷ gone) rest more still at entry h =
+    elim (contains_cases task (Put at entry) (gone ++ rest) h) [
+      | inl same ↦ absurd (no_put (ap (λ t. is_still (role_of t)) same) still.0)
+      | inr later ↦ still_ahead gone rest more still.1 at entry later
     ]
-
--- so does a directory that is stored
-pub enter_ahead : (place : ModuleId) (directory : Directory) (rest : List Task) (at : ModuleId) (entry : Entry Visibility) → Contains (Enter place directory ∷ rest) (Put at entry) → Contains rest (Put at entry)
-enter_ahead place directory rest at entry h =
-    elim (contains_cases (Enter place directory) (Put at entry) rest h) [
-      | inl same ↦ absurd (cc same)
-      | inr later ↦ later
-    ]
+  where
+    no_put : is_still (role_of task) ≡ false → is_still (role_of task) ≡ true → ⊥
+    no_put moves rests = let wrong : false ≡ true = sym moves ∙ rests in cc
 
 -- an added edge leaves what is ahead
 pub edge_ahead : (source : ModuleId) (edge : EdgeTo Visibility) (rest : List Task) (at : ModuleId) (entry : Entry Visibility) → Contains (AddEdge source edge ∷ rest) (Put at entry) → Contains rest (Put at entry)

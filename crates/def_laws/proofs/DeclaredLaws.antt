@@ -18,10 +18,11 @@ use Rattle.def_globs.specs.Globs.{with_recorded}
 use Rattle.def_rules.specs.Imports.{answer_now, is_foreign}
 use Rattle.def_rules.specs.Recording.{ImportStep}
 use Rattle.def_rules.specs.Settled.{IsDeclared, WasPut}
-use Rattle.def_rules.specs.State.{State, Effect, Event, PutExplicit, Recorded, Import, Moment, Task, Enter, Visit, Put, order, AddEdge}
-use Rattle.def_rules.specs.Steps.{Copies, Does, Reaches, Step, performs, copies, rearranges, records, event_of, put_event}
+use Rattle.def_rules.specs.State.{State, Effect, Event, PutExplicit, Recorded, Import, Moment, order}
+use Rattle.def_rules.specs.Steps.{Copies, Reaches, Step, event_of, put_event}
 use Rattle.def_laws.proofs.ListLaws.{not_empty, split_last}
-use Rattle.def_laws.proofs.RunsLaws.{kept_along, visits_leaves}
+use Rattle.def_laws.proofs.MovesLaws.{Move, putting, linking, doing, copying, sorting, recording, move_of}
+use Rattle.def_laws.proofs.RunsLaws.{kept_along}
 use Rattle.def_laws.proofs.StaysLaws.{copies_keep}
 
 -- an explicit binding stands at the place of one that was put: that one, or one that was put there before
@@ -165,12 +166,6 @@ declares-edge events o source edge c all =
 
 -- Each step keeps what is declared
 
-declares-does : (oracle : Oracle) (events : List Event) (s : State) (task : Task) (effect : Effect) → Does oracle s task effect → Declares events s.content → Declares (events ++ effect.events) effect.state.content
-declares-does oracle events s (Enter at directory) effect does all = declares-same events effect.events s.content effect.state.content (ap (λ (e : Effect). e.events) does) (ap (λ (e : Effect). e.state.content) does) all
-declares-does oracle events s (Visit site id) effect does all = let leaves = visits_leaves oracle s site id effect does in declares-same events effect.events s.content effect.state.content leaves.events leaves.content all
-declares-does oracle events s (Put place entry) effect does all = subst (λ (e : Effect). Declares (events ++ e.events) e.state.content) (sym does) (declares-put (order s) place entry events s.content all)
-declares-does oracle events s (AddEdge source edge) effect does all = subst (λ (e : Effect). Declares (events ++ e.events) e.state.content) (sym does) (declares-edge events (order s) source edge s.content all)
-
 declares-import : (oracle : Oracle) (events : List Event) (s : State) (effect : Effect) → ImportStep oracle s effect → Declares events s.content → Declares (events ++ effect.events) effect.state.content
 declares-import oracle events s effect step all =
     subst (λ (e : Effect). Declares (events ++ e.events) e.state.content) (sym step.is) (declares-recorded events s.content step.directive.import (is_foreign (answer_now oracle s step.directive.import)) all)
@@ -179,11 +174,16 @@ declares-import oracle events s effect step all =
 abbrev DeclaresAt : Moment → Type 0
 DeclaresAt m = Declares m.events m.state.content
 
+declares-move : {oracle : Oracle} (a b : Moment) → Move oracle a b → DeclaresAt a → DeclaresAt b
+declares-move a b (putting place entry rest first is) all = subst DeclaresAt (sym is) (declares-put (order a.state) place entry a.events a.state.content all)
+declares-move a b (linking source edge rest first is) all = subst DeclaresAt (sym is) (declares-edge a.events (order a.state) source edge a.state.content all)
+declares-move a b (doing gone rest scope effect first still calm own foot is) all = subst DeclaresAt (sym is) (declares-same a.events effect.events a.state.content effect.state.content foot.events foot.content all)
+declares-move a b (copying content copy is) all = subst DeclaresAt (sym is) (declares-copied a.state a.events content copy all)
+declares-move a b (sorting state same is) all = subst DeclaresAt (sym is) (subst (λ (s : State). Declares a.events s.content) (sym same.rest) all)
+declares-move {oracle} a b (recording effect idle step is) all = subst DeclaresAt (sym is) (declares-import oracle a.events a.state effect step all)
+
 declares-step : {oracle : Oracle} (a b : Moment) → Step oracle a b → DeclaresAt a → DeclaresAt b
-declares-step {oracle} a b (performs task rest effect first does is) all = subst DeclaresAt (sym is) (declares-does oracle a.events a.state task effect does all)
-declares-step a b (copies content copy is) all = subst DeclaresAt (sym is) (declares-copied a.state a.events content copy all)
-declares-step a b (rearranges state same is) all = subst DeclaresAt (sym is) (subst (λ (s : State). Declares a.events s.content) (sym same.rest) all)
-declares-step {oracle} a b (records effect idle step is) all = subst DeclaresAt (sym is) (declares-import oracle a.events a.state effect step all)
+declares-step a b step all = declares-move a b (move_of a b step) all
 
 declares_nothing : Declares [] empty
 declares_nothing = record { known = λ at name ns held there explicit. cc; declared = λ before after at name ns held happened. absurd (not_empty before after _ happened) }

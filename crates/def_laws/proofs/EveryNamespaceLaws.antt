@@ -4,7 +4,6 @@ use Rattle.std.specs.Prelude.{IsSome}
 use Rattle.std.proofs.lemmas.Bool.{and_parts, or_parts}
 use Rattle.std.proofs.lemmas.List.Elements.{Contains-append_left, Contains-append_right, Contains-append_cases}
 use Rattle.std.proofs.lemmas.List.Sorted.{Contains-permutation, IsPermutation-sym}
-use Rattle.item_tree.specs.declared.ids.ModItemId.{ModItemId}
 use Rattle.item_tree.specs.declared.name.Name.{Name}
 use Rattle.def_ids.specs.declared.ids.ModuleId.{ModuleId}
 use Rattle.def_bindings.specs.declared.bindings.EdgeTo.{EdgeTo}
@@ -25,11 +24,12 @@ use Rattle.def_globs.specs.Globs.{with_recorded}
 use Rattle.def_rules.specs.Imports.{answer_now, given_set, is_extended, is_foreign, is_full, is_missing}
 use Rattle.def_rules.specs.Recording.{ImportStep, NoneReady, after_import}
 use Rattle.def_rules.specs.Settled.{HasEveryNamespace}
-use Rattle.def_rules.specs.State.{State, Effect, Event, Recorded, NsSet, Import, ImportDirective, Moment, Task, Enter, Visit, Put, Rearranges, Site, order, AddEdge}
-use Rattle.def_rules.specs.Steps.{Copies, Does, Reaches, Step, performs, copies, rearranges, records, put_event}
-use Rattle.def_parts.specs.Directories.{Directory}
-use Rattle.def_laws.proofs.RunsLaws.{Leaves, kept_along, visits_leaves}
-use Rattle.def_laws.proofs.ComingLaws.{Covers, HasSet, bound_now, covers-kept, enter_ahead, has_ns, keeps_coming, put_keeps, unrecorded, visit_ahead, edge_ahead}
+use Rattle.def_rules.specs.State.{State, Effect, Event, Recorded, NsSet, Import, ImportDirective, Moment, Task, Put, Rearranges, order, AddEdge}
+use Rattle.def_rules.specs.Steps.{Copies, Reaches, Step, put_event}
+use Rattle.def_laws.proofs.FootprintLaws.{Footprint}
+use Rattle.def_laws.proofs.MovesLaws.{AreStill, Move, putting, linking, doing, copying, sorting, recording, move_of}
+use Rattle.def_laws.proofs.RunsLaws.{kept_along}
+use Rattle.def_laws.proofs.ComingLaws.{Covers, HasSet, bound_now, covers-kept, has_ns, keeps_coming, put_keeps, unrecorded, still_ahead, edge_ahead}
 use Rattle.def_laws.proofs.AddedLaws.{none_added, reordered}
 use Rattle.def_laws.proofs.ListLaws.{contains_cases}
 use Rattle.def_laws.proofs.RecordedLaws.{all_ahead, covers-recorded}
@@ -38,23 +38,20 @@ use Rattle.def_laws.proofs.RecordedLaws.{all_ahead, covers-recorded}
 abbrev CoversAt : Moment → Type 0
 CoversAt m = Covers m.state.imports m.state.content m.tasks m.events
 
-module _ (s : State) (effect : Effect) (rest : List Task) (events : List Event) where
-  covers-visit : (site : Site) (id : ModItemId) → Leaves s effect → Covers s.imports s.content (Visit site id ∷ rest) events → Covers effect.state.imports effect.state.content (effect.tasks ++ rest) (events ++ effect.events)
-  covers-visit site id leaves all =
-      subst (λ c. Covers effect.state.imports c (effect.tasks ++ rest) (events ++ effect.events)) (sym leaves.content)
-      (subst (λ es. Covers effect.state.imports s.content (effect.tasks ++ rest) (events ++ es)) (sym leaves.events)
-      (subst (λ es. Covers effect.state.imports s.content (effect.tasks ++ rest) es) (sym (append-nil events))
-      (covers-kept s.imports effect.state.imports s.content s.content (Visit site id ∷ rest) (effect.tasks ++ rest) events events (keeps_coming s.content s.content (Visit site id ∷ rest) (effect.tasks ++ rest) (λ at name ns bound. bound) (λ at entry h. visit_ahead site id rest effect.tasks at entry h))
-      leaves.imports (λ e h. h) (λ p h. h) all)))
+-- at a moment with these tasks
+covers-tasks : (a : Moment) (tasks : List Task) → a.tasks ≡ tasks → CoversAt a → Covers a.state.imports a.state.content tasks a.events
+covers-tasks a tasks same all = subst (λ l. Covers a.state.imports a.state.content l a.events) same all
 
--- a directory that is stored leaves all that is covered
-covers-enter : (s : State) (at : ModuleId) (directory : Directory) (rest : List Task) (events : List Event) → Covers s.imports s.content (Enter at directory ∷ rest) events
-    → Covers s.imports s.content rest (events ++ [])
-covers-enter s at directory rest events all =
-    subst (λ es. Covers s.imports s.content rest es) (sym (append-nil events))
-    (covers-kept s.imports s.imports s.content s.content (Enter at directory ∷ rest) rest events events
-    (keeps_coming s.content s.content (Enter at directory ∷ rest) rest (λ at name ns bound. bound) (λ place entry h. enter_ahead at directory rest place entry h))
-    (none_added s.imports) (λ e h. h) (λ p h. h) all)
+-- what is done beside puts and edges leaves all that is covered
+covers-footprint : (s : State) (gone rest : List Task) (scope : ModuleId) (effect : Effect) (events : List Event) → AreStill gone → Footprint s scope effect → Covers s.imports s.content (gone ++ rest) events
+    → Covers effect.state.imports effect.state.content (effect.tasks ++ rest) (events ++ effect.events)
+covers-footprint s gone rest scope effect events still foot all =
+    subst (λ c. Covers effect.state.imports c (effect.tasks ++ rest) (events ++ effect.events)) (sym foot.content)
+    (subst (λ es. Covers effect.state.imports s.content (effect.tasks ++ rest) (events ++ es)) (sym foot.events)
+    (subst (λ es. Covers effect.state.imports s.content (effect.tasks ++ rest) es) (sym (append-nil events))
+    (covers-kept s.imports effect.state.imports s.content s.content (gone ++ rest) (effect.tasks ++ rest) events events
+    (keeps_coming s.content s.content (gone ++ rest) (effect.tasks ++ rest) (λ at name ns bound. bound) (λ at entry h. still_ahead gone rest effect.tasks still at entry h))
+    foot.imports (λ e h. h) (λ p h. h) all)))
 
 covers-put : (s : State) (place : ModuleId) (entry : Entry Visibility) (rest : List Task) (events : List Event) → Covers s.imports s.content (Put place entry ∷ rest) events
     → Covers s.imports (put_entry (order s) place entry s.content) rest (events ++ put_event place entry)
@@ -73,16 +70,6 @@ covers-edge s source edge rest events all =
     (covers-kept s.imports s.imports s.content (with_recorded (order s) s.content source edge) (AddEdge source edge ∷ rest) rest events events
     (keeps_coming s.content (with_recorded (order s) s.content source edge) (AddEdge source edge ∷ rest) rest (λ at name ns bound. bound) (λ at entry h. edge_ahead source edge rest at entry h))
     (none_added s.imports) (λ e h. h) (λ p h. h) all)
-
-covers-does : (oracle : Oracle) (s : State) (task : Task) (effect : Effect) (rest : List Task) (events : List Event) → Does oracle s task effect → Covers s.imports s.content (task ∷ rest) events
-    → Covers effect.state.imports effect.state.content (effect.tasks ++ rest) (events ++ effect.events)
-covers-does oracle s (Enter at directory) effect rest events does all =
-    subst (λ (e : Effect). Covers e.state.imports e.state.content (e.tasks ++ rest) (events ++ e.events)) (sym does) (covers-enter s at directory rest events all)
-covers-does oracle s (Visit site id) effect rest events does all = covers-visit s effect rest events site id (visits_leaves oracle s site id effect does) all
-covers-does oracle s (Put place entry) effect rest events does all =
-    subst (λ (e : Effect). Covers e.state.imports e.state.content (e.tasks ++ rest) (events ++ e.events)) (sym does) (covers-put s place entry rest events all)
-covers-does oracle s (AddEdge source edge) effect rest events does all =
-    subst (λ (e : Effect). Covers e.state.imports e.state.content (e.tasks ++ rest) (events ++ e.events)) (sym does) (covers-edge s source edge rest events all)
 
 covers-copied : (s : State) (content : Content Visibility) (tasks : List Task) (events : List Event) → Copies s content → Covers s.imports s.content tasks events → Covers s.imports content tasks events
 covers-copied s content tasks events copy all =
@@ -111,13 +98,16 @@ covers-import oracle s effect events step all =
     ])
     (λ x h. Contains-permutation (d ∷ step.rest) s.imports x back (Contains-append_right (d ∷ []) step.rest x h)) all)
 
+covers-move : {oracle : Oracle} (a b : Moment) → Move oracle a b → CoversAt a → CoversAt b
+covers-move a b (putting place entry rest first is) all = subst CoversAt (sym is) (covers-put a.state place entry rest a.events (covers-tasks a _ first all))
+covers-move a b (linking source edge rest first is) all = subst CoversAt (sym is) (covers-edge a.state source edge rest a.events (covers-tasks a _ first all))
+covers-move a b (doing gone rest scope effect first still calm own foot is) all = subst CoversAt (sym is) (covers-footprint a.state gone rest scope effect a.events still foot (covers-tasks a _ first all))
+covers-move a b (copying content copy is) all = subst CoversAt (sym is) (covers-copied a.state content a.tasks a.events copy all)
+covers-move a b (sorting state same is) all = subst CoversAt (sym is) (covers-rearranged a.state state a.tasks a.events same all)
+covers-move {oracle} a b (recording effect idle step is) all = subst CoversAt (sym is) (covers-import oracle a.state effect a.events step (covers-tasks a [] idle all))
+
 covers-step : {oracle : Oracle} (a b : Moment) → Step oracle a b → CoversAt a → CoversAt b
-covers-step {oracle} a b (performs task rest effect first does is) all =
-    subst CoversAt (sym is) (covers-does oracle a.state task effect rest a.events does (subst (λ tasks. Covers a.state.imports a.state.content tasks a.events) first all))
-covers-step a b (copies content copy is) all = subst CoversAt (sym is) (covers-copied a.state content a.tasks a.events copy all)
-covers-step a b (rearranges state same is) all = subst CoversAt (sym is) (covers-rearranged a.state state a.tasks a.events same all)
-covers-step {oracle} a b (records effect idle step is) all =
-    subst CoversAt (sym is) (covers-import oracle a.state effect a.events step (subst (λ tasks. Covers a.state.imports a.state.content tasks a.events) idle all))
+covers-step a b step all = covers-move a b (move_of a b step) all
 
 covers_nothing : (content : Content Visibility) (tasks : List Task) → Covers [] content tasks []
 covers_nothing content tasks =

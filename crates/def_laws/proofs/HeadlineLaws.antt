@@ -16,7 +16,7 @@ use Rattle.def_rules.specs.Steps.{Reaches}
 use Rattle.def_laws.proofs.BegunLaws.{begins_apart}
 use Rattle.def_laws.proofs.DeclaredLaws.{declared_along, was_put_along}
 use Rattle.def_laws.proofs.EveryNamespaceLaws.{every_namespace_along}
-use Rattle.def_laws.proofs.RunsLaws.{none_failed_along}
+use Rattle.def_laws.proofs.FailedLaws.{none_failed_along}
 use Rattle.def_laws.proofs.StaysLaws.{explicit_stays_along}
 
 -- where a run from the seeded map leads to an end at which nothing is left to do and no import is ready, what is answered of that end is right

@@ -2,7 +2,9 @@ pub mod ChainsLaws
 pub mod SoundLaws
 pub mod BroughtLaws
 pub mod LargerLaws
-pub mod OpenedLaws
+pub mod CleanLaws
+pub mod FootprintLaws
+pub mod MovesLaws
 pub mod OwnLaws
 pub mod TargetsLaws
 pub mod TasksLaws
@@ -21,6 +23,7 @@ pub mod ModulesLaws
 pub mod ListLaws
 pub mod AddedLaws
 pub mod RunsLaws
+pub mod FailedLaws
 pub mod StaysLaws
 pub mod DeclaredLaws
 pub mod ComingLaws

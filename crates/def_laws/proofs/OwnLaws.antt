@@ -30,9 +30,10 @@ use Rattle.def_globs.proofs.RecordingLaws.{origin_copies}
 use Rattle.def_globs.specs.Waves as Waves
 use Rattle.def_globs.specs.Waves.{def_at, def_or}
 use Rattle.def_globs.proofs.AddingLaws.{in_with_edge}
-use Rattle.def_laws.specs.Own.{AreOwn, AreOwnTasks, IsOwn, IsOwnTask, IsRecorded}
+use Rattle.def_laws.specs.Own.{AreOwn, AreOwnTasks, IsOwn, IsOwnTask, IsRecorded, IsRecordedFor}
+use Rattle.def_laws.specs.Roles.{Role, puts, links, stays, place_of, role_of}
 use Rattle.def_rules.specs.Globs.{Targets}
-use Rattle.def_rules.specs.State.{ImportDirective, Task, Enter, Visit, Put, AddEdge}
+use Rattle.def_rules.specs.State.{ImportDirective, Task, Put}
 use Rattle.def_laws.proofs.LargerLaws.{own_larger}
 use Rattle.def_laws.proofs.SoundLaws.{IsLarger}
 
@@ -42,10 +43,12 @@ StayRecorded targets targets' = (glob : GlobId) → IsRecorded targets glob → 
 
 module _ (m m' : MapState) (targets targets' : Targets) (larger : IsLarger m m') (stay : StayRecorded targets targets') where
   task_stays : (task : Task) → IsOwnTask m targets task → IsOwnTask m' targets' task
-  task_stays (Enter at directory) own = tt
-  task_stays (Visit site id) own = own_larger m m' site.scope larger own
-  task_stays (Put at entry) own = (own_larger m m' at larger own.0, λ g by. stay g (own.1 g by))
-  task_stays (AddEdge source edge) own = (own_larger m m' edge.importer larger own.0, stay edge.glob own.1)
+  task_stays task own = (own_larger m m' (place_of task) larger own.0, by_role (role_of task) own.1)
+    where
+      by_role : (role : Role) → IsRecordedFor targets role → IsRecordedFor targets' role
+      by_role (puts at entry) recorded = λ g by. stay g (recorded g by)
+      by_role (links source edge) recorded = stay edge.glob recorded
+      by_role stays recorded = tt
 
   -- tasks stay within a map that grows
   pub tasks_stay : (tasks : List Task) → AreOwnTasks m targets tasks → AreOwnTasks m' targets' tasks
@@ -73,6 +76,10 @@ own_both m targets (x ∷ xs) ys h k = (h.0, own_both m targets xs ys h.1 k)
 pub own_first : (m : MapState) (targets : Targets) (xs ys : List Task) → AreOwnTasks m targets (xs ++ ys) → AreOwnTasks m targets xs
 own_first m targets [] ys h = tt
 own_first m targets (x ∷ xs) ys h = (h.0, own_first m targets xs ys h.1)
+
+pub own_last : (m : MapState) (targets : Targets) (xs ys : List Task) → AreOwnTasks m targets (xs ++ ys) → AreOwnTasks m targets ys
+own_last m targets [] ys h = h
+own_last m targets (x ∷ xs) ys h = own_last m targets xs ys h.1
 
 -- A table that is written
 

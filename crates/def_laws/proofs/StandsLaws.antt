@@ -2,6 +2,8 @@
 use Rattle.std.proofs.Common.{◌≡◌, List, ◌∷◌, ◌++◌, Contains, Option, Some, None, sym, ap, subst, inl, inr, append-nil}
 use Rattle.std.proofs.lemmas.List.Elements.{Contains-append_cases}
 use Rattle.std.proofs.lemmas.List.Sorted.{Contains-permutation, IsPermutation-sym}
+use Rattle.item_tree.specs.declared.ids.ModItemId.{ModItemId}
+use Rattle.def_ids.specs.declared.ids.ModuleId.{ModuleId}
 use Rattle.def_modules.specs.MapState.{MapState}
 use Rattle.def_paths.specs.declared.asked.ResolvePathResult.{ResolvePathResult}
 use Rattle.def_oracle.specs.Oracle.{Oracle}
@@ -10,11 +12,12 @@ use Rattle.def_laws.specs.Own.{AreOwn, IsOwn, IsRecorded, Stands}
 use Rattle.def_laws.specs.Sound.{IsSound}
 use Rattle.def_rules.specs.Imports.{answer_now}
 use Rattle.def_rules.specs.Recording.{ImportStep, after_import, kept_list, new_prelude, record_effect, record_state, record_tasks, with_new_prelude}
-use Rattle.def_rules.specs.State.{State, Effect, Moment, NsSet, ImportDirective, Import, Task, Enter, Visit, Put, AddEdge, order}
-use Rattle.def_rules.specs.Steps.{Does, Reaches, Step, performs, copies, rearranges, records}
+use Rattle.def_rules.specs.State.{State, Effect, Moment, NsSet, ImportDirective, Import, Site, Task, Visit, order}
+use Rattle.def_rules.specs.Steps.{Does, Reaches, Step}
 use Rattle.def_laws.proofs.LargerLaws.{larger_prelude, larger_refl, own_larger}
-use Rattle.def_laws.proofs.OpenedLaws.{visits_opened}
-use Rattle.def_laws.proofs.OwnLaws.{own_both, own_copied, own_edge, own_first, own_put, own_stays, tasks_stay}
+use Rattle.def_laws.proofs.FootprintLaws.{Footprint, visits_footprint}
+use Rattle.def_laws.proofs.MovesLaws.{Move, putting, linking, doing, copying, sorting, recording, move_of}
+use Rattle.def_laws.proofs.OwnLaws.{own_both, own_copied, own_edge, own_first, own_last, own_put, own_stays, tasks_stay}
 use Rattle.def_laws.proofs.RunsLaws.{kept_along}
 use Rattle.def_laws.proofs.SoundLaws.{IsLarger, sound_larger}
 use Rattle.def_laws.proofs.TasksLaws.{record_own, record_sound, record_stays}
@@ -23,29 +26,24 @@ use Rattle.def_laws.proofs.TasksLaws.{record_own, record_sound, record_stays}
 pub stands_first : {xs : List Task} {s : State} (ys : List Task) → Stands (xs ++ ys) s → Stands xs s
 stands_first {xs = xs} {s = s} ys st = record { state = st.state; tasks = own_first s.map s.targets xs ys st.tasks }
 
-module _ (oracle : Oracle) (s : State) where
-  -- what an item's visit leads to
-  pub visit_stands : (site : _) (id : _) (rest : List Task) (effect : Effect) → Does oracle s (Visit site id) effect → Stands (Visit site id ∷ rest) s → Stands (effect.tasks ++ rest) effect.state
-  visit_stands site id rest effect does st =
-      let opened = visits_opened oracle s site id effect does in
-      let stay : (g : _) → IsRecorded s.targets g → IsRecorded effect.state.targets g = λ g h. subst (λ t. IsRecorded t g) (sym opened.targets) h in
-      let own : IsOwn effect.state.map site.scope = own_larger s.map effect.state.map site.scope opened.larger st.tasks.0 in
-      let state : AreOwn effect.state.map effect.state.targets s.content effect.state.imports =
-      own_stays s.map effect.state.map s.targets effect.state.targets opened.larger stay s.content s.imports effect.state.imports
-      (λ d h. elim (opened.imports d h) [ inl old ↦ inl old | inr new ↦ inr (subst (λ x. IsOwn s.map x) (sym new) st.tasks.0) ]) st.state in
-      record {
-        state = subst (λ c. AreOwn effect.state.map effect.state.targets c effect.state.imports) (sym opened.content) state;
-        tasks = own_both effect.state.map effect.state.targets effect.tasks rest (opened.tasks effect.state.targets st.state.even own)
-            (tasks_stay s.map effect.state.map s.targets effect.state.targets opened.larger stay rest st.tasks.1);
-      }
+-- what is done beside puts and edges leads to what is of the map
+pub footprint_stands : (s : State) (rest : List Task) (scope : ModuleId) (effect : Effect) → Footprint s scope effect → IsOwn s.map scope → Stands rest s → Stands (effect.tasks ++ rest) effect.state
+footprint_stands s rest scope effect foot at st =
+    let stay : (g : _) → IsRecorded s.targets g → IsRecorded effect.state.targets g = λ g h. subst (λ t. IsRecorded t g) (sym foot.targets) h in
+    let own : IsOwn effect.state.map scope = own_larger s.map effect.state.map scope foot.larger at in
+    let state : AreOwn effect.state.map effect.state.targets s.content effect.state.imports =
+    own_stays s.map effect.state.map s.targets effect.state.targets foot.larger stay s.content s.imports effect.state.imports
+    (λ d h. elim (foot.at d h) [ inl old ↦ inl old | inr new ↦ inr (subst (λ x. IsOwn s.map x) (sym new) at) ]) st.state in
+    record {
+      state = subst (λ c. AreOwn effect.state.map effect.state.targets c effect.state.imports) (sym foot.content) state;
+      tasks = own_both effect.state.map effect.state.targets effect.tasks rest (foot.tasks effect.state.targets st.state.even own)
+          (tasks_stay s.map effect.state.map s.targets effect.state.targets foot.larger stay rest st.tasks);
+    }
 
-  does_stands : (task : Task) (rest : List Task) (effect : Effect) → Does oracle s task effect → Stands (task ∷ rest) s → Stands (effect.tasks ++ rest) effect.state
-  does_stands (Enter at directory) rest effect does st = subst (λ (e : Effect). Stands (e.tasks ++ rest) e.state) (sym does) (record { state = st.state; tasks = st.tasks.1 })
-  does_stands (Visit site id) rest effect does st = visit_stands site id rest effect does st
-  does_stands (Put at entry) rest effect does st =
-      subst (λ (e : Effect). Stands (e.tasks ++ rest) e.state) (sym does) (record { state = own_put s.map s.targets (order s) s.content s.imports st.state at entry st.tasks.0; tasks = st.tasks.1 })
-  does_stands (AddEdge source edge) rest effect does st =
-      subst (λ (e : Effect). Stands (e.tasks ++ rest) e.state) (sym does) (record { state = own_edge s.map s.targets (order s) s.content s.imports st.state source edge st.tasks.0; tasks = st.tasks.1 })
+-- what an item's visit leads to
+pub visit_stands : (oracle : Oracle) (s : State) (site : Site) (id : ModItemId) (rest : List Task) (effect : Effect) → Does oracle s (Visit site id) effect → Stands (Visit site id ∷ rest) s → Stands (effect.tasks ++ rest) effect.state
+visit_stands oracle s site id rest effect does st =
+    footprint_stands s rest site.scope effect (visits_footprint oracle s site id effect does) st.tasks.0.0 (record { state = st.state; tasks = st.tasks.1 })
 
 -- the state in which an import was recorded, and its tasks
 pub recorded_stands : (oracle : Oracle) (u : State) (p : Import) (answer : ResolvePathResult) → AreOwn u.map u.targets u.content u.imports → IsOwn u.map p.scope
@@ -99,22 +97,37 @@ import_sound oracle s effect step own sound =
 abbrev StandsAt : Moment → Type 0
 StandsAt a = Stands a.tasks a.state
 
-step_stands : {oracle : Oracle} (a b : Moment) → Step oracle a b → StandsAt a → StandsAt b
-step_stands {oracle} a b (performs task rest effect first does is) st =
-    subst StandsAt (sym is) (does_stands oracle a.state task rest effect does (subst (λ tasks. Stands tasks a.state) first st))
-step_stands a b (copies content copy is) st =
+-- at a moment with these tasks
+stands_with : (a : Moment) (tasks : List Task) → a.tasks ≡ tasks → StandsAt a → Stands tasks a.state
+stands_with a tasks same st = subst (λ l. Stands l a.state) same st
+
+move_stands : {oracle : Oracle} (a b : Moment) → Move oracle a b → StandsAt a → StandsAt b
+move_stands a b (putting at entry rest first is) st =
+    let s : State = a.state in
+    let own = stands_with a _ first st in
+    subst StandsAt (sym is) (record { state = own_put s.map s.targets (order s) s.content s.imports own.state at entry own.tasks.0; tasks = own.tasks.1 })
+move_stands a b (linking source edge rest first is) st =
+    let s : State = a.state in
+    let own = stands_with a _ first st in
+    subst StandsAt (sym is) (record { state = own_edge s.map s.targets (order s) s.content s.imports own.state source edge own.tasks.0; tasks = own.tasks.1 })
+move_stands a b (doing gone rest scope effect first still calm at foot is) st =
+    subst StandsAt (sym is) (footprint_stands a.state rest scope effect foot (at st) (record { state = st.state; tasks = own_last a.state.map a.state.targets gone rest (stands_with a _ first st).tasks }))
+move_stands a b (copying content copy is) st =
     let s : State = a.state in
     let own : AreOwn s.map s.targets content s.imports =
     subst (λ c. AreOwn s.map s.targets c s.imports) (sym copy.after) (own_copied s.map s.targets (order s) s.content s.imports st.state copy.source copy.index copy.edge copy.slot copy.stands) in
     subst StandsAt (sym is) (record { state = own; tasks = st.tasks })
-step_stands a b (rearranges state same is) st =
+move_stands a b (sorting state same is) st =
     let s : State = a.state in
     let own : AreOwn s.map s.targets s.content state.imports =
     own_stays s.map s.map s.targets s.targets (larger_refl s.map) (λ g h. h) s.content s.imports state.imports
     (λ d h. inl (Contains-permutation state.imports s.imports d (IsPermutation-sym s.imports state.imports same.imports) h)) st.state in
     subst StandsAt (sym is) (subst (Stands a.tasks) (sym same.rest) (record { state = own; tasks = st.tasks }))
-step_stands {oracle} a b (records effect idle step is) st =
+move_stands {oracle} a b (recording effect idle step is) st =
     subst StandsAt (sym is) (subst (λ tasks. Stands tasks effect.state) (sym (append-nil effect.tasks)) (import_stands oracle a.state effect step st.state))
+
+step_stands : {oracle : Oracle} (a b : Moment) → Step oracle a b → StandsAt a → StandsAt b
+step_stands a b step st = move_stands a b (move_of a b step) st
 
 -- what stands at the beginning of a run stands at its end
 pub stands_along : {oracle : Oracle} {a b : Moment} → Reaches oracle a b → Stands a.tasks a.state → Stands b.tasks b.state

@@ -11,9 +11,10 @@ use Rattle.def_bindings.specs.PutsLaws.{explicit_stays-put_entry, explicit_stays
 use Rattle.def_oracle.specs.Oracle.{Oracle}
 use Rattle.def_rules.specs.Recording.{ImportStep}
 use Rattle.def_rules.specs.Settled.{ExplicitStays}
-use Rattle.def_rules.specs.State.{State, Effect, Moment, Task, Enter, Visit, Put, order, AddEdge}
-use Rattle.def_rules.specs.Steps.{Copies, Does, Reaches, Step, performs, copies, rearranges, records}
-use Rattle.def_laws.proofs.RunsLaws.{along, visits_leaves}
+use Rattle.def_rules.specs.State.{State, Effect, Moment, order}
+use Rattle.def_rules.specs.Steps.{Copies, Reaches, Step}
+use Rattle.def_laws.proofs.MovesLaws.{Move, putting, linking, doing, copying, sorting, recording, move_of}
+use Rattle.def_laws.proofs.RunsLaws.{along}
 
 -- explicit bindings stay from one table to another
 abbrev KeepsExplicit : Content Visibility → Content Visibility → Type 0
@@ -31,19 +32,17 @@ pub copies_keep : (s : State) (content : Content Visibility) → Copies s conten
 copies_keep s content copy =
     subst (λ c. KeepsExplicit s.content c) (sym copy.after) (λ at name ns held there explicit. explicit_stays-copied (order s) copy.source copy.edge copy.slot s.content at name ns held there explicit)
 
-does_keep : (oracle : Oracle) (s : State) (task : Task) (effect : Effect) → Does oracle s task effect → KeepsExplicit s.content effect.state.content
-does_keep oracle s (Enter at directory) effect does = same_keeps s.content effect.state.content (ap (λ (e : Effect). e.state.content) does)
-does_keep oracle s (Visit site id) effect does = same_keeps s.content effect.state.content (visits_leaves oracle s site id effect does).content
-does_keep oracle s (Put place entry) effect does =
-    subst (λ (e : Effect). KeepsExplicit s.content e.state.content) (sym does) (λ at name ns held there explicit. explicit_stays-put_entry (order s) place entry s.content at name ns held there explicit)
-does_keep oracle s (AddEdge source edge) effect does =
-    subst (λ (e : Effect). KeepsExplicit s.content e.state.content) (sym does) (λ at name ns held there explicit. there)
+move_keeps : {oracle : Oracle} (a b : Moment) → Move oracle a b → ExplicitStays a b
+move_keeps a b (putting place entry rest first is) =
+    subst (λ (m : Moment). ExplicitStays a m) (sym is) (λ at name ns held there explicit. explicit_stays-put_entry (order a.state) place entry a.state.content at name ns held there explicit)
+move_keeps a b (linking source edge rest first is) = subst (λ (m : Moment). ExplicitStays a m) (sym is) (λ at name ns held there explicit. there)
+move_keeps a b (doing gone rest scope effect first still calm own foot is) = subst (λ (m : Moment). ExplicitStays a m) (sym is) (same_keeps a.state.content effect.state.content foot.content)
+move_keeps a b (copying content copy is) = subst (λ (m : Moment). ExplicitStays a m) (sym is) (copies_keep a.state content copy)
+move_keeps a b (sorting state same is) = subst (λ (m : Moment). ExplicitStays a m) (sym is) (same_keeps a.state.content state.content (ap (λ (s : State). s.content) same.rest))
+move_keeps {oracle} a b (recording effect idle step is) = subst (λ (m : Moment). ExplicitStays a m) (sym is) (same_keeps a.state.content effect.state.content (import_content oracle a.state effect step))
 
 step_keeps : {oracle : Oracle} (a b : Moment) → Step oracle a b → ExplicitStays a b
-step_keeps {oracle} a b (performs task rest effect first does is) = subst (λ (m : Moment). ExplicitStays a m) (sym is) (does_keep oracle a.state task effect does)
-step_keeps a b (copies content copy is) = subst (λ (m : Moment). ExplicitStays a m) (sym is) (copies_keep a.state content copy)
-step_keeps a b (rearranges state same is) = subst (λ (m : Moment). ExplicitStays a m) (sym is) (same_keeps a.state.content state.content (ap (λ (s : State). s.content) same.rest))
-step_keeps {oracle} a b (records effect idle step is) = subst (λ (m : Moment). ExplicitStays a m) (sym is) (same_keeps a.state.content effect.state.content (import_content oracle a.state effect step))
+step_keeps a b step = move_keeps a b (move_of a b step)
 
 -- explicit bindings stay between any two moments of any run
 pub explicit_stays_along : {oracle : Oracle} {a b : Moment} → Reaches oracle a b → ExplicitStays a b

@@ -26,7 +26,7 @@ use Rattle.def_rules.specs.State.{State, Effect, Site, Task, Enter, Visit, Rearr
 use Rattle.def_rules.specs.Steps.{Does, one, rearranges, records}
 use Rattle.def_laws.specs.Runs.{Leads}
 use Rattle.def_laws.proofs.ApartLaws.{apart_along}
-use Rattle.def_laws.proofs.OpenedLaws.{ArePlain, plain_first, plain_followed, visits_opened}
+use Rattle.def_laws.proofs.FootprintLaws.{ArePlain, plain_first, plain_followed, visits_footprint}
 use Rattle.def_laws.proofs.SoundLaws.{sound_larger, sound_wave}
 use Rattle.def_laws.proofs.StandsLaws.{import_sound, stands_along, stands_first}
 use Rattle.def_laws.proofs.TargetsLaws.{puts_nowhere}
@@ -72,10 +72,10 @@ module _ {oracle : Oracle} where
   leads_visit site id rest s effect does = record {
     runs = runs_task (Visit site id) rest s effect does;
     keeps = λ stands sound.
-        let opened = visits_opened oracle s site id effect does in
+        let opened = visits_footprint oracle s site id effect does in
         subst (λ t. AreSound (leaves_out s) effect.state.map t effect.state.content) (sym opened.targets) (subst (λ c. AreSound (leaves_out s) effect.state.map s.targets c) (sym opened.content) (sound_larger stands.state sound opened.larger));
     raised = λ apart stands sound before importer slot kept raised.
-        let opened = visits_opened oracle s site id effect does in
+        let opened = visits_footprint oracle s site id effect does in
         elim apart [
           | inl none ↦ subst (λ c. IsRaisedAt (order effect.state) c importer slot) (sym opened.content) (raised_nowhere (order effect.state) s.content none.0 importer slot)
           | inr none ↦ absurd cc
@@ -141,7 +141,7 @@ module _ {oracle : Oracle} where
   leads_done site id rest s t effect inner does done =
       let visited : Leads oracle (Visit site id ∷ rest) s (done.puts ++ (inner ++ rest)) effect.state =
       subst (λ tasks. Leads oracle (Visit site id ∷ rest) s tasks effect.state) (ap (λ tasks. tasks ++ rest) done.tasks ∙ append_assoc done.puts inner rest) (leads_visit site id rest s effect does) in
-      let plain = plain_first done.puts inner (subst ArePlain done.tasks (visits_opened oracle s site id effect does).plain) in
+      let plain = plain_first done.puts inner (subst ArePlain done.tasks (visits_footprint oracle s site id effect does).plain) in
       leads_trans visited (leads_performed done.puts (inner ++ rest) effect.state t (plain_followed (target_of effect.state.map.id effect.state.targets) done.puts plain) done.performs)
 
   -- an item is visited, and what it puts is put

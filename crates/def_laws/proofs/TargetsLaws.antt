@@ -16,7 +16,8 @@ use Rattle.def_bindings.specs.declared.visibility.Visibility.{Visibility}
 use Rattle.def_bindings.specs.DefLaws.{def-eq}
 use Rattle.def_modules.specs.MapState.{MapState}
 use Rattle.def_globs.proofs.ListLaws.{first_in, in_cases, later_in, none_in}
-use Rattle.def_laws.specs.Followed.{AreFollowed, adds_edge}
+use Rattle.def_laws.specs.Followed.{AreFollowed}
+use Rattle.def_laws.specs.Roles.{adds_edge}
 use Rattle.def_laws.specs.Own.{AreOwnTasks, IsOwn, IsRecorded}
 use Rattle.def_rules.specs.Targets.{own_module, own_target, target_of}
 use Rattle.def_rules.specs.Globs.{Targets, is_among, with_def, with_target}

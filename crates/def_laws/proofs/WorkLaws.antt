@@ -30,9 +30,9 @@ use Rattle.def_rules.specs.ExternCrates.{crate_effect, crate_name, named_crate}
 use Rattle.def_rules.specs.Items.{crates_first, ctor_task, is_crate_root, names_crate, node_at, noted_in, ordered, top_items, tree_cfg, visits, walk, written_vis}
 use Rattle.def_rules.specs.Modules.{file_tree, inline_contents, inner_site, module_item, name_text, outline_found, outline_item}
 use Rattle.def_rules.specs.Rules.{Rule, Follows, rule_of, declares, declares_struct, opens_module, opens_block, queues, binds_crate, notes_impl, notes_const}
-use Rattle.def_rules.specs.State.{State, Effect, Site, Task, Enter, Visit, Put, AddEdge}
+use Rattle.def_rules.specs.State.{State, Effect, Site, Task, Visit}
 use Rattle.def_laws.specs.Performs.{Handled}
-use Rattle.def_laws.specs.Work.{AreBelow, rank, task_work, weight, work}
+use Rattle.def_laws.specs.Work.{AreBelow, IsBelow, rank, rank_of, rank_work, task_work, weight, work}
 use Rattle.def_laws.proofs.LevelsLaws.{IsDeeper, declaration_deeper, descend_deeper}
 
 -- Weights
@@ -49,14 +49,15 @@ weight_is r = pow-succ' (2 ^ 65) r
 -- so each task below a rank weighs at most that part
 work_below : (r : ℕ) (tasks : List Task) → AreBelow r tasks → work tasks ≤ length tasks * (2 ^ 65) ^ r
 work_below r [] below = omega arith
-work_below r (Visit site id ∷ tasks) below =
-    let both = sum_by-cons task_work (Visit site id) tasks in
-    let first = lighter (rank site id) r below.0 in
+work_below r (task ∷ tasks) below =
+    let both = sum_by-cons task_work task tasks in
+    let first = by_rank (rank_of task) below.0 in
     let rest = work_below r tasks below.1 in
     omega (arith, both, first, rest)
-work_below r (Put at entry ∷ tasks) below = let both = sum_by-cons task_work (Put at entry) tasks in let rest = work_below r tasks below in omega (arith, both, rest)
-work_below r (Enter at directory ∷ tasks) below = let both = sum_by-cons task_work (Enter at directory) tasks in let rest = work_below r tasks below in omega (arith, both, rest)
-work_below r (AddEdge source edge ∷ tasks) below = let both = sum_by-cons task_work (AddEdge source edge) tasks in let rest = work_below r tasks below in omega (arith, both, rest)
+  where
+    by_rank : (o : Option ℕ) → IsBelow r o → rank_work o ≤ (2 ^ 65) ^ r
+    by_rank None lower = omega arith
+    by_rank (Some n) lower = lighter n r lower
 
 -- at most 2^64 tasks below a rank weigh less than a visit of that rank
 few_below : (r : ℕ) (tasks : List Task) → AreBelow r tasks → length tasks ≤ 2 ^ 64 → 1 + work tasks < weight r
@@ -85,7 +86,7 @@ visits_below r site (id ∷ ids) all = (All-head (λ x. rank site x < r) id ids 
 
 walk_below : (oracle : Oracle) (r : ℕ) (site : Site) (ids : List ModItemId) → All (λ id. rank site id < r) ids → AreBelow r (walk oracle site ids)
 walk_below oracle r site ids all =
-    visits_below r site (ordered (oracle.item_tree site.tree) site.scope ids) (ordered_all (λ id. rank site id < r) (oracle.item_tree site.tree) site.scope ids all)
+    (tt, visits_below r site (ordered (oracle.item_tree site.tree) site.scope ids) (ordered_all (λ id. rank site id < r) (oracle.item_tree site.tree) site.scope ids all))
 
 -- the visits of a walk, and its beginning
 pub walk_length : (oracle : Oracle) (site : Site) (ids : List ModItemId) → length (walk oracle site ids) ≡ suc (length ids)
@@ -109,10 +110,7 @@ walk_length oracle site ids = ap suc (visits_length (ordered (oracle.item_tree s
 -- the last of tasks below a rank are below it
 below_last : (r : ℕ) (xs ys : List Task) → AreBelow r (xs ++ ys) → AreBelow r ys
 below_last r [] ys below = below
-below_last r (Visit site id ∷ xs) ys below = below_last r xs ys below.1
-below_last r (Put at entry ∷ xs) ys below = below_last r xs ys below
-below_last r (Enter at directory ∷ xs) ys below = below_last r xs ys below
-below_last r (AddEdge source edge ∷ xs) ys below = below_last r xs ys below
+below_last r (task ∷ xs) ys below = below_last r xs ys below.1
 
 -- the items of an extern block by its rule
 abbrev block_items : Rule → List ModItemId
@@ -151,26 +149,26 @@ module _ (oracle : Oracle) (s : State) (site : Site) (id : ModItemId) (item : It
 
     found_below : (found : FoundFile) (cfg : Option CfgExpr) → IsDeeper site.directory found.2 → AreBelow (rank site id) (outline_found oracle s site item name vis found cfg).tasks
     found_below found (Some cfg) deeper = tt
-    found_below found None deeper = deeper_below (file_tree found) found.2 (top_items oracle (file_tree found)) deeper
+    found_below found None deeper = (tt, deeper_below (file_tree found) found.2 (top_items oracle (file_tree found)) deeper)
 
     outline_below : (found : Result FoundFile (List (List ℕ))) → ((file : FoundFile) → found ≡ Ok file → IsDeeper site.directory file.2) → AreBelow (rank site id) (outline_item oracle s site item name vis found).tasks
     outline_below (Ok found) deeper = found_below found (tree_cfg oracle (file_tree found)) (deeper found refl)
-    outline_below (Err files) deeper = tt
+    outline_below (Err files) deeper = (tt, tt)
 
     contents_below : (contents : ModContents) → AreBelow (rank site id) (module_item oracle s site item name vis contents).tasks
     contents_below (Inline children) =
-        inline_below children (descend site.directory (name_text s.session name) (path_attr item.attrs)) (descend_deeper site.directory (name_text s.session name) (path_attr item.attrs))
+        (tt, inline_below children (descend site.directory (name_text s.session name) (path_attr item.attrs)) (descend_deeper site.directory (name_text s.session name) (path_attr item.attrs)))
     contents_below Outline =
         outline_below (resolve_declaration (files_of oracle) site.tree.file site.directory (name_text s.session name) (path_attr item.attrs))
         (declaration_deeper (files_of oracle) site.tree.file site.directory (name_text s.session name) (path_attr item.attrs))
 
   ctor_below : (name : Name) (d : Def) (vis : Visibility) (ctor : Option Visibility) → AreBelow (rank site id) (ctor_task s site.scope name d vis ctor)
   ctor_below name d vis None = tt
-  ctor_below name d vis (Some ctor) = tt
+  ctor_below name d vis (Some ctor) = (tt, tt)
 
   crate_below : (t : State) (number : ExternCrateId) (name : Option Name) (vis : Visibility) (found : Option ModuleId) → AreBelow (rank site id) (crate_effect t site item number name vis found).tasks
   crate_below t number name vis None = tt
-  crate_below t number name vis (Some root) = tt
+  crate_below t number name vis (Some root) = (tt, tt)
 
   same : (e f : Effect) → e ≡ f → AreBelow (rank site id) f.tasks → AreBelow (rank site id) e.tasks
   same e f is below = subst (λ (x : Effect). AreBelow (rank site id) x.tasks) (sym is) below
@@ -181,11 +179,11 @@ module _ (oracle : Oracle) (s : State) (site : Site) (id : ModItemId) (item : It
       same effect _ does.2
       (walk_below oracle (rank site id) (record site { container = contained.ExternBlock (record { 0 = does.0 }) }) children
       (λ k d within. let after : id.0 < (get_or children k d).0 = later k d within in omega (arith, after, small)))
-  follows_below small (declares_struct name raw ctor) later effect does = same effect _ does.2 (ctor_below name _ _ _)
+  follows_below small (declares_struct name raw ctor) later effect does = same effect _ does.2 (tt, ctor_below name _ _ _)
   follows_below small (binds_crate name raw alias) later effect does =
       same effect _ does.2
       (crate_below (noted_in s site.scope (with_extern_crate (record { 0 = does.0 }))) (record { 0 = does.0 }) (crate_name name alias) (written_vis oracle s site.scope raw) (named_crate s name))
-  follows_below small (declares kind d ns name raw) later effect does = same effect _ does.2 tt
+  follows_below small (declares kind d ns name raw) later effect does = same effect _ does.2 (tt, tt)
   follows_below small (queues raw imports) later effect does = same effect _ does.2 tt
   follows_below small (notes_impl of_trait) later effect does = same effect _ does.2 tt
   follows_below small notes_const later effect does = same effect _ does.2 tt

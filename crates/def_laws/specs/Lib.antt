@@ -1,6 +1,7 @@
 pub mod Finished
 pub mod Followed
 pub mod Own
+pub mod Roles
 pub mod Runs
 pub mod Sound
 pub mod Travels

@@ -16,7 +16,8 @@ use Rattle.def_bindings.specs.Tree.{AreParentsLower}
 use Rattle.def_modules.specs.MapState.{MapState}
 use Rattle.def_globs.specs.Waves.{HoldsBy}
 use Rattle.def_rules.specs.Globs.{Targets}
-use Rattle.def_rules.specs.State.{State, ImportDirective, Task, Enter, Visit, Put, AddEdge}
+use Rattle.def_rules.specs.State.{State, ImportDirective, Task}
+use Rattle.def_laws.specs.Roles.{Role, puts, links, stays, role_of, place_of}
 
 -- a module of this map
 abbrev pub IsOwn : MapState → ModuleId → Type 0
@@ -38,12 +39,15 @@ pub record AreOwn (m : MapState) (targets : Targets) (c : Content Visibility) (d
   pub globs : (at : ModuleId) (name : Name) (ns : Namespace) (glob : GlobId) → HoldsBy c at name ns glob → IsRecorded targets glob
   pub listed : (at : ModuleId) (name : Name) (ns : Namespace) (b : Binding Visibility) → c.binding at name ns ≡ Some b → is_listed (c.names at) name ≡ true
 
+-- what is put or linked for a glob is for one that was recorded
+abbrev pub IsRecordedFor : Targets → Role → Type 0
+IsRecordedFor targets (puts at entry) = (glob : GlobId) → entry.origin ≡ Some (Glob glob) → IsRecorded targets glob
+IsRecordedFor targets (links source edge) = IsRecorded targets edge.glob
+IsRecordedFor targets stays = Unit {0}
+
 -- a task is done in a module of this map, and for no glob that was not recorded
 abbrev pub IsOwnTask : MapState → Targets → Task → Type 0
-IsOwnTask m targets (Enter at directory) = Unit {0}
-IsOwnTask m targets (Visit site id) = IsOwn m site.scope
-IsOwnTask m targets (Put at entry) = IsOwn m at × ((glob : GlobId) → entry.origin ≡ Some (Glob glob) → IsRecorded targets glob)
-IsOwnTask m targets (AddEdge source edge) = IsOwn m edge.importer × IsRecorded targets edge.glob
+IsOwnTask m targets task = IsOwn m (place_of task) × IsRecordedFor targets (role_of task)
 
 -- so is each of a list
 abbrev pub AreOwnTasks : MapState → Targets → List Task → Type 0

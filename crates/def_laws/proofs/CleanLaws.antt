@@ -1,0 +1,41 @@
+-- No name fails where a module is added or changed.
+use Rattle.std.proofs.Common.{◌≡◌, ℕ, zero, suc, false, List, [], ◌∷◌, length, All, Option, Some, refl}
+use Rattle.std.proofs.lemmas.List.Elements.{All-cons, All-head, All-tail, All-push}
+use Rattle.item_tree.specs.declared.name.Name.{Name}
+use Rattle.def_ids.specs.declared.ids.ModuleId.{ModuleId}
+use Rattle.def_ids.specs.declared.ids.Def.{Def}
+use Rattle.def_bindings.specs.declared.visibility.Visibility.{Visibility}
+use Rattle.def_modules.specs.declared.module_data.ModuleOrigin.{ModuleOrigin}
+use Rattle.def_modules.specs.Maps.{pushed, with_module}
+use Rattle.def_modules.specs.MapState.{MapState, ModuleState}
+use Rattle.def_modules.specs.Scopes.{declared_in, empty_module, with_child}
+use Rattle.def_modules.specs.Updates.{update_at}
+use Rattle.def_rules.specs.Modules.{add_module}
+use Rattle.def_rules.specs.State.{State}
+use Rattle.def_laws.specs.Finished.{NoneFailed}
+
+all_updated : {X : Type 0} (P : X → Type 0) (xs : List X) (i : ℕ) (f : X → X) → ((x : X) → P x → P (f x)) → All P xs → All P (update_at xs i f)
+all_updated P [] i f keeps all = all
+all_updated P (x ∷ xs) zero f keeps all = All-cons P (f x) xs (keeps x (All-head P x xs all)) (All-tail P x xs all)
+all_updated P (x ∷ xs) (suc i) f keeps all = All-cons P x (update_at xs i f) (All-head P x xs all) (all_updated P xs i f keeps (All-tail P x xs all))
+
+-- no name failed in a module
+abbrev pub IsClean : ModuleState → Type 0
+IsClean d = (name : Name) → d.failed name ≡ false
+
+-- none fails in a module that is changed but for its failed names
+pub none_failed-with_module : (m : MapState) (i : ℕ) (f : ModuleState → ModuleState) → ((d : ModuleState) → IsClean d → IsClean (f d)) → NoneFailed m → NoneFailed (with_module m i f)
+none_failed-with_module m i f keeps none = all_updated IsClean m.modules i f keeps none
+
+pub none_failed-declare : (m : MapState) (i : ℕ) (d : Def) → NoneFailed m → NoneFailed (with_module m i (declared_in d))
+none_failed-declare m i d none = none_failed-with_module m i (declared_in d) (λ e h. h) none
+
+pub none_failed-pushed : (m : MapState) (i : ℕ) (name : Option Name) (o : ModuleOrigin) (vis : Visibility) → NoneFailed m → NoneFailed (pushed m i (empty_module name o vis))
+none_failed-pushed m i name o vis none = All-push IsClean m.modules (empty_module name o vis) none (λ n. refl)
+
+pub none_failed-add_module : (s : State) (at : ModuleId) (name : Name) (vis : Visibility) (o : ModuleOrigin) → NoneFailed s.map → NoneFailed (add_module s at name vis o).map
+none_failed-add_module s at name vis o none =
+    let grown : MapState = pushed s.map at.index (empty_module (Some name) o vis) in
+    let linked : MapState = with_module grown at.index (with_child name (length s.map.modules)) in
+    none_failed-declare linked at.index _
+    (none_failed-with_module grown at.index (with_child name (length s.map.modules)) (λ e h. h) (none_failed-pushed s.map at.index (Some name) o vis none))

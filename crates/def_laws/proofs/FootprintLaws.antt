@@ -1,0 +1,303 @@
+-- What a rule does to a run, as laws read it.
+use Rattle.std.proofs.Common.{◌≡◌, ◌⊎◌, ℕ, Bool, true, false, List, [], ◌∷◌, ◌++◌, length, Option, Some, None, Result, Ok, Err, Contains, refl, sym, ap, ◌∙◌, subst, inl, inr}
+use Rattle.std.proofs.lemmas.List.Elements.{Contains-append_cases}
+use Rattle.item_tree.specs.declared.ids.CfgExpr.{CfgExpr}
+use Rattle.item_tree.specs.declared.ids.ModItemId.{ModItemId}
+use Rattle.item_tree.specs.declared.items.ItemNode.{ItemNode}
+use Rattle.item_tree.specs.declared.items.ModContents.{ModContents}
+use Rattle.item_tree.specs.declared.items.ModContents.TheVariants.{Inline, Outline}
+use Rattle.item_tree.specs.declared.items.RawVisibility.{RawVisibility}
+use Rattle.item_tree.specs.declared.items.UseImport.{UseImport}
+use Rattle.item_tree.specs.declared.name.Name.{Name}
+use Rattle.item_tree.specs.Attrs.{disabled_by, path_attr}
+use Rattle.def_ids.specs.declared.ids.Def.{Def}
+use Rattle.def_ids.specs.declared.ids.Def.TheVariants as def
+use Rattle.def_ids.specs.declared.ids.ExternCrateId.{ExternCrateId}
+use Rattle.def_ids.specs.declared.ids.GlobId.{GlobId}
+use Rattle.def_ids.specs.declared.ids.ItemContainerId.TheVariants as contained
+use Rattle.def_ids.specs.declared.ids.ModuleId.{ModuleId}
+use Rattle.def_ids.specs.declared.ids.UseId.{UseId}
+use Rattle.def_bindings.specs.declared.bindings.ImportOrExternCrate.TheVariants.{Glob, ExternCrate as ByCrate}
+use Rattle.def_bindings.specs.declared.bindings.Namespace.TheVariants.{Types}
+use Rattle.def_bindings.specs.declared.visibility.Visibility.{Visibility}
+use Rattle.def_bindings.specs.Puts.{IsExplicit, Origin, glob_of}
+use Rattle.def_modules.specs.declared.module_data.ModuleOrigin.{ModuleOrigin}
+use Rattle.def_modules.specs.declared.module_data.ModuleOrigin.TheVariants as origin
+use Rattle.def_modules.specs.MapState.{MapState, ModuleState}
+use Rattle.def_oracle.specs.Oracle.{Oracle}
+use Rattle.def_modules.specs.Scopes.{declared_in, with_extern_block, with_extern_crate, with_impl, with_unnamed_const}
+use Rattle.def_parts.specs.Directories.{Directory, FoundFile, descend}
+use Rattle.def_globs.proofs.ListLaws.{none_in, in_cases}
+use Rattle.def_rules.specs.declared.diagnostics.DefDiagnosticKind.TheVariants.{UnresolvedModule}
+use Rattle.def_laws.specs.Finished.{NoneFailed}
+use Rattle.def_laws.specs.Followed.{AreFollowed, IsFollowed}
+use Rattle.def_laws.specs.Roles.{Role, puts, links, stays, role_of}
+use Rattle.def_laws.specs.Own.{AreOwnTasks, IsOwn, IsRecorded}
+use Rattle.def_rules.specs.Globs.{Targets}
+use Rattle.def_rules.specs.Items.{ctor_task, diagnostic, ctor_vis, is_crate_root, is_prelude_import, node_at, noted_in, ordered, new_imports, position_of, put_declared, top_items, tree_cfg, visits, walk, written_vis}
+use Rattle.def_rules.specs.Modules.{add_module, file_tree, inline_contents, inner_site, module_item, name_text, next_module, outline_found, outline_item}
+use Rattle.def_rules.specs.ExternCrates.{crate_effect, crate_entry, crate_name, named_crate, naming_crate}
+use Rattle.def_rules.specs.Rules.{Visits, VisitsAt, VisitsNode, Rule, Follows, rule_of, declares, declares_struct, opens_module, opens_block, queues, binds_crate, notes_impl, notes_const}
+use Rattle.def_rules.specs.Imports.{no_namespaces}
+use Rattle.def_rules.specs.State.{State, Effect, entered, followed_by, only, ImportDirective, Site, Task, Put, reported}
+use Rattle.def_laws.proofs.SoundLaws.{IsLarger}
+use Rattle.def_laws.proofs.AddedLaws.{AddsNew, added_new, none_added}
+use Rattle.def_laws.proofs.CleanLaws.{IsClean, none_failed-add_module, none_failed-with_module}
+use Rattle.def_laws.proofs.LargerLaws.{larger_add_module, larger_refl, larger_with_module, own_next}
+
+-- Tasks
+
+-- what a role puts is for no glob, and it adds no edge
+abbrev pub IsPlain : Role → Type 0
+IsPlain (puts at entry) = IsExplicit entry.origin
+IsPlain (links source edge) = ⊥
+IsPlain stays = Unit {0}
+
+-- no task is for a glob
+abbrev pub ArePlain : List Task → Type 0
+ArePlain [] = Unit {0}
+ArePlain (task ∷ tasks) = IsPlain (role_of task) × ArePlain tasks
+
+-- the first of plain tasks are plain
+pub plain_first : (xs ys : List Task) → ArePlain (xs ++ ys) → ArePlain xs
+plain_first [] ys h = tt
+plain_first (task ∷ xs) ys h = (h.0, plain_first xs ys h.1)
+
+explicit_by : (origin : Origin) (g : GlobId) → IsExplicit origin → origin ≡ Some (Glob g) → ⊥
+explicit_by origin g explicit by = let wrong : None ≡ Some g = sym explicit ∙ ap glob_of by in cc
+
+-- and need no edge
+pub plain_followed : (T : GlobId → Option ModuleId) (tasks : List Task) → ArePlain tasks → AreFollowed T tasks
+plain_followed T [] h = tt
+plain_followed T (task ∷ tasks) h = (by_role (role_of task) h.0, plain_followed T tasks h.1)
+  where
+    by_role : (role : Role) → IsPlain role → IsFollowed T role tasks
+    by_role (puts at entry) plain = λ g by. absurd (explicit_by entry.origin g plain by)
+    by_role (links source edge) plain = absurd plain
+    by_role stays plain = tt
+
+plain_visits : (site : Site) (ids : List ModItemId) → ArePlain (visits site ids)
+plain_visits site [] = tt
+plain_visits site (id ∷ ids) = (tt, plain_visits site ids)
+
+own_visits : (m : MapState) (targets : Targets) (site : Site) (ids : List ModItemId) → IsOwn m site.scope → AreOwnTasks m targets (visits site ids)
+own_visits m targets site [] own = tt
+own_visits m targets site (id ∷ ids) own = ((own, tt), own_visits m targets site ids own)
+
+-- a walk in a module of the map
+pub own_walk : (oracle : Oracle) (m : MapState) (targets : Targets) (site : Site) (ids : List ModItemId) → IsOwn m site.scope → AreOwnTasks m targets (walk oracle site ids)
+own_walk oracle m targets site ids own = ((own, tt), own_visits m targets site (ordered (oracle.item_tree site.tree) site.scope ids) own)
+
+-- and a plain one
+pub plain_walk : (oracle : Oracle) (site : Site) (ids : List ModItemId) → ArePlain (walk oracle site ids)
+plain_walk oracle site ids = (tt, plain_visits site (ordered (oracle.item_tree site.tree) site.scope ids))
+
+-- Footprints
+
+-- what may be done in a module and leaves the table as it is: what globs were recorded with and what happened stay too, the map stays or grows, imports may join of which nothing is recorded,
+-- and what is to be done next is of the map and for no glob
+pub record Footprint (s : State) (scope : ModuleId) (effect : Effect) : Type 0 where
+  pub content : effect.state.content ≡ s.content
+  pub targets : effect.state.targets ≡ s.targets
+  pub events : effect.events ≡ []
+  pub larger : IsLarger s.map effect.state.map
+  pub none_failed : NoneFailed s.map → NoneFailed effect.state.map
+  pub imports : AddsNew s.imports effect.state.imports
+  pub at : (d : ImportDirective) → Contains effect.state.imports d → Contains s.imports d ⊎ (d.import.scope ≡ scope)
+  pub tasks : (targets : Targets) → length s.map.parents ≡ length s.map.modules → IsOwn effect.state.map scope → AreOwnTasks effect.state.map targets effect.tasks
+  pub plain : ArePlain effect.tasks
+
+known_footprint : (s : State) (scope : ModuleId) (effect known : Effect) → effect ≡ known → Footprint s scope known → Footprint s scope effect
+known_footprint s scope effect known same of_known = subst (λ x. Footprint s scope x) (sym same) of_known
+
+-- nothing is done
+pub still_footprint : (s : State) (scope : ModuleId) → Footprint s scope (only s)
+still_footprint s scope =
+    record {
+      content = refl;
+      targets = refl;
+      events = refl;
+      larger = larger_refl s.map;
+      none_failed = λ none. none;
+      imports = none_added s.imports;
+      at = λ d h. inl h;
+      tasks = λ targets even own. tt;
+      plain = tt;
+    }
+
+-- a directory is stored
+pub enter_footprint : (s : State) (at : ModuleId) (directory : Directory) → Footprint s at (only (entered s at directory))
+enter_footprint s at directory =
+    let f = still_footprint s at in
+    record { content = f.content; targets = f.targets; events = f.events; larger = f.larger; none_failed = f.none_failed; imports = f.imports; at = f.at; tasks = f.tasks; plain = f.plain }
+
+-- what an explicit entry is put with
+put_own : (m : MapState) (scope : ModuleId) (targets : Targets) (origin : Origin) → IsExplicit origin → IsOwn m scope → IsOwn m scope × ((g : GlobId) → origin ≡ Some (Glob g) → IsRecorded targets g)
+put_own m scope targets origin explicit own = (own, λ g by. absurd (explicit_by origin g explicit by))
+
+module _ (s : State) (scope : ModuleId) where
+  -- a module's data change, its failed names do not, and these tasks follow
+  noted_footprint : (f : ModuleState → ModuleState) → ((d : ModuleState) → IsClean d → IsClean (f d)) → (tasks : List Task)
+      → ((targets : Targets) → IsOwn (noted_in s scope f).map scope → AreOwnTasks (noted_in s scope f).map targets tasks) → ArePlain tasks → Footprint s scope (followed_by (noted_in s scope f) tasks)
+  noted_footprint f clean tasks own plain =
+      record {
+        content = refl;
+        targets = refl;
+        events = refl;
+        larger = larger_with_module s.map scope.index f;
+        none_failed = λ none. none_failed-with_module s.map scope.index f clean none;
+        imports = none_added s.imports;
+        at = λ d h. inl h;
+        tasks = λ targets even own_scope. own targets own_scope;
+        plain = plain;
+      }
+
+  -- a module is added, in a state with the same map
+  added_footprint : (r : State) (name : Name) (vis : Visibility) (o : ModuleOrigin) (contents : List Task) → r.content ≡ s.content → r.targets ≡ s.targets → r.imports ≡ s.imports → r.map ≡ s.map
+      → ((targets : Targets) → IsOwn (add_module r scope name vis o).map (next_module r) → AreOwnTasks (add_module r scope name vis o).map targets contents) → ArePlain contents
+      → Footprint s scope (followed_by (add_module r scope name vis o) (put_declared scope name Types (def.Module (next_module r)) vis ∷ contents))
+  added_footprint r name vis o contents content targets imports map own plain =
+      record {
+        content = content;
+        targets = targets;
+        events = refl;
+        larger = subst (λ m. IsLarger m (add_module r scope name vis o).map) map (larger_add_module r scope name vis o);
+        none_failed = λ none. none_failed-add_module r scope name vis o (subst NoneFailed (sym map) none);
+        imports = subst (λ q. AddsNew s.imports q) (sym imports) (none_added s.imports);
+        at = λ d h. inl (subst (λ q. Contains q d) imports h);
+        tasks = λ targets even at. (put_own (add_module r scope name vis o).map scope targets None refl at, own targets (own_next r scope name vis o (subst (λ (m : MapState). length m.parents ≡ length m.modules) (sym map) even)));
+        plain = (refl, plain);
+      }
+
+-- Rules
+
+found_footprint : (oracle : Oracle) (s : State) (site : Site) (item : ItemNode) (name : Name) (vis : Visibility) (found : FoundFile) (cfg : Option CfgExpr) → Footprint s site.scope (outline_found oracle s site item name vis found cfg)
+found_footprint oracle s site item name vis found (Some cfg) =
+    let f = still_footprint s site.scope in
+    record { content = f.content; targets = f.targets; events = f.events; larger = f.larger; none_failed = f.none_failed; imports = f.imports; at = f.at; tasks = f.tasks; plain = f.plain }
+found_footprint oracle s site item name vis found None =
+    let o : ModuleOrigin = origin.File item.ast_id site.tree found.0 found.1 in
+    let inner : Site = inner_site s site (file_tree found) found.2 in
+    added_footprint s site.scope s name vis o (walk oracle inner (top_items oracle (file_tree found))) refl refl refl refl
+    (λ targets own. own_walk oracle (add_module s site.scope name vis o).map targets inner (top_items oracle (file_tree found)) own) (plain_walk oracle inner (top_items oracle (file_tree found)))
+
+outline_footprint : (oracle : Oracle) (s : State) (site : Site) (item : ItemNode) (name : Name) (vis : Visibility) (found : Result FoundFile (List (List ℕ))) → Footprint s site.scope (outline_item oracle s site item name vis found)
+outline_footprint oracle s site item name vis (Ok found) = found_footprint oracle s site item name vis found (tree_cfg oracle (file_tree found))
+outline_footprint oracle s site item name vis (Err files) =
+    added_footprint s site.scope (reported s (diagnostic site item (UnresolvedModule files))) name vis _ [] refl refl refl refl (λ targets own. tt) tt
+
+module _ (oracle : Oracle) (s : State) (site : Site) where
+  inline_own : (r : MapState) (children : List ModItemId) (directory : Option Directory) (targets : Targets) → IsOwn r (next_module s) → AreOwnTasks r targets (inline_contents oracle s site children directory)
+  inline_own r children None targets own = tt
+  inline_own r children (Some directory) targets own = own_walk oracle r targets (inner_site s site site.tree directory) children own
+
+  inline_plain : (children : List ModItemId) (directory : Option Directory) → ArePlain (inline_contents oracle s site children directory)
+  inline_plain children None = tt
+  inline_plain children (Some directory) = plain_walk oracle (inner_site s site site.tree directory) children
+
+  module _ (item : ItemNode) where
+    contents_footprint : (name : Name) (vis : Visibility) (contents : ModContents) → Footprint s site.scope (module_item oracle s site item name vis contents)
+    contents_footprint name vis (Inline children) =
+        let o : ModuleOrigin = origin.Inline item.ast_id site.tree in
+        let below : Option Directory = descend site.directory (name_text s.session name) (path_attr item.attrs) in
+        added_footprint s site.scope s name vis o (inline_contents oracle s site children below) refl refl refl refl
+        (λ targets own. inline_own (add_module s site.scope name vis o).map children below targets own) (inline_plain children below)
+    contents_footprint name vis Outline = outline_footprint oracle s site item name vis _
+
+    ctor_own : (m : MapState) (targets : Targets) (name : Name) (d : Def) (vis : Visibility) (ctor : Option Visibility) → IsOwn m site.scope → AreOwnTasks m targets (ctor_task s site.scope name d vis ctor)
+    ctor_own m targets name d vis None own = tt
+    ctor_own m targets name d vis (Some ctor) own = (put_own m site.scope targets None refl own, tt)
+
+    ctor_plain : (name : Name) (d : Def) (vis : Visibility) (ctor : Option Visibility) → ArePlain (ctor_task s site.scope name d vis ctor)
+    ctor_plain name d vis None = tt
+    ctor_plain name d vis (Some ctor) = (refl, tt)
+
+    new_at : (id : UseId) (raw : RawVisibility) (imports : List UseImport) (d : ImportDirective) → Contains (new_imports site item id raw imports) d → d.import.scope ≡ site.scope
+    new_at id raw [] d h = absurd (none_in d h)
+    new_at id raw (x ∷ xs) d h =
+        elim (in_cases (record { import = record { scope = site.scope; position = position_of site item; use_id = id; written = x; vis = raw; is_prelude = is_prelude_import item.attrs }; recorded = no_namespaces }) (new_imports site item id raw xs) d h) [
+          | inl here ↦ ap (λ (q : ImportDirective). q.import.scope) here
+          | inr later ↦ new_at id raw xs d later
+        ]
+
+    -- an extern crate is put by its name, or its name is remembered
+    crate_footprint : (id : ExternCrateId) (name : Option Name) (vis : Visibility) (found : Option ModuleId) → Footprint s site.scope (crate_effect (noted_in s site.scope (with_extern_crate id)) site item id name vis found)
+    crate_footprint id None vis None = same_footprint (noted_footprint s site.scope (with_extern_crate id) (λ d h. h) [] (λ targets own. tt) tt)
+      where
+        same_footprint : Footprint s site.scope (only (noted_in s site.scope (with_extern_crate id))) → Footprint s site.scope (crate_effect (noted_in s site.scope (with_extern_crate id)) site item id None vis None)
+        same_footprint f = record { content = f.content; targets = f.targets; events = f.events; larger = f.larger; none_failed = f.none_failed; imports = f.imports; at = f.at; tasks = f.tasks; plain = f.plain }
+    crate_footprint id (Some name) vis None = same_footprint (noted_footprint s site.scope (with_extern_crate id) (λ d h. h) [] (λ targets own. tt) tt)
+      where
+        same_footprint : Footprint s site.scope (only (noted_in s site.scope (with_extern_crate id))) → Footprint s site.scope (crate_effect (noted_in s site.scope (with_extern_crate id)) site item id (Some name) vis None)
+        same_footprint f = record { content = f.content; targets = f.targets; events = f.events; larger = f.larger; none_failed = f.none_failed; imports = f.imports; at = f.at; tasks = f.tasks; plain = f.plain }
+    crate_footprint id name vis (Some root) = named (is_crate_root site.scope)
+      where
+        t : State
+        t = noted_in s site.scope (with_extern_crate id)
+
+        put : List Task
+        put = Put site.scope (crate_entry id name root vis) ∷ []
+
+        f : Footprint s site.scope (followed_by t put)
+        f = noted_footprint s site.scope (with_extern_crate id) (λ d h. h) put (λ targets own. (put_own t.map site.scope targets (Some (ByCrate id)) refl own, tt)) (refl, tt)
+
+        named : (is : Bool) → Footprint s site.scope (followed_by (naming_crate is name (record { root = root; by = Some id }) t) put)
+        named false = f
+        named true = record { content = f.content; targets = f.targets; events = f.events; larger = f.larger; none_failed = f.none_failed; imports = f.imports; at = f.at; tasks = f.tasks; plain = f.plain }
+
+    -- what each rule does
+    follows_footprint : (rule : Rule) (effect : Effect) → Follows oracle s site item rule effect → Footprint s site.scope effect
+    follows_footprint (declares kind d ns name raw) effect does =
+        let f : ModuleState → ModuleState = declared_in (d does.0) in
+        known_footprint s site.scope effect _ does.2
+        (noted_footprint s site.scope f (λ e h. h) (put_declared site.scope name ns (d does.0) (written_vis oracle s site.scope raw) ∷ []) (λ targets own. (put_own (noted_in s site.scope f).map site.scope targets None refl own, tt)) (refl, tt))
+    follows_footprint (declares_struct name raw ctor) effect does =
+        let d : Def = def.Struct (record { 0 = does.0 }) in
+        let vis : Visibility = written_vis oracle s site.scope raw in
+        let made : Option Visibility = ctor_vis oracle s site.scope ctor in
+        let m : MapState = (noted_in s site.scope (declared_in d)).map in
+        known_footprint s site.scope effect _ does.2
+        (noted_footprint s site.scope (declared_in d) (λ e h. h) (put_declared site.scope name Types d vis ∷ ctor_task s site.scope name d vis made)
+        (λ targets own. (put_own m site.scope targets None refl own, ctor_own m targets name d vis made own)) (refl, ctor_plain name d vis made))
+    follows_footprint (opens_module name raw contents) effect does = known_footprint s site.scope effect _ does (contents_footprint name _ contents)
+    follows_footprint (opens_block children) effect does =
+        let inner : Site = record site { container = contained.ExternBlock (record { 0 = does.0 }) } in
+        let f : ModuleState → ModuleState = with_extern_block (record { 0 = does.0 }) in
+        known_footprint s site.scope effect _ does.2
+        (noted_footprint s site.scope f (λ d h. h) (walk oracle inner children) (λ targets own. own_walk oracle (noted_in s site.scope f).map targets inner children own) (plain_walk oracle inner children))
+    follows_footprint (queues raw imports) effect does =
+        let id : UseId = record { 0 = does.0 } in
+        let f = still_footprint s site.scope in
+        known_footprint s site.scope effect _ does.2
+        (record {
+          content = f.content;
+          targets = f.targets;
+          events = f.events;
+          larger = f.larger;
+          none_failed = f.none_failed;
+          imports = added_new s.imports site item id raw imports;
+          at = λ p h. elim (Contains-append_cases s.imports (new_imports site item id raw imports) p h) [ inl old ↦ inl old | inr new ↦ inr (new_at id raw imports p new) ];
+          tasks = f.tasks;
+          plain = f.plain;
+        })
+    follows_footprint (binds_crate name raw alias) effect does = known_footprint s site.scope effect _ does.2 (crate_footprint (record { 0 = does.0 }) (crate_name name alias) (written_vis oracle s site.scope raw) (named_crate s name))
+    follows_footprint (notes_impl of_trait) effect does =
+        known_footprint s site.scope effect _ does.2 (noted_footprint s site.scope (with_impl (record { 0 = does.0 }) of_trait) (λ d h. h) [] (λ targets own. tt) tt)
+    follows_footprint notes_const effect does =
+        known_footprint s site.scope effect _ does.2 (noted_footprint s site.scope (with_unnamed_const (record { 0 = does.0 })) (λ d h. h) [] (λ targets own. tt) tt)
+
+node_footprint : (oracle : Oracle) (s : State) (site : Site) (id : ModItemId) (item : ItemNode) (cfg : Option CfgExpr) (effect : Effect) → VisitsNode oracle s site id item cfg effect → Footprint s site.scope effect
+node_footprint oracle s site id item (Some cfg) effect does =
+    let f = still_footprint s site.scope in
+    known_footprint s site.scope effect _ does (record { content = f.content; targets = f.targets; events = f.events; larger = f.larger; none_failed = f.none_failed; imports = f.imports; at = f.at; tasks = f.tasks; plain = f.plain })
+node_footprint oracle s site id item None effect does =
+    let f = follows_footprint oracle (record s { session = does.0 }) site item (rule_of item.kind) effect does.2 in
+    record { content = f.content; targets = f.targets; events = f.events; larger = f.larger; none_failed = f.none_failed; imports = f.imports; at = f.at; tasks = f.tasks; plain = f.plain }
+
+at_footprint : (oracle : Oracle) (s : State) (site : Site) (id : ModItemId) (item : Option ItemNode) (effect : Effect) → VisitsAt oracle s site id item effect → Footprint s site.scope effect
+at_footprint oracle s site id None effect does = known_footprint s site.scope effect _ does (still_footprint s site.scope)
+at_footprint oracle s site id (Some item) effect does = node_footprint oracle s site id item (disabled_by item.attrs) effect does
+
+-- what a visit does
+pub visits_footprint : (oracle : Oracle) (s : State) (site : Site) (id : ModItemId) (effect : Effect) → Visits oracle s site id effect → Footprint s site.scope effect
+visits_footprint oracle s site id effect does = at_footprint oracle s site id (node_at oracle site.tree id) effect does
