@@ -5,7 +5,7 @@ ghost use Rattle.def_ids.specs.declared.interner.Interner.{Interner};
 ghost use Rattle.def_ids.specs.Session.{AddsLocations, session_of};
 ghost use Rattle.def_items.specs.Parts.{site_of};
 ghost use Rattle.def_state.specs.Collector.{state_of};
-ghost use Rattle.def_state.specs.Declarations.{is_declaring};
+ghost use Rattle.def_state.specs.Declarations.{is_declaring, is_value};
 ghost use Rattle.def_laws.specs.Performs.{Handled, Performs, Updated};
 ghost use Rattle.def_rules.specs.Items.{declared_effect, written_vis};
 
@@ -28,14 +28,10 @@ pub struct WrittenStruct<'a> {
     pub ctor: &'a CtorVisibility,
 }
 
-/// A definition that is declared in one namespace, and its visibility as it is written.
+/// A definition that is declared in one namespace: its name, the namespace, what it is, and its
+/// visibility as it is written.
 #[derive(Clone, Copy)]
-struct Declaration<'a> {
-    name: Name,
-    ns: Namespace,
-    def: Def,
-    visibility: &'a RawVisibility,
-}
+struct Declaration<'a>(Name, Namespace, Def, &'a RawVisibility);
 
 impl DefCollector<'_> {
     /// Declares an item of a kind that declares one name in one namespace. A constant without a name
@@ -61,12 +57,7 @@ impl DefCollector<'_> {
                     position: site.position(node),
                 }
                 .intern(session)?;
-                let declared = Declaration {
-                    name: *name,
-                    ns: Namespace::Types,
-                    def: Def::Union(id),
-                    visibility,
-                };
+                let declared = Declaration(*name, Namespace::Types, Def::Union(id), visibility);
                 self.declare(db, session, site.module_id, declared)?;
                 Ok(())
             }
@@ -76,27 +67,58 @@ impl DefCollector<'_> {
                     position: site.position(node),
                 }
                 .intern(session)?;
-                let declared = Declaration {
-                    name: *name,
-                    ns: Namespace::Types,
-                    def: Def::Enum(id),
-                    visibility,
-                };
+                let declared = Declaration(*name, Namespace::Types, Def::Enum(id), visibility);
                 self.declare(db, session, site.module_id, declared)?;
                 Ok(())
             }
+            ModItemKind::Trait { name, visibility } => {
+                let id = TraitLoc {
+                    container: site.module_id,
+                    position: site.position(node),
+                }
+                .intern(session)?;
+                let declared = Declaration(*name, Namespace::Types, Def::Trait(id), visibility);
+                self.declare(db, session, site.module_id, declared)?;
+                Ok(())
+            }
+            ModItemKind::TypeAlias { name, visibility } => {
+                let id = TypeAliasLoc {
+                    container: site.container,
+                    position: site.position(node),
+                }
+                .intern(session)?;
+                let declared = Declaration(*name, Namespace::Types, Def::TypeAlias(id), visibility);
+                self.declare(db, session, site.module_id, declared)?;
+                Ok(())
+            }
+            _ => self.collect_value(db, session, site, node),
+        }
+    }
+
+    /// Declares an item of a kind that declares one name in values. A constant without a name is
+    /// recorded in its module and declares none. On `Err` nothing but safety is promised.
+    fn collect_value<D: SourceDatabase>(
+        &mut self,
+        db: &D,
+        session: &mut Interner,
+        site: Site<'_>,
+        node: &ItemNode,
+    ) -> Result<(), AllocError>
+        ensures handled { OnOk result (is_value node.now.kind ≡ true →
+            Handled (D.oracle db.now) (state_of self.old session.old) (state_of self.new session.new)
+            (site_of site.entry) node.now []) }
+        ensures others { OnOk result (is_value node.now.kind ≡ false →
+            state_of self.new session.new ≡ state_of self.old session.old) }
+        ensures session { AddsLocations (session_of session.old) (session_of session.new) }
+    {
+        match &node.kind {
             ModItemKind::Function { name, visibility } => {
                 let id = FunctionLoc {
                     container: site.container,
                     position: site.position(node),
                 }
                 .intern(session)?;
-                let declared = Declaration {
-                    name: *name,
-                    ns: Namespace::Values,
-                    def: Def::Function(id),
-                    visibility,
-                };
+                let declared = Declaration(*name, Namespace::Values, Def::Function(id), visibility);
                 self.declare(db, session, site.module_id, declared)?;
                 Ok(())
             }
@@ -110,12 +132,7 @@ impl DefCollector<'_> {
                     self.def_map.define_unnamed_const(site.module_id.index, id)?;
                     return Ok(());
                 };
-                let declared = Declaration {
-                    name,
-                    ns: Namespace::Values,
-                    def: Def::Const(id),
-                    visibility,
-                };
+                let declared = Declaration(name, Namespace::Values, Def::Const(id), visibility);
                 self.declare(db, session, site.module_id, declared)?;
                 Ok(())
             }
@@ -125,51 +142,11 @@ impl DefCollector<'_> {
                     position: site.position(node),
                 }
                 .intern(session)?;
-                let declared = Declaration {
-                    name: *name,
-                    ns: Namespace::Values,
-                    def: Def::Static(id),
-                    visibility,
-                };
+                let declared = Declaration(*name, Namespace::Values, Def::Static(id), visibility);
                 self.declare(db, session, site.module_id, declared)?;
                 Ok(())
             }
-            ModItemKind::Trait { name, visibility } => {
-                let id = TraitLoc {
-                    container: site.module_id,
-                    position: site.position(node),
-                }
-                .intern(session)?;
-                let declared = Declaration {
-                    name: *name,
-                    ns: Namespace::Types,
-                    def: Def::Trait(id),
-                    visibility,
-                };
-                self.declare(db, session, site.module_id, declared)?;
-                Ok(())
-            }
-            ModItemKind::TypeAlias { name, visibility } => {
-                let id = TypeAliasLoc {
-                    container: site.container,
-                    position: site.position(node),
-                }
-                .intern(session)?;
-                let declared = Declaration {
-                    name: *name,
-                    ns: Namespace::Types,
-                    def: Def::TypeAlias(id),
-                    visibility,
-                };
-                self.declare(db, session, site.module_id, declared)?;
-                Ok(())
-            }
-            ModItemKind::Mod { .. }
-            | ModItemKind::Use { .. }
-            | ModItemKind::ExternCrate { .. }
-            | ModItemKind::ExternBlock { .. }
-            | ModItemKind::Impl { .. }
-            | ModItemKind::Struct { .. } => Ok(()),
+            _ => Ok(()),
         }
     }
 
@@ -214,18 +191,15 @@ impl DefCollector<'_> {
         declared: Declaration<'_>,
     ) -> Result<(), AllocError>
         ensures { OnOk result (let s = state_of self.old session.now in
-            let vis = written_vis (D.oracle db.now) s module_id declared.entry.visibility.now in
-            let effect = declared_effect s module_id declared.entry.name declared.entry.ns declared.entry.def vis in
+            let vis = written_vis (D.oracle db.now) s module_id declared.entry.3.now in
+            let effect = declared_effect s module_id declared.entry.0 declared.entry.1 declared.entry.2 vis in
             Performs (D.oracle db.now) effect.tasks effect.state (state_of self.new session.now)) }
     {
-        let vis = self.resolve_visibility(db, session, module_id, declared.visibility);
-        let defined = Definition {
-            name: declared.name,
-            def: declared.def,
-            vis,
-        };
+        let Declaration(name, ns, def, visibility) = declared;
+        let vis = self.resolve_visibility(db, session, module_id, visibility);
+        let defined = Definition { name, def, vis };
         let table = &mut self.table;
-        define(&mut self.def_map, table, module_id, declared.ns, defined)?;
+        define(&mut self.def_map, table, module_id, ns, defined)?;
         Ok(())
     }
 

@@ -1,14 +1,13 @@
-use Rattle.std.proofs.Common.{ap, refl, ◌∙◌}
+use Rattle.std.proofs.Common.{ap, refl}
 use Rattle.def_ids.specs.declared.ids.Def.TheVariants as def
-use Rattle.def_ids.specs.Session.{session_of, UnionItem, EnumItem, FunctionItem, ConstItem, StaticItem, TraitItem, TypeAliasItem}
-use Rattle.def_bindings.specs.declared.bindings.Namespace.TheVariants.{Types, Values}
+use Rattle.def_ids.specs.Session.{session_of, UnionItem, EnumItem, TraitItem, TypeAliasItem}
+use Rattle.def_bindings.specs.declared.bindings.Namespace.TheVariants.{Types}
 use Rattle.def_items.specs.Parts.{site_of}
 use Rattle.def_state.specs.Collector.{state_of}
 use Rattle.def_rules.specs.Rules.{rule_of}
-use Rattle.def_rules.specs.State.{State, with_map}
-use Rattle.def_items.proofs.ItemsLemmas.{handled_declared, handled_unnamed_const}
+use Rattle.def_rules.specs.State.{State}
+use Rattle.def_items.proofs.ItemsLemmas.{handled_declared}
 use Rattle.def_state.proofs.collector.DefCollector.collect_declaration.Goals as goal
-use Rattle.item_tree.specs.declared.items.ModItemKind.TheVariants.{Const}
 
 pub returns-in_ok-declare-in-Union-clause-handled : goal.returns-in_ok-declare-in-Union-clause-handled
 returns-in_ok-declare-in-Union-clause-handled g c = λ declares.
@@ -24,20 +23,6 @@ returns-in_ok-declare-in-Enum-clause-handled g c = λ declares.
     c.in_ok-id-in-Enum.ensures.adds c.position-in-Enum.ensures refl
     EnumItem (λ i. def.Enum (record { 0 = i })) Types (ap rule_of c.in-Enum.is) c.in_ok-id-in-Enum.ensures.shown c.in_ok-declare-in-Enum.ensures
 
-pub returns-in_ok-declare-in-Function-clause-handled : goal.returns-in_ok-declare-in-Function-clause-handled
-returns-in_ok-declare-in-Function-clause-handled g c = λ declares.
-    let before : State = state_of c.args.self.now c.args.session.now in
-    handled_declared (g.D.SourceDatabase.oracle c.args.db.now) before _ (session_of c.intern-in-Function.new.session) (site_of c.args.site) c.args.node.now _ _ c.in_ok-id-in-Function.id.0 c.position-in-Function.result _
-    c.in_ok-id-in-Function.ensures.adds c.position-in-Function.ensures refl
-    FunctionItem (λ i. def.Function (record { 0 = i })) Values (ap rule_of c.in-Function.is) c.in_ok-id-in-Function.ensures.shown c.in_ok-declare-in-Function.ensures
-
-pub returns-in_ok-declare-in-Static-clause-handled : goal.returns-in_ok-declare-in-Static-clause-handled
-returns-in_ok-declare-in-Static-clause-handled g c = λ declares.
-    let before : State = state_of c.args.self.now c.args.session.now in
-    handled_declared (g.D.SourceDatabase.oracle c.args.db.now) before _ (session_of c.intern-in-Static.new.session) (site_of c.args.site) c.args.node.now _ _ c.in_ok-id-in-Static.id.0 c.position-in-Static.result _
-    c.in_ok-id-in-Static.ensures.adds c.position-in-Static.ensures refl
-    StaticItem (λ i. def.Static (record { 0 = i })) Values (ap rule_of c.in-Static.is) c.in_ok-id-in-Static.ensures.shown c.in_ok-declare-in-Static.ensures
-
 pub returns-in_ok-declare-in-Trait-clause-handled : goal.returns-in_ok-declare-in-Trait-clause-handled
 returns-in_ok-declare-in-Trait-clause-handled g c = λ declares.
     let before : State = state_of c.args.self.now c.args.session.now in
@@ -51,18 +36,3 @@ returns-in_ok-declare-in-TypeAlias-clause-handled g c = λ declares.
     handled_declared (g.D.SourceDatabase.oracle c.args.db.now) before _ (session_of c.intern-in-TypeAlias.new.session) (site_of c.args.site) c.args.node.now _ _ c.in_ok-id-in-TypeAlias.id.0 c.position-in-TypeAlias.result _
     c.in_ok-id-in-TypeAlias.ensures.adds c.position-in-TypeAlias.ensures refl
     TypeAliasItem (λ i. def.TypeAlias (record { 0 = i })) Types (ap rule_of c.in-TypeAlias.is) c.in_ok-id-in-TypeAlias.ensures.shown c.in_ok-declare-in-TypeAlias.ensures
-
-pub returns-in_ok-declare-in-Const-clause-handled : goal.returns-in_ok-declare-in-Const-clause-handled
-returns-in_ok-declare-in-Const-clause-handled g c = λ declares.
-    let before : State = state_of c.args.self.now c.args.session.now in
-    handled_declared (g.D.SourceDatabase.oracle c.args.db.now) before _ (session_of c.intern-in-Const.new.session) (site_of c.args.site) c.args.node.now _ _ c.in_ok-id-in-Const.id.0 c.position-in-Const.result _
-    c.in_ok-id-in-Const.ensures.adds c.position-in-Const.ensures refl
-    ConstItem (λ i. def.Const (record { 0 = i })) Values (ap rule_of (c.in-Const.is ∙ ap (λ o. Const o c.in-Const.visibility) c.in-Some.is)) c.in_ok-id-in-Const.ensures.shown c.in_ok-declare-in-Const.ensures
-
-pub returns-in_default-clause-handled : goal.returns-in_default-clause-handled
-returns-in_default-clause-handled g c = λ declares.
-    let before : State = state_of c.args.self.now c.args.session.now in
-    handled_unnamed_const (g.D.SourceDatabase.oracle c.args.db.now) before _ (session_of c.intern-in-Const.new.session) (site_of c.args.site) c.args.node.now c.in_ok-id-in-Const.id.0 c.position-in-Const.result
-    c.in_ok-id-in-Const.ensures.adds c.position-in-Const.ensures c.in-Const.visibility
-    (c.in-Const.is ∙ ap (λ o. Const o c.in-Const.visibility) c.in_default.is) c.in_ok-id-in-Const.ensures.shown
-    (ap (with_map (record before { session = session_of c.intern-in-Const.new.session })) c.in_ok-define_unnamed_const-in-Const.ensures)

@@ -10,5 +10,5 @@ returns g c =
     let oracle = g.D.SourceDatabase.oracle c.args.db.now in
     let before : State = state_of c.args.self.now c.args.session.now in
     let d = c.args.declared in
-    subst (λ vis. let effect = declared_effect before c.args.module_id d.name d.ns d.def vis in Performs oracle effect.tasks effect.state (state_of (record c.args.self.now { def_map = c.define.new.def_map; table = c.define.new.table }) c.args.session.now))
+    subst (λ vis. let effect = declared_effect before c.args.module_id d.0 d.1 d.2 vis in Performs oracle effect.tasks effect.state (state_of (record c.args.self.now { def_map = c.define.new.def_map; table = c.define.new.table }) c.args.session.now))
     c.resolve_visibility-vis.ensures (c.in_ok-define.ensures oracle before)
