@@ -4,9 +4,9 @@ ghost use Rattle.def_state.specs.Collector.{state_of};
 ghost use Rattle.def_rules.specs.Crates as crates;
 ghost use Rattle.def_rules.specs.Start.{head_of, with_head, with_prelude};
 
-use def_crates::{module_reached, prelude_path};
+use def_crates::prelude_path;
 use def_ids::{Interner, ModuleId};
-use def_map::{BuiltinShadowMode, SourceDatabase, resolve_path};
+use def_map::{SourceDatabase, World, resolve_module};
 use def_state::DefCollector;
 use std::alloc::AllocError;
 
@@ -41,16 +41,12 @@ fn prelude_module<D: SourceDatabase>(
         map: collector.def_map.tree.map,
         index: 0,
     };
-    let (found, left) = resolve_path(
-        &collector.def_map,
-        collector.table.table(),
+    let world = World {
+        map: &collector.def_map,
+        table: collector.table.table(),
         local,
         db,
         session,
-        root,
-        &path,
-        BuiltinShadowMode::Module,
-        None,
-    );
-    Ok(module_reached(found, left))
+    };
+    Ok(resolve_module(&world, root, &path))
 }

@@ -11,5 +11,5 @@ mod root_file;
 pub use crate_attrs::{is_proc_macro_with, top_attrs};
 pub use crate_deps::{deps_by_name, is_proc_macro_crate};
 pub use missing_crates::MissingCrates;
-pub use prelude::{module_reached, prelude_path};
+pub use prelude::prelude_path;
 pub use root_file::read_root_file;

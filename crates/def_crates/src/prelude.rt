@@ -1,11 +1,10 @@
-//! The path of the prelude, and the module that it leads to.
+//! The path of the prelude.
 ghost use Rattle.std.specs.Prelude.{◌≡◌, ℕ, IfOk};
-ghost use Rattle.def_map.specs.Paths as paths;
 ghost use Rattle.def_modules.specs.Locals.{local_view};
 ghost use Rattle.def_rules.specs.Crates as crates;
 
-use def_ids::{Def, Edition, ModuleId};
-use def_map::{LocalDefMap, PerNs};
+use def_ids::Edition;
+use def_map::LocalDefMap;
 use item_tree::{ModPath, Name, PathKind, Seq, sym};
 use std::alloc::{AllocError, Global};
 
@@ -61,18 +60,5 @@ fn prelude_kind(edition: Edition) -> PathKind
     match edition {
         Edition::Edition2015 => PathKind::Plain,
         Edition::Edition2018 | Edition::Edition2021 | Edition::Edition2024 => PathKind::Abs,
-    }
-}
-
-/// The module that a path reaches with no segment left.
-pub fn module_reached(found: PerNs, left: Option<usize>) -> Option<ModuleId>
-    ensures { result ≡ paths.module_reached found left }
-{
-    match (found.types, left) {
-        (Some(item), None) => match item.def {
-            Def::Module(place) => Some(place),
-            _ => None,
-        },
-        _ => None,
     }
 }

@@ -13,9 +13,7 @@ ghost use Rattle.def_laws.specs.Runs.{Leads};
 
 use crate::globs::record_glob;
 use def_ids::Interner;
-use def_map::{
-    BuiltinShadowMode, ResolveMode, ResolvePathResult, SourceDatabase, resolve_path_fp_with_macro,
-};
+use def_map::{Asked, ResolvePathResult, SourceDatabase, World, resolve_path_fp_with_macro};
 use def_state::DefCollector;
 use def_steps::{
     Import, ImportDirective, ImportList, drop_left, is_ready, named_entries, new_prelude,
@@ -126,18 +124,15 @@ fn resolve_import<D: SourceDatabase>(
 ) -> ResolvePathResult
     ensures { result ≡ answer_now (D.oracle db.now) (state_of collector.now session.now) (import_of import.now) }
 {
-    resolve_path_fp_with_macro(
-        &collector.def_map,
-        collector.table.table(),
-        collector.local(),
+    let world = World {
+        map: &collector.def_map,
+        table: collector.table.table(),
+        local: collector.local(),
         db,
         session,
-        ResolveMode::Import,
-        import.module_id,
-        &import.written.path,
-        BuiltinShadowMode::Module,
-        None,
-    )
+    };
+    let path = &import.written.path;
+    resolve_path_fp_with_macro(&world, Asked::for_import(), import.module_id, path)
 }
 
 /// Records an import with what its path gives, by its kind. On `Err` nothing but safety is promised.

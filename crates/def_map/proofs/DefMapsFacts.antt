@@ -1,15 +1,12 @@
 -- Worked rows of the maps that are seeded and of what a module's scope lists.
 use Rattle.std.proofs.Common.{◌≡◌, ℕ, [], ◌∷◌, Some, None, refl}
-use Rattle.item_tree.specs.declared.name.Name.{Name}
 use Rattle.def_ids.specs.declared.ids.Def.TheVariants.{Builtin}
 use Rattle.def_ids.specs.declared.ids.ModuleId.{ModuleId}
-use Rattle.def_ids.specs.declared.macro_def.Edition.TheVariants.{Edition2015, Edition2021}
+use Rattle.def_ids.specs.declared.macro_def.Edition.TheVariants.{Edition2015}
 use Rattle.def_bindings.specs.Content.{Content, empty, with_binding, with_unnamed}
 use Rattle.def_bindings.specs.declared.bindings.Namespace.TheVariants.{Types, Values}
 use Rattle.def_bindings.specs.declared.visibility.Visibility.{Visibility}
 use Rattle.def_bindings.specs.declared.visibility.Visibility.TheVariants.{Public, PubCrate}
-use Rattle.def_modules.specs.declared.module_data.ModuleOrigin.TheVariants.{Block}
-use Rattle.def_modules.specs.Scopes.{empty_module}
 use Rattle.def_map.specs.declared.block.BlockInfo.{BlockInfo}
 use Rattle.def_map.specs.DefMaps.{seeded}
 use Rattle.def_seed.specs.Fresh.{known_tools}

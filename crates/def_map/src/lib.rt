@@ -18,7 +18,7 @@ pub use def_modules::{
 pub use item_scope::{ItemScope, Resolutions, UnnamedTraits};
 pub use macro_resolver::MacroResolver;
 pub use path_resolution::{
-    ResolvePaths, finished_map, resolve_path, resolve_path_fp_with_macro, resolve_visibility,
+    ResolvePaths, finished_map, resolve_module, resolve_path_fp_with_macro, resolve_visibility,
 };
 pub use source_database::SourceDatabase;
 
@@ -29,7 +29,7 @@ pub use def_oracle::{
 };
 pub use def_paths::{
     Asked, BuiltinShadowMode, Item, MacroSubNs, PerNs, PrefixInfo, ReachedFixedPoint, ResolveMode,
-    ResolvePathResult, Table, public_item,
+    ResolvePathResult, Table, World, public_item,
 };
 
 // The ids, visibilities and bindings that maps are made of.

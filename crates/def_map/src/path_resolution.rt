@@ -4,9 +4,9 @@ ghost use Rattle.def_ids.specs.Session.{session_of};
 ghost use Rattle.def_map.specs.DefMaps.{view_of};
 ghost use Rattle.def_modules.specs.Locals.{local_view};
 ghost use Rattle.def_paths.specs.declared.asked.ResolveMode.TheVariants.{Other};
-ghost use Rattle.def_paths.specs.Asking.{map_with};
+ghost use Rattle.def_paths.specs.Asking.{map_with, world_lent};
 ghost use Rattle.def_paths.specs.Modes.{asked_by};
-ghost use Rattle.def_paths.specs.Paths.{resolve, resolve_visibility as visibility_of};
+ghost use Rattle.def_paths.specs.Paths.{for_module, module_found, resolve, resolve_visibility as visibility_of};
 ghost use Rattle.def_paths.specs.Sources.{world_of, finished_map as finished_map_of};
 
 use crate::def_map::DefMap;
@@ -16,7 +16,8 @@ use def_ids::{EnumLoc, Interner, MapId, ModuleId};
 use def_modules::{LocalDefMap, MapData};
 use def_oracle::EnumVariant;
 use def_paths::{
-    BuiltinShadowMode, MacroSubNs, PathDatabase, PerNs, ResolveMode, ResolvePathResult, Table,
+    Asked, BuiltinShadowMode, MacroSubNs, PathDatabase, PerNs, ResolveMode, ResolvePathResult,
+    Table, World,
 };
 use item_tree::{ModPath, Name, RawVisibility};
 
@@ -60,100 +61,62 @@ impl<'a, D: SourceDatabase> PathDatabase for AskedByPaths<'a, D> {
     }
 }
 
-/// What a path means, asked from a module of a map whose bindings stand in `table`. Of a
-/// name that stands alone, `shadow` says whether a builtin type goes before a module, and only
-/// the macros of `expected_macro_subns` count, if that is given.
+/// What a path means, asked from a module.
 pub fn resolve_path_fp_with_macro<D: SourceDatabase, T: BindingTable<Vis = Visibility>>(
-    map: &MapData,
-    table: &T,
-    local_def_map: &LocalDefMap,
-    db: &D,
-    session: &Interner,
-    mode: ResolveMode,
+    world: &World<'_, D, T>,
+    asked: Asked,
     original_module: ModuleId,
     path: &ModPath,
-    shadow: BuiltinShadowMode,
-    expected_macro_subns: Option<MacroSubNs>,
 ) -> ResolvePathResult
-    ensures { let oracle = D.oracle db.now in
-        let m = map_with map.now (T.content table.now) in
-        let w = world_of oracle (session_of session.now) m (local_view local_def_map.now) in
-        result ≡ resolve w (asked_by mode shadow expected_macro_subns) original_module path.now }
+    ensures { result ≡ resolve (world_lent D.oracle T.content world.now) asked original_module path.now }
 {
-    let db = AskedByPaths { db };
-    def_paths::resolve_path_fp_with_macro(
-        map,
-        table,
-        local_def_map,
-        &db,
-        session,
-        mode,
-        original_module,
-        path,
-        shadow,
-        expected_macro_subns,
-    )
+    let db = AskedByPaths { db: world.db };
+    let world = World {
+        map: world.map,
+        table: world.table,
+        local: world.local,
+        db: &db,
+        session: world.session,
+    };
+    def_paths::resolve_path_fp_with_macro(&world, asked, original_module, path)
 }
 
-/// What a path that is no import's means, and the first segment that is left where it ends at a
-/// definition without names.
-pub fn resolve_path<D: SourceDatabase, T: BindingTable<Vis = Visibility>>(
-    map: &MapData,
-    table: &T,
-    local_def_map: &LocalDefMap,
-    db: &D,
-    session: &Interner,
+/// The module that a path gives, with no segment left.
+pub fn resolve_module<D: SourceDatabase, T: BindingTable<Vis = Visibility>>(
+    world: &World<'_, D, T>,
     original_module: ModuleId,
     path: &ModPath,
-    shadow: BuiltinShadowMode,
-    expected_macro_subns: Option<MacroSubNs>,
-) -> (PerNs, Option<usize>)
-    ensures { let oracle = D.oracle db.now in
-        let m = map_with map.now (T.content table.now) in
-        let w = world_of oracle (session_of session.now) m (local_view local_def_map.now) in
-        let asked = asked_by Other shadow expected_macro_subns in
-        let answer = resolve w asked original_module path.now in
-        result ≡ (answer.resolved_def, answer.segment_index) }
+) -> Option<ModuleId>
+    ensures { result ≡ module_found (resolve (world_lent D.oracle T.content world.now) for_module original_module path.now) }
 {
-    let db = AskedByPaths { db };
-    def_paths::resolve_path(
-        map,
-        table,
-        local_def_map,
-        &db,
-        session,
-        original_module,
-        path,
-        shadow,
-        expected_macro_subns,
-    )
+    let db = AskedByPaths { db: world.db };
+    let world = World {
+        map: world.map,
+        table: world.table,
+        local: world.local,
+        db: &db,
+        session: world.session,
+    };
+    def_paths::resolve_module(&world, original_module, path)
 }
 
 /// What a visibility means that is written in a module. `None` where its path leads to no module.
 pub fn resolve_visibility<D: SourceDatabase, T: BindingTable<Vis = Visibility>>(
-    map: &MapData,
-    table: &T,
-    local_def_map: &LocalDefMap,
-    db: &D,
-    session: &Interner,
+    world: &World<'_, D, T>,
     original_module: ModuleId,
     visibility: &RawVisibility,
 ) -> Option<Visibility>
-    ensures { let oracle = D.oracle db.now in
-        let m = map_with map.now (T.content table.now) in
-        let w = world_of oracle (session_of session.now) m (local_view local_def_map.now) in
-        result ≡ visibility_of w original_module visibility.now }
+    ensures { result ≡ visibility_of (world_lent D.oracle T.content world.now) original_module visibility.now }
 {
-    let db = AskedByPaths { db };
-    def_paths::resolve_visibility(
-        map,
-        table,
-        local_def_map,
-        &db,
-        session,
-        original_module,
-        visibility,
-    )
+    let db = AskedByPaths { db: world.db };
+    let world = World {
+        map: world.map,
+        table: world.table,
+        local: world.local,
+        db: &db,
+        session: world.session,
+    };
+    def_paths::resolve_visibility(&world, original_module, visibility)
 }
 
 /// A map without its bindings, which stand in a table that is handed in: what paths mean there.
@@ -236,18 +199,19 @@ impl ResolvePaths for MapData {
         shadow: BuiltinShadowMode,
         expected_macro_subns: Option<MacroSubNs>,
     ) -> ResolvePathResult {
-        resolve_path_fp_with_macro(
-            self,
+        let world = World {
+            map: self,
             table,
-            local_def_map,
+            local: local_def_map,
             db,
             session,
+        };
+        let asked = Asked {
             mode,
-            original_module,
-            path,
             shadow,
-            expected_macro_subns,
-        )
+            sub: expected_macro_subns,
+        };
+        resolve_path_fp_with_macro(&world, asked, original_module, path)
     }
 
     fn resolve_path<D: SourceDatabase, T: BindingTable<Vis = Visibility>>(
@@ -261,17 +225,18 @@ impl ResolvePaths for MapData {
         shadow: BuiltinShadowMode,
         expected_macro_subns: Option<MacroSubNs>,
     ) -> (PerNs, Option<usize>) {
-        resolve_path(
-            self,
+        let answer = self.resolve_path_fp_with_macro(
             table,
             local_def_map,
             db,
             session,
+            ResolveMode::Other,
             original_module,
             path,
             shadow,
             expected_macro_subns,
-        )
+        );
+        (answer.resolved_def, answer.segment_index)
     }
 
     fn resolve_visibility<D: SourceDatabase, T: BindingTable<Vis = Visibility>>(
@@ -283,15 +248,14 @@ impl ResolvePaths for MapData {
         original_module: ModuleId,
         visibility: &RawVisibility,
     ) -> Option<Visibility> {
-        resolve_visibility(
-            self,
+        let world = World {
+            map: self,
             table,
-            local_def_map,
+            local: local_def_map,
             db,
             session,
-            original_module,
-            visibility,
-        )
+        };
+        resolve_visibility(&world, original_module, visibility)
     }
 }
 

@@ -8,7 +8,7 @@ ghost use Rattle.def_paths.specs.Answers.{variants_of, variant_named as first_na
 ghost use Rattle.def_paths.specs.Answers.{step as step_of, is_elsewhere as elsewhere, walk as walk_of};
 ghost use Rattle.def_paths.specs.Answers.{HasSameTypes, answer_after, answer_from, joined};
 ghost use Rattle.def_paths.specs.declared.per_ns.PerNs.{PerNs};
-ghost use Rattle.def_paths.specs.Asking.{question_in, map_with};
+ghost use Rattle.def_paths.specs.Asking.{question_in, map_in, map_with};
 ghost use Rattle.def_paths.specs.Items.{is_fitting};
 ghost use Rattle.def_paths.specs.OuterMaps.{is_alone as stands_alone, is_plain as has_no_word};
 ghost use Rattle.def_paths.specs.OuterMaps.{answer_in as answer_in_map, answer_outside as answer_outside_of};
@@ -20,7 +20,8 @@ use crate::asked::{PrefixInfo, ReachedFixedPoint, ResolvePathResult};
 use crate::path_database::PathDatabase;
 use crate::per_ns::{Item, PerNs, public_item};
 use crate::prefixes::{absolute_type, relative_type};
-use crate::sources::{Asking, Segment, absolute, relative, scope, scope_type};
+use crate::sources::{Segment, absolute, relative, scope, scope_type};
+use crate::world::{Asking, World};
 use def_bindings::{BindingTable, Visibility};
 use def_ids::{Def, EnumId, LocationId, ModuleId};
 use def_modules::MapData;
@@ -144,12 +145,16 @@ impl ResolvePathResult {
 }
 
 /// The variant of a name of an enum.
-fn variant<D: PathDatabase>(asking: &Asking<'_, D>, id: EnumId, name: Name) -> Option<EnumVariant>
-    ensures { let q = question_in (D.oracle asking.now.db.now) asking.now in
+fn variant<D: PathDatabase, T>(
+    asking: &Asking<'_, D, T>,
+    id: EnumId,
+    name: Name,
+) -> Option<EnumVariant>
+    ensures { let q = question_in D.oracle asking.now in
         result ≡ first_named (variants_of q id.0) name }
 {
-    match id.lookup(asking.session) {
-        Some(loc) => match asking.db.enum_variants(loc) {
+    match id.lookup(asking.world.session) {
+        Some(loc) => match asking.world.db.enum_variants(loc) {
             Some(variants) => variant_named(variants, name),
             None => None,
         },
@@ -160,23 +165,21 @@ fn variant<D: PathDatabase>(asking: &Asking<'_, D>, id: EnumId, name: Name) -> O
 /// What a definition has of the next segment, where it can have names: in all namespaces where
 /// that is the last, and else in types at least.
 fn step<D: PathDatabase, T: BindingTable<Vis = Visibility>>(
-    asking: &Asking<'_, D>,
-    map: &MapData,
-    table: &T,
+    asking: &Asking<'_, D, T>,
     def: Def,
     name: Name,
     is_last: bool,
 ) -> Option<PerNs>
-    ensures types { let q = question_in (D.oracle asking.now.db.now) asking.now in
-        let own = map_with map.now (T.content table.now) in
+    ensures types { let q = question_in D.oracle asking.now in
+        let own = map_in T.content asking.now in
         HasSameTypes result (step_of q own def name) }
-    ensures last { let q = question_in (D.oracle asking.now.db.now) asking.now in
-        let own = map_with map.now (T.content table.now) in
+    ensures last { let q = question_in D.oracle asking.now in
+        let own = map_in T.content asking.now in
         is_last ≡ true → result ≡ step_of q own def name }
 {
     match def {
-        Def::Module(place) if is_last => Some(scope(asking, map, table, place, name)),
-        Def::Module(place) => Some(PerNs::types_alone(scope_type(asking, map, table, place, name))),
+        Def::Module(place) if is_last => Some(scope(asking, place, name)),
+        Def::Module(place) => Some(PerNs::types_alone(scope_type(asking, place, name))),
         Def::Enum(id) => match variant(asking, id, name) {
             Some(variant) => Some(variant_found(variant)),
             None => None,
@@ -197,16 +200,14 @@ fn is_elsewhere(map: &MapData, def: Def) -> bool
 
 /// The segments from `begin` on, after what was found.
 fn walk<D: PathDatabase, T: BindingTable<Vis = Visibility>>(
-    asking: &Asking<'_, D>,
-    map: &MapData,
-    table: &T,
+    asking: &Asking<'_, D, T>,
     first: PerNs,
     begin: usize,
     segments: &[Name],
 ) -> ResolvePathResult
     requires { begin ≤ length segments.now }
-    ensures { let q = question_in (D.oracle asking.now.db.now) asking.now in
-        let own = map_with map.now (T.content table.now) in
+    ensures { let q = question_in D.oracle asking.now in
+        let own = map_in T.content asking.now in
         result ≡ walk_of q own false first begin (drop begin segments.now) }
 {
     let mut found = first;
@@ -218,10 +219,10 @@ fn walk<D: PathDatabase, T: BindingTable<Vis = Visibility>>(
             None => return missing(crossed),
         };
         let is_last = i + 1 == segments.len();
-        let Some(next) = step(asking, map, table, item.def, name, is_last) else {
+        let Some(next) = step(asking, item.def, name, is_last) else {
             return reached(PerNs::of_type(item), Some(i), crossed);
         };
-        crossed = crossed || is_elsewhere(map, item.def);
+        crossed = crossed || is_elsewhere(asking.world.map, item.def);
         found = next;
     }
     reached(found, None, crossed)
@@ -229,20 +230,18 @@ fn walk<D: PathDatabase, T: BindingTable<Vis = Visibility>>(
 
 /// A path from a module on, if that is there.
 fn from_module<D: PathDatabase, T: BindingTable<Vis = Visibility>>(
-    asking: &Asking<'_, D>,
-    map: &MapData,
-    table: &T,
+    asking: &Asking<'_, D, T>,
     place: Option<ModuleId>,
     path: &ModPath,
 ) -> ResolvePathResult
-    ensures { let q = question_in (D.oracle asking.now.db.now) asking.now in
-        let own = map_with map.now (T.content table.now) in
+    ensures { let q = question_in D.oracle asking.now in
+        let own = map_in T.content asking.now in
         (keep : _) → result ≡ answer_from q own keep (at_module place) path.now.segments }
 {
     match place {
         Some(found) => {
             let first = PerNs::of_type(public_item(Def::Module(found)));
-            walk(asking, map, table, first, 0, path.segments.as_slice())
+            walk(asking, first, 0, path.segments.as_slice())
         }
         None => missing(false),
     }
@@ -261,33 +260,29 @@ fn from_name(found: PerNs) -> ResolvePathResult
 
 /// A path of more segments, after what the first means in types.
 fn from_prefix<D: PathDatabase, T: BindingTable<Vis = Visibility>>(
-    asking: &Asking<'_, D>,
-    map: &MapData,
-    table: &T,
+    asking: &Asking<'_, D, T>,
     found: Option<Item>,
     segments: &[Name],
 ) -> ResolvePathResult
     requires { 1 < length segments.now }
-    ensures { let q = question_in (D.oracle asking.now.db.now) asking.now in
-        let own = map_with map.now (T.content table.now) in
+    ensures { let q = question_in D.oracle asking.now in
+        let own = map_in T.content asking.now in
         (all : PerNs) → all.types ≡ found → result ≡ answer_after q own all (drop 1 segments.now) }
 {
     match found {
-        Some(item) => walk(asking, map, table, PerNs::of_type(item), 1, segments),
+        Some(item) => walk(asking, PerNs::of_type(item), 1, segments),
         None => missing(false),
     }
 }
 
 /// An absolute path.
 fn absolute_path<D: PathDatabase, T: BindingTable<Vis = Visibility>>(
-    asking: &Asking<'_, D>,
-    map: &MapData,
-    table: &T,
+    asking: &Asking<'_, D, T>,
     place: ModuleId,
     path: &ModPath,
 ) -> ResolvePathResult
-    ensures { let q = question_in (D.oracle asking.now.db.now) asking.now in
-        let own = map_with map.now (T.content table.now) in
+    ensures { let q = question_in D.oracle asking.now in
+        let own = map_in T.content asking.now in
         let keep = is_fitting q.kind_of None in
         result ≡ answer_from q own keep (by_sources (absolute_sources q own)) path.now.segments }
 {
@@ -297,8 +292,6 @@ fn absolute_path<D: PathDatabase, T: BindingTable<Vis = Visibility>>(
         [name] => {
             let found = absolute(
                 asking,
-                map,
-                table,
                 Segment {
                     place,
                     name: *name,
@@ -307,26 +300,18 @@ fn absolute_path<D: PathDatabase, T: BindingTable<Vis = Visibility>>(
             );
             from_name(found)
         }
-        [name, ..] => from_prefix(
-            asking,
-            map,
-            table,
-            absolute_type(asking, map, table, *name),
-            segments,
-        ),
+        [name, ..] => from_prefix(asking, absolute_type(asking, *name), segments),
     }
 }
 
 /// A plain path.
 fn plain_path<D: PathDatabase, T: BindingTable<Vis = Visibility>>(
-    asking: &Asking<'_, D>,
-    map: &MapData,
-    table: &T,
+    asking: &Asking<'_, D, T>,
     place: ModuleId,
     path: &ModPath,
 ) -> ResolvePathResult
-    ensures { let q = question_in (D.oracle asking.now.db.now) asking.now in
-        let own = map_with map.now (T.content table.now) in
+    ensures { let q = question_in D.oracle asking.now in
+        let own = map_in T.content asking.now in
         let alone = stands_alone path.now.segments in
         let keep = is_fitting q.kind_of (if alone then asking.now.asked.sub else None) in
         result ≡ answer_from q own keep (by_sources (relative_sources q own place alone)) path.now.segments }
@@ -337,8 +322,6 @@ fn plain_path<D: PathDatabase, T: BindingTable<Vis = Visibility>>(
         [name] => {
             let found = relative(
                 asking,
-                map,
-                table,
                 Segment {
                     place,
                     name: *name,
@@ -347,69 +330,74 @@ fn plain_path<D: PathDatabase, T: BindingTable<Vis = Visibility>>(
             );
             from_name(found)
         }
-        [name, ..] => from_prefix(
-            asking,
-            map,
-            table,
-            relative_type(asking, map, table, place, *name),
-            segments,
-        ),
+        [name, ..] => from_prefix(asking, relative_type(asking, place, *name), segments),
     }
 }
 
 /// What a path means in the map that is asked.
 fn answer_in<D: PathDatabase, T: BindingTable<Vis = Visibility>>(
-    asking: &Asking<'_, D>,
-    map: &MapData,
-    table: &T,
+    asking: &Asking<'_, D, T>,
     place: ModuleId,
     path: &ModPath,
 ) -> ResolvePathResult
-    ensures { let q = question_in (D.oracle asking.now.db.now) asking.now in
-        let own = map_with map.now (T.content table.now) in
+    ensures { let q = question_in D.oracle asking.now in
+        let own = map_in T.content asking.now in
         result ≡ answer_in_map q place path.now own }
 {
     match path.kind {
         PathKind::Crate => {
-            let root = ModuleId::crate_root(map.tree.map.krate);
-            from_module(asking, map, table, Some(root), path)
+            let root = ModuleId::crate_root(asking.world.map.tree.map.krate);
+            from_module(asking, Some(root), path)
         }
         PathKind::DollarCrate(krate) => {
-            from_module(asking, map, table, Some(ModuleId::crate_root(krate)), path)
+            from_module(asking, Some(ModuleId::crate_root(krate)), path)
         }
         PathKind::Super(n) => {
-            let ancestor = map.tree.ancestor(place, n as usize);
-            from_module(asking, map, table, ancestor, path)
+            let ancestor = asking.world.map.tree.ancestor(place, n as usize);
+            from_module(asking, ancestor, path)
         }
-        PathKind::Abs => absolute_path(asking, map, table, place, path),
-        PathKind::Plain => plain_path(asking, map, table, place, path),
+        PathKind::Abs => absolute_path(asking, place, path),
+        PathKind::Plain => plain_path(asking, place, path),
     }
 }
 
 /// What a path means in the map of a module, asked from there, if that map is there.
-fn answer_outside<D: PathDatabase>(
-    asking: &Asking<'_, D>,
+fn answer_outside<D: PathDatabase, T>(
+    asking: &Asking<'_, D, T>,
     place: ModuleId,
     path: &ModPath,
 ) -> Option<ResolvePathResult>
-    ensures { let q = question_in (D.oracle asking.now.db.now) asking.now in
+    ensures { let q = question_in D.oracle asking.now in
         result ≡ answer_outside_of q path.now place }
 {
-    match asking.db.finished_map(place.map) {
-        Some((map, table)) => Some(answer_in(asking, map, table, place, path)),
+    match asking.world.db.finished_map(place.map) {
+        Some((map, table)) => {
+            let world = World {
+                map,
+                table,
+                local: asking.world.local,
+                db: asking.world.db,
+                session: asking.world.session,
+            };
+            let there = Asking {
+                world,
+                asked: asking.asked,
+            };
+            Some(answer_in(&there, place, path))
+        }
         None => None,
     }
 }
 
 /// An answer joined with that of one more map, if it is none of those before.
-fn with_map<D: PathDatabase>(
-    asking: &Asking<'_, D>,
+fn with_map<D: PathDatabase, T>(
+    asking: &Asking<'_, D, T>,
     path: &ModPath,
     answer: ResolvePathResult,
     before: &[ModuleId],
     place: ModuleId,
 ) -> ResolvePathResult
-    ensures { let q = question_in (D.oracle asking.now.db.now) asking.now in
+    ensures { let q = question_in D.oracle asking.now in
         (rest : _) → joined result (answers_outside q path.now (before.now ++ place ∷ []) rest)
         ≡ joined answer (answers_outside q path.now before.now (place ∷ rest)) }
 {
@@ -423,13 +411,13 @@ fn with_map<D: PathDatabase>(
 }
 
 /// What a path means, with what it means in the maps around a block.
-fn with_outside<D: PathDatabase>(
-    asking: &Asking<'_, D>,
+fn with_outside<D: PathDatabase, T>(
+    asking: &Asking<'_, D, T>,
     path: &ModPath,
     first: ResolvePathResult,
     containing: &[ModuleId],
 ) -> ResolvePathResult
-    ensures { let q = question_in (D.oracle asking.now.db.now) asking.now in
+    ensures { let q = question_in D.oracle asking.now in
         result ≡ joined first (answers_outside q path.now [] containing.now) }
 {
     let mut answer = first;
@@ -442,19 +430,22 @@ fn with_outside<D: PathDatabase>(
 
 /// What a path means: in the map that is asked, and from a block's root in those around it too.
 pub(crate) fn resolve<D: PathDatabase, T: BindingTable<Vis = Visibility>>(
-    asking: &Asking<'_, D>,
-    map: &MapData,
-    table: &T,
+    asking: &Asking<'_, D, T>,
     place: ModuleId,
     path: &ModPath,
 ) -> ResolvePathResult
-    ensures { let q = question_in (D.oracle asking.now.db.now) asking.now in
-        let own = map_with map.now (T.content table.now) in
+    ensures { let q = question_in D.oracle asking.now in
+        let own = map_in T.content asking.now in
         result ≡ answer_of q own place path.now }
 {
-    let answer = answer_in(asking, map, table, place, path);
+    let answer = answer_in(asking, place, path);
     if is_plain(path.kind) && place.is_block_root() {
-        with_outside(asking, path, answer, map.tree.containing.as_slice())
+        with_outside(
+            asking,
+            path,
+            answer,
+            asking.world.map.tree.containing.as_slice(),
+        )
     } else {
         answer
     }

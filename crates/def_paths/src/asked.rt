@@ -54,6 +54,29 @@ pub struct ResolvePathResult {
 
 impl Asked {
     ghost use Rattle.def_paths.specs.Items.{is_builtin_first};
+    ghost use Rattle.def_paths.specs.Modes.{for_import, for_module};
+
+    /// How an import's path is asked.
+    pub fn for_import() -> Asked
+        ensures { result ≡ for_import }
+    {
+        Asked {
+            mode: ResolveMode::Import,
+            shadow: BuiltinShadowMode::Module,
+            sub: None,
+        }
+    }
+
+    /// How a path is asked that is to lead to a module, as a visibility's.
+    pub fn for_module() -> Asked
+        ensures { result ≡ for_module }
+    {
+        Asked {
+            mode: ResolveMode::Other,
+            shadow: BuiltinShadowMode::Module,
+            sub: None,
+        }
+    }
 
     /// Whether a builtin type goes before a module, for a name that stands alone.
     pub(crate) fn is_builtin_first(self) -> bool

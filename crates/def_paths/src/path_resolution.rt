@@ -1,124 +1,60 @@
-//! What paths mean, asked in a map of which the data and the table are handed in.
+//! What paths mean in a world.
 ghost use Rattle.std.specs.Prelude.{◌≡◌};
-ghost use Rattle.def_ids.specs.Session.{session_of};
-ghost use Rattle.def_paths.specs.declared.asked.ResolveMode.TheVariants.{Other};
-ghost use Rattle.def_paths.specs.Asking.{map_with};
-ghost use Rattle.def_modules.specs.Locals.{local_view};
-ghost use Rattle.def_paths.specs.Modes.{asked_by};
+ghost use Rattle.def_paths.specs.Asking.{world_lent};
 ghost use Rattle.def_paths.specs.Paths.{resolve as meaning_of, resolve_visibility as visibility_of};
-ghost use Rattle.def_paths.specs.Paths.{module_reached as module_reached_by};
-ghost use Rattle.def_paths.specs.Sources.{world_of};
+ghost use Rattle.def_paths.specs.Paths.{for_module, module_found, module_reached as module_reached_by};
 
 use crate::answers::resolve;
-use crate::asked::{Asked, BuiltinShadowMode, ResolveMode, ResolvePathResult};
+use crate::asked::{Asked, ResolvePathResult};
 use crate::path_database::PathDatabase;
-use crate::per_ns::{MacroSubNs, PerNs};
-use crate::sources::Asking;
+use crate::per_ns::PerNs;
+use crate::world::{Asking, World};
 use def_bindings::{BindingTable, Visibility};
-use def_ids::{Def, Interner, ModuleId};
-use def_modules::{LocalDefMap, MapData};
+use def_ids::{Def, ModuleId};
 use item_tree::{ModPath, RawVisibility};
 
-/// What a path means, asked from a module of a map whose bindings stand in `table`. Of a
-/// name that stands alone, `shadow` says whether a builtin type goes before a module, and only
-/// the macros of `expected_macro_subns` count, if that is given.
+/// What a path means, asked from a module.
 pub fn resolve_path_fp_with_macro<D: PathDatabase, T: BindingTable<Vis = Visibility>>(
-    map: &MapData,
-    table: &T,
-    local_def_map: &LocalDefMap,
-    db: &D,
-    session: &Interner,
-    mode: ResolveMode,
+    world: &World<'_, D, T>,
+    asked: Asked,
     original_module: ModuleId,
     path: &ModPath,
-    shadow: BuiltinShadowMode,
-    expected_macro_subns: Option<MacroSubNs>,
 ) -> ResolvePathResult
-    ensures { let oracle = D.oracle db.now in
-        let m = map_with map.now (T.content table.now) in
-        let w = world_of oracle (session_of session.now) m (local_view local_def_map.now) in
-        result ≡ meaning_of w (asked_by mode shadow expected_macro_subns) original_module path.now }
+    ensures { result ≡ meaning_of (world_lent D.oracle T.content world.now) asked original_module path.now }
 {
     let asking = Asking {
-        db,
-        session,
-        local: local_def_map,
-        asked: Asked {
-            mode,
-            shadow,
-            sub: expected_macro_subns,
-        },
+        world: *world,
+        asked,
     };
-    resolve(&asking, map, table, original_module, path)
+    resolve(&asking, original_module, path)
 }
 
-/// What a path that is no import's means, and the first segment that is left where it ends at a
-/// definition without names.
-pub fn resolve_path<D: PathDatabase, T: BindingTable<Vis = Visibility>>(
-    map: &MapData,
-    table: &T,
-    local_def_map: &LocalDefMap,
-    db: &D,
-    session: &Interner,
+/// The module that a path gives, with no segment left.
+pub fn resolve_module<D: PathDatabase, T: BindingTable<Vis = Visibility>>(
+    world: &World<'_, D, T>,
     original_module: ModuleId,
     path: &ModPath,
-    shadow: BuiltinShadowMode,
-    expected_macro_subns: Option<MacroSubNs>,
-) -> (PerNs, Option<usize>)
-    ensures { let oracle = D.oracle db.now in
-        let m = map_with map.now (T.content table.now) in
-        let w = world_of oracle (session_of session.now) m (local_view local_def_map.now) in
-        let asked = asked_by Other shadow expected_macro_subns in
-        let answer = meaning_of w asked original_module path.now in
-        result ≡ (answer.resolved_def, answer.segment_index) }
+) -> Option<ModuleId>
+    ensures { result ≡ module_found (meaning_of (world_lent D.oracle T.content world.now) for_module original_module path.now) }
 {
-    let answer = resolve_path_fp_with_macro(
-        map,
-        table,
-        local_def_map,
-        db,
-        session,
-        ResolveMode::Other,
-        original_module,
-        path,
-        shadow,
-        expected_macro_subns,
-    );
-    (answer.resolved_def, answer.segment_index)
+    let answer = resolve_path_fp_with_macro(world, Asked::for_module(), original_module, path);
+    module_reached(answer.resolved_def, answer.segment_index)
 }
 
 /// What a visibility means that is written in a module. `None` where its path leads to no module.
 pub fn resolve_visibility<D: PathDatabase, T: BindingTable<Vis = Visibility>>(
-    map: &MapData,
-    table: &T,
-    local_def_map: &LocalDefMap,
-    db: &D,
-    session: &Interner,
+    world: &World<'_, D, T>,
     original_module: ModuleId,
     visibility: &RawVisibility,
 ) -> Option<Visibility>
-    ensures { let oracle = D.oracle db.now in
-        let m = map_with map.now (T.content table.now) in
-        let w = world_of oracle (session_of session.now) m (local_view local_def_map.now) in
-        result ≡ visibility_of w original_module visibility.now }
+    ensures { result ≡ visibility_of (world_lent D.oracle T.content world.now) original_module visibility.now }
 {
     match visibility {
         RawVisibility::Public => Some(Visibility::Public),
         RawVisibility::PubCrate => Some(Visibility::PubCrate),
         RawVisibility::PubSelf => Some(Visibility::Module(original_module)),
         RawVisibility::In(path) => {
-            let (found, left) = resolve_path(
-                map,
-                table,
-                local_def_map,
-                db,
-                session,
-                original_module,
-                path,
-                BuiltinShadowMode::Module,
-                None,
-            );
-            match module_reached(found, left) {
+            match resolve_module(world, original_module, path) {
                 Some(limit) => Some(Visibility::Module(limit)),
                 None => None,
             }

@@ -2,46 +2,42 @@
 //! is asked for these.
 ghost use Rattle.std.specs.Prelude.{◌≡◌, None, false};
 ghost use Rattle.def_bindings.specs.declared.bindings.Namespace.TheVariants.{Types};
-ghost use Rattle.def_paths.specs.Asking.{question_in, map_with};
+ghost use Rattle.def_paths.specs.Asking.{question_in, map_in};
 ghost use Rattle.def_paths.specs.Items.{is_fitting};
 ghost use Rattle.def_paths.specs.Sources.{first_found, prelude_source, outer_sources, plain_sources};
 ghost use Rattle.def_paths.specs.Sources.{root_sources, absolute_sources, relative_sources};
 
 use crate::path_database::PathDatabase;
 use crate::per_ns::Item;
-use crate::sources::{Asking, builtin_type, extern_type, is_2015, scope_type};
+use crate::sources::{builtin_type, extern_type, is_2015, scope_type};
+use crate::world::Asking;
 use def_bindings::{BindingTable, Visibility};
 use def_ids::ModuleId;
-use def_modules::MapData;
 use item_tree::Name;
 
 /// What the prelude module binds in types.
 fn prelude_type<D: PathDatabase, T: BindingTable<Vis = Visibility>>(
-    asking: &Asking<'_, D>,
-    map: &MapData,
-    table: &T,
+    asking: &Asking<'_, D, T>,
     name: Name,
 ) -> Option<Item>
-    ensures { let q = question_in (D.oracle asking.now.db.now) asking.now in
-        let own = map_with map.now (T.content table.now) in
+    ensures { let q = question_in D.oracle asking.now in
+        let own = map_in T.content asking.now in
         result ≡ prelude_source q own name Types }
 {
-    match map.prelude {
-        Some(prelude) => scope_type(asking, map, table, prelude, name),
+    match asking.world.map.prelude {
+        Some(prelude) => scope_type(asking, prelude, name),
         None => None,
     }
 }
 
 /// What there is in types outside the scopes. A block's root leaves that to the maps around it.
 fn outside_type<D: PathDatabase, T: BindingTable<Vis = Visibility>>(
-    asking: &Asking<'_, D>,
-    map: &MapData,
-    table: &T,
+    asking: &Asking<'_, D, T>,
     place: ModuleId,
     name: Name,
 ) -> Option<Item>
-    ensures { let q = question_in (D.oracle asking.now.db.now) asking.now in
-        let own = map_with map.now (T.content table.now) in
+    ensures { let q = question_in D.oracle asking.now in
+        let own = map_in T.content asking.now in
         let keep = is_fitting q.kind_of None in
         result ≡ first_found keep (outer_sources q own place) name Types }
 {
@@ -50,46 +46,42 @@ fn outside_type<D: PathDatabase, T: BindingTable<Vis = Visibility>>(
     }
     match extern_type(asking, name) {
         Some(item) => Some(item),
-        None => prelude_type(asking, map, table, name),
+        None => prelude_type(asking, name),
     }
 }
 
 /// The first segment of a plain path.
 fn plain_type<D: PathDatabase, T: BindingTable<Vis = Visibility>>(
-    asking: &Asking<'_, D>,
-    map: &MapData,
-    table: &T,
+    asking: &Asking<'_, D, T>,
     place: ModuleId,
     name: Name,
 ) -> Option<Item>
-    ensures { let q = question_in (D.oracle asking.now.db.now) asking.now in
-        let own = map_with map.now (T.content table.now) in
+    ensures { let q = question_in D.oracle asking.now in
+        let own = map_in T.content asking.now in
         let keep = is_fitting q.kind_of None in
         result ≡ first_found keep (plain_sources q own place false) name Types }
 {
-    if let Some(item) = scope_type(asking, map, table, place, name) {
+    if let Some(item) = scope_type(asking, place, name) {
         return Some(item);
     }
-    match builtin_type(asking, map, name) {
+    match builtin_type(asking, name) {
         Some(item) => Some(item),
-        None => outside_type(asking, map, table, place, name),
+        None => outside_type(asking, place, name),
     }
 }
 
 /// The first segment of a path that begins at the crate's root.
 fn root_type<D: PathDatabase, T: BindingTable<Vis = Visibility>>(
-    asking: &Asking<'_, D>,
-    map: &MapData,
-    table: &T,
+    asking: &Asking<'_, D, T>,
     name: Name,
 ) -> Option<Item>
-    ensures { let q = question_in (D.oracle asking.now.db.now) asking.now in
-        let own = map_with map.now (T.content table.now) in
+    ensures { let q = question_in D.oracle asking.now in
+        let own = map_in T.content asking.now in
         let keep = is_fitting q.kind_of None in
         result ≡ first_found keep (root_sources q own) name Types }
 {
-    let root = ModuleId::crate_root(map.tree.map.krate);
-    match scope_type(asking, map, table, root, name) {
+    let root = ModuleId::crate_root(asking.world.map.tree.map.krate);
+    match scope_type(asking, root, name) {
         Some(item) => Some(item),
         None => extern_type(asking, name),
     }
@@ -97,18 +89,16 @@ fn root_type<D: PathDatabase, T: BindingTable<Vis = Visibility>>(
 
 /// The first segment of an absolute path.
 pub(crate) fn absolute_type<D: PathDatabase, T: BindingTable<Vis = Visibility>>(
-    asking: &Asking<'_, D>,
-    map: &MapData,
-    table: &T,
+    asking: &Asking<'_, D, T>,
     name: Name,
 ) -> Option<Item>
-    ensures { let q = question_in (D.oracle asking.now.db.now) asking.now in
-        let own = map_with map.now (T.content table.now) in
+    ensures { let q = question_in D.oracle asking.now in
+        let own = map_in T.content asking.now in
         let keep = is_fitting q.kind_of None in
         result ≡ first_found keep (absolute_sources q own) name Types }
 {
-    if is_2015(map.edition) {
-        root_type(asking, map, table, name)
+    if is_2015(asking.world.map.edition) {
+        root_type(asking, name)
     } else {
         extern_type(asking, name)
     }
@@ -116,20 +106,18 @@ pub(crate) fn absolute_type<D: PathDatabase, T: BindingTable<Vis = Visibility>>(
 
 /// The first segment of a plain path, which an import of edition 2015 looks up from the root.
 pub(crate) fn relative_type<D: PathDatabase, T: BindingTable<Vis = Visibility>>(
-    asking: &Asking<'_, D>,
-    map: &MapData,
-    table: &T,
+    asking: &Asking<'_, D, T>,
     place: ModuleId,
     name: Name,
 ) -> Option<Item>
-    ensures { let q = question_in (D.oracle asking.now.db.now) asking.now in
-        let own = map_with map.now (T.content table.now) in
+    ensures { let q = question_in D.oracle asking.now in
+        let own = map_in T.content asking.now in
         let keep = is_fitting q.kind_of None in
         result ≡ first_found keep (relative_sources q own place false) name Types }
 {
-    if is_2015(map.edition) && asking.asked.mode.is_for_import() {
-        root_type(asking, map, table, name)
+    if is_2015(asking.world.map.edition) && asking.asked.mode.is_for_import() {
+        root_type(asking, name)
     } else {
-        plain_type(asking, map, table, place, name)
+        plain_type(asking, place, name)
     }
 }

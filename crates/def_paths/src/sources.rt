@@ -1,10 +1,9 @@
 //! Where names come from, and what a path of one segment means. A source is asked only for what
 //! those before it have not.
-ghost use Rattle.std.specs.Prelude.{◌≡◌, ◌++◌, None, is_some, option_and_then, option_map, true, if◌then◌else◌};
-ghost use Rattle.def_ids.specs.declared.ids.Def.TheVariants.{Builtin};
+ghost use Rattle.std.specs.Prelude.{◌≡◌, ◌++◌, option_and_then, true};
 ghost use Rattle.def_bindings.specs.declared.bindings.Namespace.TheVariants.{Types};
-ghost use Rattle.def_paths.specs.Items.{is_fitting, is_2015 as is_edition_2015, public_item as item_of};
-ghost use Rattle.def_paths.specs.Asking.{question_in, map_with};
+ghost use Rattle.def_paths.specs.Items.{is_fitting, is_2015 as is_edition_2015};
+ghost use Rattle.def_paths.specs.Asking.{question_in, map_in};
 ghost use Rattle.def_paths.specs.PerNs.{per_namespace, kept_in};
 ghost use Rattle.def_paths.specs.Sources.{map_of_id};
 ghost use Rattle.def_paths.specs.Sources.{found_in, with_source};
@@ -12,33 +11,12 @@ ghost use Rattle.def_paths.specs.Sources.{scope_source, textual_source, builtin_
 ghost use Rattle.def_paths.specs.Sources.{macro_use_source, prelude_source, scope_and_builtin, outer_sources};
 ghost use Rattle.def_paths.specs.Sources.{plain_sources, root_sources, absolute_sources, relative_sources};
 
-use crate::asked::Asked;
 use crate::path_database::PathDatabase;
 use crate::per_ns::{Item, MacroSubNs, PerNs, public_item};
+use crate::world::Asking;
 use def_bindings::{Binding, BindingTable, ImportOrExternCrate, Namespace, Visibility};
-use def_ids::{Def, Edition, Interner, MacroId, ModuleId};
-use def_modules::{LocalDefMap, MapData};
+use def_ids::{Def, Edition, MacroId, ModuleId};
 use item_tree::Name;
-
-/// What each step of a resolution reads beside the map: the answers, the session, and how the path
-/// is asked.
-pub(crate) struct Asking<'a, D> {
-    pub db: &'a D,
-    pub session: &'a Interner,
-    pub local: &'a LocalDefMap,
-    pub asked: Asked,
-}
-
-impl<'a, D> Drop for Asking<'a, D> {
-    fn drop(self) {
-        let Asking {
-            db: _,
-            session: _,
-            local: _,
-            asked: _,
-        } = self;
-    }
-}
 
 /// A name that is looked up: where, and which macros it may mean.
 #[derive(Clone, Copy)]
@@ -72,20 +50,18 @@ pub(crate) fn is_2015(edition: Edition) -> bool
 
 /// What a module's scope binds, also in another map. A map that there is not binds nothing.
 pub(crate) fn scope<D: PathDatabase, T: BindingTable<Vis = Visibility>>(
-    asking: &Asking<'_, D>,
-    map: &MapData,
-    table: &T,
+    asking: &Asking<'_, D, T>,
     place: ModuleId,
     name: Name,
 ) -> PerNs
-    ensures { let q = question_in (D.oracle asking.now.db.now) asking.now in
-        let own = map_with map.now (T.content table.now) in
+    ensures { let q = question_in D.oracle asking.now in
+        let own = map_in T.content asking.now in
         result ≡ per_namespace (scope_source q own place name) }
 {
-    if place.map == map.tree.map {
-        bound(table, place, name)
+    if place.map == asking.world.map.tree.map {
+        bound(asking.world.table, place, name)
     } else {
-        match asking.db.finished_map(place.map) {
+        match asking.world.db.finished_map(place.map) {
             Some((_, table)) => bound(table, place, name),
             None => PerNs::none(),
         }
@@ -94,49 +70,47 @@ pub(crate) fn scope<D: PathDatabase, T: BindingTable<Vis = Visibility>>(
 
 /// What a module's scope binds in types, also in another map.
 pub(crate) fn scope_type<D: PathDatabase, T: BindingTable<Vis = Visibility>>(
-    asking: &Asking<'_, D>,
-    map: &MapData,
-    table: &T,
+    asking: &Asking<'_, D, T>,
     place: ModuleId,
     name: Name,
 ) -> Option<Item>
-    ensures { let q = question_in (D.oracle asking.now.db.now) asking.now in
-        let own = map_with map.now (T.content table.now) in
+    ensures { let q = question_in D.oracle asking.now in
+        let own = map_in T.content asking.now in
         result ≡ scope_source q own place name Types }
 {
-    if place.map == map.tree.map {
-        return table.binding(place, name, Namespace::Types);
+    if place.map == asking.world.map.tree.map {
+        return asking.world.table.binding(place, name, Namespace::Types);
     }
-    match asking.db.finished_map(place.map) {
+    match asking.world.db.finished_map(place.map) {
         Some((_, table)) => table.binding(place, name, Namespace::Types),
         None => None,
     }
 }
 
 /// A builtin type. Blocks leave those to the maps around them.
-pub(crate) fn builtin_type<D: PathDatabase>(
-    asking: &Asking<'_, D>,
-    map: &MapData,
+pub(crate) fn builtin_type<D: PathDatabase, T: BindingTable<Vis = Visibility>>(
+    asking: &Asking<'_, D, T>,
     name: Name,
 ) -> Option<Item>
-    ensures { result ≡ (if is_some map.now.tree.map.block then None
-        else option_map (λ n. item_of (Builtin n)) ((D.oracle asking.now.db.now).builtin_type name)) }
+    ensures { let q = question_in D.oracle asking.now in
+        let own = map_in T.content asking.now in
+        result ≡ builtin_source q own name Types }
 {
-    if map.tree.map.block.is_some() {
+    if asking.world.map.tree.map.block.is_some() {
         return None;
     }
-    match asking.db.builtin_type(name) {
+    match asking.world.db.builtin_type(name) {
         Some(number) => Some(public_item(Def::Builtin(number))),
         None => None,
     }
 }
 
 /// The root of another crate.
-pub(crate) fn extern_type<D: PathDatabase>(asking: &Asking<'_, D>, name: Name) -> Option<Item>
-    ensures { let q = question_in (D.oracle asking.now.db.now) asking.now in
+pub(crate) fn extern_type<D: PathDatabase, T>(asking: &Asking<'_, D, T>, name: Name) -> Option<Item>
+    ensures { let q = question_in D.oracle asking.now in
         result ≡ extern_source q name Types }
 {
-    match asking.local.extern_entry(name) {
+    match asking.world.local.extern_entry(name) {
         Some(entry) => Some(Binding {
             def: Def::Module(entry.root),
             vis: Visibility::Public,
@@ -147,34 +121,37 @@ pub(crate) fn extern_type<D: PathDatabase>(asking: &Asking<'_, D>, name: Name) -
 }
 
 /// A module's last textual macro of a name, also in another map.
-fn textual_macro<D: PathDatabase>(
-    asking: &Asking<'_, D>,
-    map: &MapData,
+fn textual_macro<D: PathDatabase, T: BindingTable<Vis = Visibility>>(
+    asking: &Asking<'_, D, T>,
     place: ModuleId,
     name: Name,
 ) -> Option<MacroId>
-    ensures { let q = question_in (D.oracle asking.now.db.now) asking.now in
-        (content : _) → result ≡ option_and_then (λ there. there.facts.textual_macro place name)
-        (map_of_id q.oracle (map_with map.now content) place.map) }
+    ensures { let q = question_in D.oracle asking.now in
+        let own = map_in T.content asking.now in
+        result ≡ option_and_then (λ there. there.facts.textual_macro place name) (map_of_id q.oracle own place.map) }
 {
-    if place.map == map.tree.map {
-        return map.textual_macro(place, name);
+    if place.map == asking.world.map.tree.map {
+        return asking.world.map.textual_macro(place, name);
     }
-    match asking.db.finished_map(place.map) {
+    match asking.world.db.finished_map(place.map) {
         Some((data, _)) => data.textual_macro(place, name),
         None => None,
     }
 }
 
 /// The last textual macro of the name, if it fits.
-fn textual<D: PathDatabase>(asking: &Asking<'_, D>, map: &MapData, segment: Segment) -> PerNs
-    ensures { let q = question_in (D.oracle asking.now.db.now) asking.now in
+fn textual<D: PathDatabase, T: BindingTable<Vis = Visibility>>(
+    asking: &Asking<'_, D, T>,
+    segment: Segment,
+) -> PerNs
+    ensures { let q = question_in D.oracle asking.now in
+        let own = map_in T.content asking.now in
         let keep = is_fitting q.kind_of segment.sub in
-        (content : _) → result ≡ kept_in keep (per_namespace (textual_source q (map_with map.now content) segment.place segment.name)) }
+        result ≡ kept_in keep (per_namespace (textual_source q own segment.place segment.name)) }
 {
-    match textual_macro(asking, map, segment.place, segment.name) {
+    match textual_macro(asking, segment.place, segment.name) {
         Some(id) => PerNs::of_macro(public_item(Def::Macro(id))).fitting(
-            asking.session,
+            asking.world.session,
             segment.sub,
         ),
         None => PerNs::none(),
@@ -182,29 +159,29 @@ fn textual<D: PathDatabase>(asking: &Asking<'_, D>, map: &MapData, segment: Segm
 }
 
 /// Adds a builtin type. Blocks leave those to the maps around them.
-fn or_builtin<D: PathDatabase>(
-    asking: &Asking<'_, D>,
-    map: &MapData,
+fn or_builtin<D: PathDatabase, T: BindingTable<Vis = Visibility>>(
+    asking: &Asking<'_, D, T>,
     found: PerNs,
     segment: Segment,
 ) -> PerNs
-    ensures { let q = question_in (D.oracle asking.now.db.now) asking.now in
+    ensures { let q = question_in D.oracle asking.now in
+        let own = map_in T.content asking.now in
         let keep = is_fitting q.kind_of segment.sub in
-        (content : _) → result ≡ with_source keep found (builtin_source q (map_with map.now content)) segment.name }
+        result ≡ with_source keep found (builtin_source q own) segment.name }
 {
     if found.types.is_some() {
         return found;
     }
-    match builtin_type(asking, map, segment.name) {
+    match builtin_type(asking, segment.name) {
         // It is no macro, and fits.
-        Some(item) => found.or(PerNs::of_type(item).fitting(asking.session, segment.sub)),
+        Some(item) => found.or(PerNs::of_type(item).fitting(asking.world.session, segment.sub)),
         None => found,
     }
 }
 
 /// Adds the root of another crate.
-fn or_extern<D: PathDatabase>(asking: &Asking<'_, D>, found: PerNs, segment: Segment) -> PerNs
-    ensures { let q = question_in (D.oracle asking.now.db.now) asking.now in
+fn or_extern<D: PathDatabase, T>(asking: &Asking<'_, D, T>, found: PerNs, segment: Segment) -> PerNs
+    ensures { let q = question_in D.oracle asking.now in
         let keep = is_fitting q.kind_of segment.sub in
         result ≡ with_source keep found (extern_source q) segment.name }
 {
@@ -213,29 +190,29 @@ fn or_extern<D: PathDatabase>(asking: &Asking<'_, D>, found: PerNs, segment: Seg
     }
     match extern_type(asking, segment.name) {
         // It is no macro, and fits.
-        Some(item) => found.or(PerNs::of_type(item).fitting(asking.session, segment.sub)),
+        Some(item) => found.or(PerNs::of_type(item).fitting(asking.world.session, segment.sub)),
         None => found,
     }
 }
 
 /// Adds a macro that an extern crate brought.
-fn or_macro_use<D: PathDatabase>(
-    asking: &Asking<'_, D>,
-    map: &MapData,
+fn or_macro_use<D: PathDatabase, T: BindingTable<Vis = Visibility>>(
+    asking: &Asking<'_, D, T>,
     found: PerNs,
     segment: Segment,
 ) -> PerNs
-    ensures { let q = question_in (D.oracle asking.now.db.now) asking.now in
+    ensures { let q = question_in D.oracle asking.now in
+        let own = map_in T.content asking.now in
         let keep = is_fitting q.kind_of segment.sub in
-        (content : _) → result ≡ with_source keep found (macro_use_source (map_with map.now content)) segment.name }
+        result ≡ with_source keep found (macro_use_source own) segment.name }
 {
     if found.macros.is_some() {
         return found;
     }
-    match map.macro_use(segment.name) {
+    match asking.world.map.macro_use(segment.name) {
         Some(id) => {
             let brought = PerNs::of_macro(public_item(Def::Macro(id)));
-            found.or(brought.fitting(asking.session, segment.sub))
+            found.or(brought.fitting(asking.world.session, segment.sub))
         }
         None => found,
     }
@@ -243,24 +220,22 @@ fn or_macro_use<D: PathDatabase>(
 
 /// Adds what the prelude module binds.
 fn or_prelude<D: PathDatabase, T: BindingTable<Vis = Visibility>>(
-    asking: &Asking<'_, D>,
-    map: &MapData,
-    table: &T,
+    asking: &Asking<'_, D, T>,
     found: PerNs,
     segment: Segment,
 ) -> PerNs
-    ensures { let q = question_in (D.oracle asking.now.db.now) asking.now in
-        let own = map_with map.now (T.content table.now) in
+    ensures { let q = question_in D.oracle asking.now in
+        let own = map_in T.content asking.now in
         let keep = is_fitting q.kind_of segment.sub in
         result ≡ with_source keep found (prelude_source q own) segment.name }
 {
     if found.is_full() {
         return found;
     }
-    match map.prelude {
+    match asking.world.map.prelude {
         Some(prelude) => {
-            let bound = scope(asking, map, table, prelude, segment.name);
-            found.or(bound.fitting(asking.session, segment.sub))
+            let bound = scope(asking, prelude, segment.name);
+            found.or(bound.fitting(asking.world.session, segment.sub))
         }
         None => found,
     }
@@ -268,99 +243,92 @@ fn or_prelude<D: PathDatabase, T: BindingTable<Vis = Visibility>>(
 
 /// Adds what the scope and the builtin types have; a builtin type may go before a module.
 fn or_inside<D: PathDatabase, T: BindingTable<Vis = Visibility>>(
-    asking: &Asking<'_, D>,
-    map: &MapData,
-    table: &T,
+    asking: &Asking<'_, D, T>,
     found: PerNs,
     segment: Segment,
     is_builtin_first: bool,
 ) -> PerNs
-    ensures { let q = question_in (D.oracle asking.now.db.now) asking.now in
-        let own = map_with map.now (T.content table.now) in
+    ensures { let q = question_in D.oracle asking.now in
+        let own = map_in T.content asking.now in
         let keep = is_fitting q.kind_of segment.sub in
         (before : _) → found ≡ found_in keep before segment.name
         → result ≡ found_in keep (before ++ scope_and_builtin is_builtin_first q own segment.place) segment.name }
 {
-    let bound = scope(asking, map, table, segment.place, segment.name);
-    let fitting = bound.fitting(asking.session, segment.sub);
+    let bound = scope(asking, segment.place, segment.name);
+    let fitting = bound.fitting(asking.world.session, segment.sub);
     if is_builtin_first {
-        let no_module = bound.without_modules().fitting(asking.session, segment.sub);
-        or_builtin(asking, map, found.or(no_module), segment).or(fitting)
+        let no_module = bound
+            .without_modules()
+            .fitting(asking.world.session, segment.sub);
+        or_builtin(asking, found.or(no_module), segment).or(fitting)
     } else {
-        or_builtin(asking, map, found.or(fitting), segment)
+        or_builtin(asking, found.or(fitting), segment)
     }
 }
 
 /// Adds what there is outside the scopes. A block's root leaves most of it to the maps around it.
 fn or_outside<D: PathDatabase, T: BindingTable<Vis = Visibility>>(
-    asking: &Asking<'_, D>,
-    map: &MapData,
-    table: &T,
+    asking: &Asking<'_, D, T>,
     found: PerNs,
     segment: Segment,
 ) -> PerNs
-    ensures { let q = question_in (D.oracle asking.now.db.now) asking.now in
-        let own = map_with map.now (T.content table.now) in
+    ensures { let q = question_in D.oracle asking.now in
+        let own = map_in T.content asking.now in
         let keep = is_fitting q.kind_of segment.sub in
         (before : _) → found ≡ found_in keep before segment.name
         → result ≡ found_in keep (before ++ outer_sources q own segment.place) segment.name }
 {
     if segment.place.is_block_root() {
-        return or_macro_use(asking, map, found, segment);
+        return or_macro_use(asking, found, segment);
     }
-    let found = or_macro_use(asking, map, or_extern(asking, found, segment), segment);
-    or_prelude(asking, map, table, found, segment)
+    let found = or_macro_use(asking, or_extern(asking, found, segment), segment);
+    or_prelude(asking, found, segment)
 }
 
 /// A plain path of one segment.
 fn plain<D: PathDatabase, T: BindingTable<Vis = Visibility>>(
-    asking: &Asking<'_, D>,
-    map: &MapData,
-    table: &T,
+    asking: &Asking<'_, D, T>,
     segment: Segment,
 ) -> PerNs
-    ensures { let q = question_in (D.oracle asking.now.db.now) asking.now in
-        let own = map_with map.now (T.content table.now) in
+    ensures { let q = question_in D.oracle asking.now in
+        let own = map_in T.content asking.now in
         let keep = is_fitting q.kind_of segment.sub in
         result ≡ found_in keep (plain_sources q own segment.place true) segment.name }
 {
     let is_builtin_first = asking.asked.is_builtin_first();
-    let textual = textual(asking, map, segment);
-    let inside = or_inside(asking, map, table, textual, segment, is_builtin_first);
-    or_outside(asking, map, table, inside, segment)
+    let textual = textual(asking, segment);
+    let inside = or_inside(asking, textual, segment, is_builtin_first);
+    or_outside(asking, inside, segment)
 }
 
 /// A path of one segment that begins at the crate's root.
 fn from_root<D: PathDatabase, T: BindingTable<Vis = Visibility>>(
-    asking: &Asking<'_, D>,
-    map: &MapData,
-    table: &T,
+    asking: &Asking<'_, D, T>,
     segment: Segment,
 ) -> PerNs
-    ensures { let q = question_in (D.oracle asking.now.db.now) asking.now in
-        let own = map_with map.now (T.content table.now) in
+    ensures { let q = question_in D.oracle asking.now in
+        let own = map_in T.content asking.now in
         let keep = is_fitting q.kind_of segment.sub in
         result ≡ found_in keep (root_sources q own) segment.name }
 {
-    let root = ModuleId::crate_root(map.tree.map.krate);
-    let bound = scope(asking, map, table, root, segment.name);
-    or_extern(asking, bound.fitting(asking.session, segment.sub), segment)
+    let root = ModuleId::crate_root(asking.world.map.tree.map.krate);
+    let bound = scope(asking, root, segment.name);
+    let fitting = bound.fitting(asking.world.session, segment.sub);
+    or_extern(asking, fitting, segment)
 }
 
 /// An absolute path of one segment.
 pub(crate) fn absolute<D: PathDatabase, T: BindingTable<Vis = Visibility>>(
-    asking: &Asking<'_, D>,
-    map: &MapData,
-    table: &T,
+    asking: &Asking<'_, D, T>,
     segment: Segment,
 ) -> PerNs
-    ensures { let q = question_in (D.oracle asking.now.db.now) asking.now in
-        let own = map_with map.now (T.content table.now) in
+    ensures { let q = question_in D.oracle asking.now in
+        let own = map_in T.content asking.now in
         let keep = is_fitting q.kind_of segment.sub in
         result ≡ found_in keep (absolute_sources q own) segment.name }
 {
-    if is_2015(map.edition) {
-        from_root(asking, map, table, segment)
+    if is_2015(asking.world.map.edition) {
+        from_root(asking, segment)
     } else {
         or_extern(asking, PerNs::none(), segment)
     }
@@ -368,19 +336,17 @@ pub(crate) fn absolute<D: PathDatabase, T: BindingTable<Vis = Visibility>>(
 
 /// A plain path of one segment, which an import of edition 2015 looks up from the root.
 pub(crate) fn relative<D: PathDatabase, T: BindingTable<Vis = Visibility>>(
-    asking: &Asking<'_, D>,
-    map: &MapData,
-    table: &T,
+    asking: &Asking<'_, D, T>,
     segment: Segment,
 ) -> PerNs
-    ensures { let q = question_in (D.oracle asking.now.db.now) asking.now in
-        let own = map_with map.now (T.content table.now) in
+    ensures { let q = question_in D.oracle asking.now in
+        let own = map_in T.content asking.now in
         let keep = is_fitting q.kind_of segment.sub in
         result ≡ found_in keep (relative_sources q own segment.place true) segment.name }
 {
-    if is_2015(map.edition) && asking.asked.mode.is_for_import() {
-        from_root(asking, map, table, segment)
+    if is_2015(asking.world.map.edition) && asking.asked.mode.is_for_import() {
+        from_root(asking, segment)
     } else {
-        plain(asking, map, table, segment)
+        plain(asking, segment)
     }
 }

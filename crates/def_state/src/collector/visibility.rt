@@ -8,7 +8,7 @@ use super::DefCollector;
 use def_bindings::{VisOrder, Visibility};
 use def_ids::{Interner, ModuleId};
 use def_items::meant_or_public;
-use def_map::{SourceDatabase, resolve_visibility};
+use def_map::{SourceDatabase, World, resolve_visibility};
 use item_tree::{CtorVisibility, RawVisibility};
 
 impl DefCollector<'_> {
@@ -22,15 +22,14 @@ impl DefCollector<'_> {
     ) -> Visibility
         ensures { result ≡ written_vis (D.oracle db.now) (state_of self.now session.now) module_id visibility.now }
     {
-        meant_or_public(resolve_visibility(
-            &self.def_map,
-            self.table.table(),
-            self.local(),
+        let world = World {
+            map: &self.def_map,
+            table: self.table.table(),
+            local: self.local(),
             db,
             session,
-            module_id,
-            visibility,
-        ))
+        };
+        meant_or_public(resolve_visibility(&world, module_id, visibility))
     }
 
     /// The visibility of a struct's constructor, if it has one.

@@ -1,7 +1,7 @@
-use Rattle.std.proofs.Common.{ap, ◌∙◌}
+use Rattle.std.proofs.Common.{ap, refl, ◌∙◌}
 use Rattle.def_modules.specs.Locals.{local_view}
 use Rattle.def_modules.specs.Maps.{facts_of}
-use Rattle.def_map.specs.Paths.{for_module, resolve}
+use Rattle.def_map.specs.Paths.{for_module, module_found, resolve}
 use Rattle.def_modules.specs.Tables.{bound_by}
 use Rattle.def_state.specs.Collector.{state_of}
 use Rattle.def_rules.specs.State.{root, world}
@@ -13,7 +13,9 @@ returns g c =
     let oracle = g.D.SourceDatabase.oracle c.args.db.now in
     let s = state_of c.args.collector.now c.args.session.now in
     let local = local_view c.local-local.result.now in
-    prelude_found oracle s local c.in_ok-path.path c.resolve_path-left.result c.module_reached.result c.if-collector.false c.module_reached.ensures
-    (c.resolve_path-left.ensures
-    ∙ ap (λ table. let found = resolve (record (world oracle s) { map = record { facts = facts_of c.args.collector.now.def_map; content = bound_by table }; local = local }) for_module (root s.map) c.in_ok-path.path in (found.resolved_def, found.segment_index)) c.table.ensures)
-    c.local-local.ensures c.in_ok-path.ensures
+    let path = c.in_ok-path.path in
+    let found = resolve (record (world oracle s) { local = local }) for_module (root s.map) path in
+    prelude_found oracle s local path (found.resolved_def, found.segment_index) c.resolve_module.result c.if-collector.false
+    (c.resolve_module.ensures
+    ∙ ap (λ table. module_found (resolve (record (world oracle s) { map = record { facts = facts_of c.args.collector.now.def_map; content = bound_by table }; local = local }) for_module (root s.map) path)) c.table.ensures)
+    refl c.local-local.ensures c.in_ok-path.ensures

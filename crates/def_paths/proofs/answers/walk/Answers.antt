@@ -3,23 +3,23 @@ use Rattle.std.proofs.Common.{add-one, ap, arith, drop, drop-cons, false, get_or
 use Rattle.std.proofs.lemmas.Bool.{eq-eqb, false≢true}
 use Rattle.item_tree.specs.declared.name.Name.{Name}
 use Rattle.def_paths.specs.Answers.{is_elsewhere, walk}
-use Rattle.def_paths.specs.Asking.{question_in, map_with}
+use Rattle.def_paths.specs.Asking.{question_in, map_in}
 use Rattle.def_paths.proofs.AnswersLemmas.{walk-missing, walk-step}
 use Rattle.def_paths.proofs.answers.walk.Goals as goal
 use Rattle.def_paths.proofs.answers.walk.Goals.{then-crossed, else-crossed}
 
 pub returns-in-None : goal.returns-in-None
 returns-in-None g c =
-    let q = question_in (g.D.PathDatabase.oracle c.args.asking.now.db.now) c.args.asking.now in
-    let own = map_with c.args.map.now (g.T.BindingTable.content c.args.table.now) in
+    let q = question_in g.D.PathDatabase.oracle c.args.asking.now in
+    let own = map_in g.T.BindingTable.content c.args.asking.now in
     let rest = drop c.segments.i c.args.segments.now in
     let some : 0 < length rest = simp length-drop (omega arith) in
     walk-missing q own c.segments.crossed c.segments.found c.segments.i rest c.missing.result _ c.missing.ensures c.in-None.is some c.segments.invariant
 
 pub segments-preserved : goal.segments-preserved
 segments-preserved g c =
-    let q = question_in (g.D.PathDatabase.oracle c.args.asking.now.db.now) c.args.asking.now in
-    let own = map_with c.args.map.now (g.T.BindingTable.content c.args.table.now) in
+    let q = question_in g.D.PathDatabase.oracle c.args.asking.now in
+    let own = map_in g.T.BindingTable.content c.args.asking.now in
     let rest = drop (c.segments.i + 1) c.args.segments.now in
     let more : nat_eq (c.segments.i + 1) (length c.args.segments.now) ≡ false → 0 < length rest = λ f.
     let apart : c.segments.i + 1 ≢ length c.args.segments.now = λ e. false≢true (sym f ∙ eq-eqb (c.segments.i + 1) (length c.args.segments.now) e) in
@@ -27,7 +27,7 @@ segments-preserved g c =
     let far = is_elsewhere own c.in-Some.item.def in
     let either : c.if-crossed.crossed ≡ (c.segments.crossed || far) = elim c.if-crossed.branch [
       | then-crossed w ↦ w.crossed-is ∙ w.if-crossed.true ∙ ap (λ b. b || far) (sym w.if-crossed.true)
-      | else-crossed w ↦ w.crossed-is ∙ w.is_elsewhere-crossed.ensures (g.T.BindingTable.content c.args.table.now) ∙ ap (λ b. b || far) (sym w.if-crossed.false)
+      | else-crossed w ↦ w.crossed-is ∙ w.is_elsewhere-crossed.ensures (g.T.BindingTable.content c.args.asking.now.world.table.now) ∙ ap (λ b. b || far) (sym w.if-crossed.false)
     ] in
     let d : Name = record { 0 = 0 } in
     let next = walk-step q own c.segments.crossed c.segments.found c.in-Some-step.next c.segments.i (drop c.segments.i c.args.segments.now) rest (get_or c.args.segments.now c.segments.i d) c.in-Some.item c.step.result (nat_eq (c.segments.i + 1) (length c.args.segments.now)) _

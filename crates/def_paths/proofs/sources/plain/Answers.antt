@@ -1,5 +1,5 @@
 use Rattle.std.proofs.Common.{refl, [], ◌∷◌}
-use Rattle.def_paths.specs.Asking.{question_in, map_with}
+use Rattle.def_paths.specs.Asking.{question_in, map_in}
 use Rattle.def_paths.specs.Items.{is_fitting}
 use Rattle.def_paths.specs.PerNs.{nothing}
 use Rattle.def_paths.specs.Sources.{textual_source, scope_and_builtin}
@@ -8,11 +8,11 @@ use Rattle.def_paths.proofs.sources.plain.Goals as goal
 
 pub returns : goal.returns
 returns g c =
-    let q = question_in (g.D.PathDatabase.oracle c.args.asking.now.db.now) c.args.asking.now in
-    let own = map_with c.args.map.now (g.T.BindingTable.content c.args.table.now) in
+    let q = question_in g.D.PathDatabase.oracle c.args.asking.now in
+    let own = map_in g.T.BindingTable.content c.args.asking.now in
     let keep = is_fitting q.kind_of c.args.segment.sub in
     let textual = textual_source q own c.args.segment.place in
-    let first = with_source-last keep [] textual c.args.segment.name nothing c.textual-textual.result (c.textual-textual.ensures (g.T.BindingTable.content c.args.table.now)) refl in
+    let first = with_source-last keep [] textual c.args.segment.name nothing c.textual-textual.result c.textual-textual.ensures refl in
     let inside = c.or_inside-inside.ensures (textual ∷ []) first in
     rw (← c.is_builtin_first-is_builtin_first.ensures)
     (c.or_outside.ensures (textual ∷ scope_and_builtin c.is_builtin_first-is_builtin_first.result q own c.args.segment.place) inside)
