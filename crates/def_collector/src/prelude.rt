@@ -31,12 +31,12 @@ fn prelude_module<D: SourceDatabase>(
 ) -> Result<Option<ModuleId>, AllocError>
     ensures { IfOk result (λ found. found ≡ crates.prelude_module (D.oracle db.now) (state_of collector.now session.now)) }
 {
-    if collector.def_map.no_core {
+    if collector.def_map.krate.no_core {
         return Ok(None);
     }
     let local = collector.local();
-    let edition = collector.def_map.edition;
-    let path = prelude_path(collector.alloc, edition, collector.def_map.no_std, local)?;
+    let krate = &collector.def_map.krate;
+    let path = prelude_path(collector.alloc, krate.edition, krate.no_std, local)?;
     let root = ModuleId {
         map: collector.def_map.tree.map,
         index: 0,

@@ -80,7 +80,8 @@ fn read_root<'a, D: SourceDatabase>(
         state_of collector.new session ≡ with_head s (with_deps (D.oracle db.now) s (with_attrs attrs.now (head_of s)))) }
 {
     collector.is_proc_macro = is_proc_macro_with(collector.is_proc_macro, attrs);
+    let id = collector.def_map.tree.map.krate;
     let local = &mut collector.local_def_map;
-    read_root_file(&mut collector.def_map, local, db, attrs)?;
+    read_root_file(&mut collector.def_map.krate, local, db, id, attrs)?;
     Ok(())
 }

@@ -3,10 +3,10 @@ ghost use Rattle.std.specs.Prelude.{◌≡◌, ◌||◌, [], option_and_then, op
 ghost use Rattle.std.specs.List.{list_any};
 ghost use Rattle.item_tree.specs.Attrs.{attrs_in, text_of, tokens_of};
 ghost use Rattle.item_tree.specs.Lists.{only_of_list};
-ghost use Rattle.def_modules.specs.Maps.{map_state};
+ghost use Rattle.def_modules.specs.Maps.{crate_state};
 ghost use Rattle.def_rules.specs.Crates as crates;
 
-use def_map::MapData;
+use def_map::DefMapCrateData;
 use item_tree::{Attr, ItemTree, ModPath, Name, SyntaxContext, TopSubtree, sym};
 use std::alloc::AllocError;
 
@@ -40,55 +40,52 @@ fn says_proc_macro(attr: &Attr) -> bool
 }
 
 /// Sets what these attributes say of the crate, one after the other.
-pub(crate) fn set_attrs(def_map: &mut MapData, attrs: &[Attr]) -> Result<(), AllocError>
-    ensures { OnOk result (let m = map_state def_map.old in
-        map_state def_map.new ≡ record m { krate = crates.after_attrs attrs.now m.krate }) }
+pub(crate) fn set_attrs(krate: &mut DefMapCrateData, attrs: &[Attr]) -> Result<(), AllocError>
+    ensures { OnOk result (crate_state krate.new ≡ crates.after_attrs attrs.now (crate_state krate.old)) }
 {
     'attrs: for attr in attrs {
-        set_attr(def_map, attr)?;
+        set_attr(krate, attr)?;
     }
     Ok(())
 }
 
 /// Sets what an attribute of the root file says of the crate.
-fn set_attr(def_map: &mut MapData, attr: &Attr) -> Result<(), AllocError>
-    ensures { OnOk result (let m = map_state def_map.old in
-        map_state def_map.new ≡ record m { krate = crates.after_attr attr.now m.krate }) }
+fn set_attr(krate: &mut DefMapCrateData, attr: &Attr) -> Result<(), AllocError>
+    ensures { OnOk result (crate_state krate.new ≡ crates.after_attr attr.now (crate_state krate.old)) }
 {
     if attr.has_key(sym::RECURSION_LIMIT) {
-        set_limit(def_map, stated_limit(attr));
+        set_limit(krate, stated_limit(attr));
         return Ok(());
     }
     if attr.has_key(sym::NO_CORE) {
-        def_map.no_core = true;
+        krate.no_core = true;
         return Ok(());
     }
     if attr.has_key(sym::NO_STD) {
-        def_map.no_std = true;
+        krate.no_std = true;
         return Ok(());
     }
     if attr.has_key(sym::RUSTC_COHERENCE_IS_CORE) {
-        def_map.rustc_coherence_is_core = true;
+        krate.rustc_coherence_is_core = true;
         return Ok(());
     }
     if attr.has_key(sym::FEATURE) {
-        enable_features(def_map, listed_paths(attr))?;
+        enable_features(krate, listed_paths(attr))?;
         return Ok(());
     }
     if attr.has_key(sym::REGISTER_TOOL) {
-        register_tool(def_map, stated_tool(attr))?;
+        register_tool(krate, stated_tool(attr))?;
         return Ok(());
     }
     Ok(())
 }
 
 /// Sets how deep expansions may nest, where a limit is stated.
-fn set_limit(def_map: &mut MapData, limit: Option<u32>)
-    ensures { let m = map_state def_map.old in
-        map_state def_map.new ≡ record m { krate = crates.with_limit limit m.krate } }
+fn set_limit(krate: &mut DefMapCrateData, limit: Option<u32>)
+    ensures { crate_state krate.new ≡ crates.with_limit limit (crate_state krate.old) }
 {
     if let Some(limit) = limit {
-        def_map.recursion_limit = Some(limit);
+        krate.recursion_limit = Some(limit);
     }
 }
 
@@ -124,27 +121,25 @@ fn listed_paths(attr: &Attr) -> &[(ModPath, SyntaxContext)]
 
 /// Enables each feature that is listed as a path of one segment.
 fn enable_features(
-    def_map: &mut MapData,
+    krate: &mut DefMapCrateData,
     listed: &[(ModPath, SyntaxContext)],
 ) -> Result<(), AllocError>
-    ensures { OnOk result (let m = map_state def_map.old in
-        map_state def_map.new ≡ record m { krate = crates.with_features listed.now m.krate }) }
+    ensures { OnOk result (crate_state krate.new ≡ crates.with_features listed.now (crate_state krate.old)) }
 {
     'listed: for entry in listed {
-        enable_feature(def_map, &entry.0)?;
+        enable_feature(krate, &entry.0)?;
     }
     Ok(())
 }
 
 /// Enables the feature that a path of one segment names.
-fn enable_feature(def_map: &mut MapData, path: &ModPath) -> Result<(), AllocError>
-    ensures { OnOk result (let m = map_state def_map.old in
-        map_state def_map.new
-        ≡ record m { krate = record m.krate { features = crates.with_named (only_of_list path.now.segments) m.krate.features } }) }
+fn enable_feature(krate: &mut DefMapCrateData, path: &ModPath) -> Result<(), AllocError>
+    ensures { OnOk result (let k = crate_state krate.old in
+        crate_state krate.new ≡ record k { features = crates.with_named (only_of_list path.now.segments) k.features }) }
 {
     match path.segments.as_slice() {
         [name] => {
-            def_map.enable_feature(*name)?;
+            krate.enable_feature(*name)?;
             Ok(())
         }
         _ => Ok(()),
@@ -152,12 +147,11 @@ fn enable_feature(def_map: &mut MapData, path: &ModPath) -> Result<(), AllocErro
 }
 
 /// Registers a tool, if there is one.
-fn register_tool(def_map: &mut MapData, tool: Option<Name>) -> Result<(), AllocError>
-    ensures { OnOk result (let m = map_state def_map.old in
-        map_state def_map.new ≡ record m { krate = crates.with_tool tool m.krate }) }
+fn register_tool(krate: &mut DefMapCrateData, tool: Option<Name>) -> Result<(), AllocError>
+    ensures { OnOk result (crate_state krate.new ≡ crates.with_tool tool (crate_state krate.old)) }
 {
     if let Some(tool) = tool {
-        def_map.register_tool(tool)?;
+        krate.register_tool(tool)?;
     }
     Ok(())
 }

@@ -6,7 +6,9 @@ ghost use Rattle.def_rules.specs.Crates as crates;
 ghost use Rattle.def_crates.specs.Places.{with_last, with_lasts};
 
 use def_ids::ModuleId;
-use def_map::{Dependency, ExternPreludeEntry, LangCrate, LocalDefMap, MapData, SourceDatabase};
+use def_map::{
+    DefMapCrateData, Dependency, ExternPreludeEntry, LangCrate, LocalDefMap, SourceDatabase,
+};
 use item_tree::Crate;
 use std::alloc::{AllocError, Global};
 
@@ -53,30 +55,30 @@ fn name_all(known: &mut LocalDefMap, deps: &[Dependency]) -> Result<(), AllocErr
 #[tactic(auto, using(crate::proofs::PlacesLemmas::last_decides))]
 pub(crate) fn add_all<D: SourceDatabase>(
     db: &D,
-    def_map: &MapData,
+    krate: &DefMapCrateData,
     local: &mut LocalDefMap,
     deps: &[Dependency],
 ) -> Result<(), AllocError>
     ensures { OnOk result (local_view local.new
-        ≡ crates.after_deps (D.oracle db.now) (crate_state def_map.now) deps.now (local_view local.old)) }
+        ≡ crates.after_deps (D.oracle db.now) (crate_state krate.now) deps.now (local_view local.old)) }
 {
     let mut last = LocalDefMap::new(*local.extern_prelude.allocator());
-    add_each(db, def_map, &mut last, deps)?;
+    add_each(db, krate, &mut last, deps)?;
     place_all(local, &last, deps)
 }
 
 /// Names these dependencies, one after the other.
 fn add_each<D: SourceDatabase>(
     db: &D,
-    def_map: &MapData,
+    krate: &DefMapCrateData,
     local: &mut LocalDefMap,
     deps: &[Dependency],
 ) -> Result<(), AllocError>
     ensures { OnOk result (local_view local.new
-        ≡ crates.after_deps (D.oracle db.now) (crate_state def_map.now) deps.now (local_view local.old)) }
+        ≡ crates.after_deps (D.oracle db.now) (crate_state krate.now) deps.now (local_view local.old)) }
 {
     'deps: for dep in deps {
-        add_dependency(db, def_map, local, *dep)?;
+        add_dependency(db, krate, local, *dep)?;
     }
     Ok(())
 }
@@ -113,14 +115,14 @@ fn place(local: &mut LocalDefMap, last: &LocalDefMap, dep: Dependency) -> Result
 /// Names a dependency, in the place of an earlier one of its name.
 fn add_dependency<D: SourceDatabase>(
     db: &D,
-    def_map: &MapData,
+    krate: &DefMapCrateData,
     local: &mut LocalDefMap,
     dep: Dependency,
 ) -> Result<(), AllocError>
     ensures { OnOk result (local_view local.new
-        ≡ crates.after_dep (D.oracle db.now) (crate_state def_map.now) dep (local_view local.old)) }
+        ≡ crates.after_dep (D.oracle db.now) (crate_state krate.now) dep (local_view local.old)) }
 {
-    if !is_named(db, def_map, dep) {
+    if !is_named(db, krate, dep) {
         let _ = local.extern_prelude.swap_remove(&dep.name);
         return Ok(());
     }
@@ -135,10 +137,10 @@ fn add_dependency<D: SourceDatabase>(
 
 /// Whether paths may begin with a dependency. The graph of crates has those that come with the
 /// compiler in any case, so `no_core` and `no_std` leave them out here.
-fn is_named<D: SourceDatabase>(db: &D, def_map: &MapData, dep: Dependency) -> bool
-    ensures { result ≡ crates.is_named (D.oracle db.now) (crate_state def_map.now) dep }
+fn is_named<D: SourceDatabase>(db: &D, krate: &DefMapCrateData, dep: Dependency) -> bool
+    ensures { result ≡ crates.is_named (D.oracle db.now) (crate_state krate.now) dep }
 {
-    dep.prelude && !(dep.sysroot && is_left_out(def_map, lang_of(db, dep.krate)))
+    dep.prelude && !(dep.sysroot && is_left_out(krate, lang_of(db, dep.krate)))
 }
 
 /// Which crate of the language a crate is, if it is one.
@@ -152,12 +154,12 @@ fn lang_of<D: SourceDatabase>(db: &D, krate: Crate) -> Option<LangCrate>
 }
 
 /// Whether a crate does without a crate of the language.
-fn is_left_out(def_map: &MapData, lang: Option<LangCrate>) -> bool
-    ensures { result ≡ crates.is_left_out (crate_state def_map.now) lang }
+fn is_left_out(krate: &DefMapCrateData, lang: Option<LangCrate>) -> bool
+    ensures { result ≡ crates.is_left_out (crate_state krate.now) lang }
 {
     match lang {
-        Some(LangCrate::Core) => def_map.no_core,
-        Some(LangCrate::Std) => def_map.no_core || def_map.no_std,
+        Some(LangCrate::Core) => krate.no_core,
+        Some(LangCrate::Std) => krate.no_core || krate.no_std,
         None => false,
     }
 }

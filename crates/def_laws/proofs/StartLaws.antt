@@ -128,10 +128,10 @@ crate_seeded oracle attrs s t u read found = found ∙ ap (λ x. with_head x (wi
 pub prelude_found : (oracle : Oracle) (s : State) (local : LocalView) (path : ModPath) (found : PerNs × Option ℕ) (reached : Option ModuleId) → s.map.krate.no_core ≡ false
     → reached ≡ module_reached found.0 found.1
     → found ≡ ((resolve (record (world oracle s) { local = local }) for_module (root s.map) path).resolved_def, (resolve (record (world oracle s) { local = local }) for_module (root s.map) path).segment_index)
-    → local ≡ unwrap_or s.outer s.local → path ≡ prelude_path s.map.edition s.map.krate.no_std local → reached ≡ prelude_module oracle s
+    → local ≡ unwrap_or s.outer s.local → path ≡ prelude_path s.map.krate.edition s.map.krate.no_std local → reached ≡ prelude_module oracle s
 prelude_found oracle s local path found reached core is answered known written =
     is
     ∙ ap (λ (f : PerNs × Option ℕ). module_reached f.0 f.1) answered
     ∙ ap (λ p. module_found (resolve (record (world oracle s) { local = local }) for_module (root s.map) p)) written
-    ∙ ap (λ l. module_found (resolve (record (world oracle s) { local = l }) for_module (root s.map) (prelude_path s.map.edition s.map.krate.no_std l))) known
-    ∙ sym (ap (λ b. cond b None (module_found (resolve (world oracle s) for_module (root s.map) (prelude_path s.map.edition s.map.krate.no_std (unwrap_or s.outer s.local))))) core)
+    ∙ ap (λ l. module_found (resolve (record (world oracle s) { local = l }) for_module (root s.map) (prelude_path s.map.krate.edition s.map.krate.no_std l))) known
+    ∙ sym (ap (λ b. cond b None (module_found (resolve (world oracle s) for_module (root s.map) (prelude_path s.map.krate.edition s.map.krate.no_std (unwrap_or s.outer s.local))))) core)

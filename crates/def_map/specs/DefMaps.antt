@@ -37,5 +37,5 @@ seeded_id krate (Some info) = block_id info.data
 
 -- the map that is seeded: a crate's, or a block's
 abbrev pub seeded : Crate → Edition → Option BlockInfo → MapState
-seeded krate edition None = fresh_state (crate_map_id krate) edition [] fresh_crate
+seeded krate edition None = fresh_state (crate_map_id krate) [] (fresh_crate edition)
 seeded krate edition (Some info) = info_state edition info

@@ -30,7 +30,7 @@ impl BlockInfo {
         ensures { IfOk result (λ made. MatchOption made
             (are_apart (block_map_id (state_of crate_map.now) block) containing.items ≡ false)
             (λ info. (edition : Edition) → info_state edition info
-            ≡ fresh_state (block_map_id (state_of crate_map.now) block) edition containing.items (block_crate (state_of crate_map.now).krate))) }
+            ≡ fresh_state (block_map_id (state_of crate_map.now) block) containing.items (block_crate edition (state_of crate_map.now).krate))) }
     {
         match BlockData::new(alloc, block, containing, &crate_map.data)? {
             Some(data) => Ok(Some(BlockInfo { data })),

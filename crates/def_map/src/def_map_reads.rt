@@ -97,47 +97,47 @@ impl DefMap {
     pub fn is_no_core(&self) -> bool
         ensures { result ≡ (state_of self.now).krate.no_core }
     {
-        self.data.no_core
+        self.data.krate.no_core
     }
 
     /// Whether the crate does without `std`.
     pub fn is_no_std(&self) -> bool
         ensures { result ≡ (state_of self.now).krate.no_std }
     {
-        self.data.no_std
+        self.data.krate.no_std
     }
 
     /// Whether the crate counts as `core` where coherence is checked.
     pub fn is_rustc_coherence_is_core(&self) -> bool
         ensures { result ≡ (state_of self.now).krate.coherence_is_core }
     {
-        self.data.rustc_coherence_is_core
+        self.data.krate.rustc_coherence_is_core
     }
 
     /// The tools whose attributes are known.
     pub fn registered_tools(&self) -> &[Name]
         ensures { result.now ≡ (state_of self.now).krate.tools }
     {
-        self.data.registered_tools.as_slice()
+        self.data.krate.registered_tools.as_slice()
     }
 
     /// The features that the crate enables.
     pub fn features(&self) -> &UnstableFeatures
         ensures { features_of result.now ≡ (state_of self.now).krate.features }
     {
-        &self.data.features
+        &self.data.krate.unstable_features
     }
 
     /// The module whose names are seen everywhere in the crate.
     pub fn prelude(&self) -> Option<ModuleId>
-        ensures { result ≡ (state_of self.now).krate.prelude }
+        ensures { result ≡ (state_of self.now).prelude }
     {
         self.data.prelude
     }
 
     /// The macros that extern crates brought, by name.
     pub fn macro_use_prelude(&self) -> &IndexMap<Name, MacroId>
-        ensures { get is_name result.now ≡ (state_of self.now).krate.macro_use }
+        ensures { get is_name result.now ≡ (state_of self.now).macro_use }
     {
         &self.data.macro_use_prelude
     }
@@ -146,7 +146,7 @@ impl DefMap {
     pub fn exported_derives(&self) -> &IndexMap<MacroId, Seq<Name>>
         ensures { exported_of result.now ≡ (state_of self.now).krate.exported_helpers }
     {
-        &self.data.exported_derives
+        &self.data.krate.exported_derives
     }
 
     /// The helper attributes that are read at a position.
@@ -163,19 +163,23 @@ impl DefMap {
     pub fn fn_as_proc_macro(&self, function: FunctionId) -> Option<ProcMacroId>
         ensures { result ≡ (state_of self.now).krate.macro_of_function function }
     {
-        self.data.fn_as_proc_macro.get(&function).copied()
+        self.data
+            .krate
+            .fn_proc_macro_mapping
+            .get(&function)
+            .copied()
     }
 
     /// The function that a procedural macro is.
     pub fn proc_macro_as_fn(&self, id: ProcMacroId) -> Option<FunctionId>
         ensures { result ≡ (state_of self.now).krate.function_of_macro id }
     {
-        self.data.proc_macro_as_fn.get(&id).copied()
+        self.data.krate.fn_proc_macro_mapping_back.get(&id).copied()
     }
 
     /// The macro that is defined at a position.
     pub fn macro_by_position(&self, position: Position) -> Option<MacroId>
-        ensures { result ≡ (state_of self.now).krate.macro_at position }
+        ensures { result ≡ (state_of self.now).macro_at position }
     {
         self.data.macro_by_position.get(&position).copied()
     }

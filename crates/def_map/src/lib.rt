@@ -12,8 +12,9 @@ mod source_database;
 pub use block::BlockInfo;
 pub use def_map::DefMap;
 pub use def_modules::{
-    DeriveCall, DeriveHelper, DeriveKey, DeriveMacroInvocation, ExternPreludeEntry, Invocation,
-    LocalDefMap, MapData, ModuleData, ModuleOrigin, Position, ScopeData, UnstableFeatures,
+    DefMapCrateData, DeriveCall, DeriveHelper, DeriveKey, DeriveMacroInvocation,
+    ExternPreludeEntry, Invocation, LocalDefMap, MapData, ModuleData, ModuleOrigin, Position,
+    ScopeData, UnstableFeatures,
 };
 pub use item_scope::{ItemScope, Resolutions, UnnamedTraits};
 pub use macro_resolver::MacroResolver;

@@ -10,7 +10,7 @@ use Rattle.def_bindings.specs.declared.visibility.Visibility.TheVariants.{Public
 use Rattle.def_modules.specs.declared.local_def_map.ExternPreludeEntry.{ExternPreludeEntry}
 use Rattle.def_modules.specs.declared.module_data.ModuleOrigin.TheVariants.{CrateRoot}
 use Rattle.def_modules.specs.Locals.{with_extern}
-use Rattle.def_modules.specs.MapState.{DeriveCall, DeriveState, MapState, ModuleState, Position, ShownHelper}
+use Rattle.def_modules.specs.MapState.{CrateState, DeriveCall, DeriveState, MapState, ModuleState, Position, ShownHelper}
 use Rattle.def_modules.specs.MapView.{empty_local}
 use Rattle.def_modules.specs.Maps.{with_feature, with_tool, with_exported, paired, with_macro_at, with_macro_use, with_helper}
 use Rattle.def_modules.specs.Scopes.{empty_module, with_extern_crate, with_extern_block, with_unnamed_const, with_impl, with_derive_impl, with_derive, with_invocation, called_at, with_textual_of, brought}
@@ -25,68 +25,72 @@ rules n = MacroRules (record { 0 = n })
 abbrev item : ℕ → Position
 item n = record { file = File (record { 0 = 1 }); value = record { 0 = n } }
 
--- a map without modules, of whose crate nothing is known
+-- a crate of which nothing is known
+abbrev unknown : CrateState
+unknown = record {
+  exported_helpers = λ id. [];
+  macro_of_function = λ function. None;
+  function_of_macro = λ id. None;
+  tools = [];
+  features = λ name. false;
+  coherence_is_core = false;
+  no_core = false;
+  no_std = false;
+  edition = Edition2021;
+  recursion_limit = None;
+}
+
+-- a map of it without modules
 abbrev bare : MapState
 bare = record {
   id = record { krate = record { 0 = 1 }; block = None };
-  edition = Edition2021;
   containing = [];
   parents = [];
   modules = [];
-  krate = record {
-    recursion_limit = None;
-    no_core = false;
-    no_std = false;
-    coherence_is_core = false;
-    features = λ name. false;
-    tools = [];
-    exported_helpers = λ id. [];
-    macro_of_function = λ function. None;
-    function_of_macro = λ id. None;
-    macro_at = λ position. None;
-    macro_use = λ name. None;
-    prelude = None;
-  };
+  krate = unknown;
+  prelude = None;
+  macro_use = λ name. None;
   helpers = λ position. [];
+  macro_at = λ position. None;
 }
 
 abbrev root : ModuleState
 root = empty_module None CrateRoot Public
 
 -- one feature is enabled, and no other
-feature : ((with_feature bare (name 5)).krate.features (name 5) ≡ true) × ((with_feature bare (name 5)).krate.features (name 6) ≡ false)
+feature : ((with_feature unknown (name 5)).features (name 5) ≡ true) × ((with_feature unknown (name 5)).features (name 6) ≡ false)
 feature = (refl, refl)
 
 -- tools stand in order of registration
-tools : (with_tool (with_tool bare (name 6)) (name 5)).krate.tools ≡ name 6 ∷ name 5 ∷ []
+tools : (with_tool (with_tool unknown (name 6)) (name 5)).tools ≡ name 6 ∷ name 5 ∷ []
 tools = refl
 
 -- a derive macro's helpers take the place of the earlier ones, and a macro of another kind has none
-exported : (with_exported (with_exported bare (rules 1) (name 5 ∷ [])) (rules 1) (name 6 ∷ name 7 ∷ [])).krate.exported_helpers (rules 1) ≡ name 6 ∷ name 7 ∷ []
+exported : (with_exported (with_exported unknown (rules 1) (name 5 ∷ [])) (rules 1) (name 6 ∷ name 7 ∷ [])).exported_helpers (rules 1) ≡ name 6 ∷ name 7 ∷ []
 exported = refl
 
-not_exported : (with_exported bare (rules 1) (name 5 ∷ [])).krate.exported_helpers (Macro2 (record { 0 = 1 })) ≡ []
+not_exported : (with_exported unknown (rules 1) (name 5 ∷ [])).exported_helpers (Macro2 (record { 0 = 1 })) ≡ []
 not_exported = refl
 
 -- a function leads to its macro, and the macro back
-abbrev one_pair : MapState
-one_pair = paired bare (record { 0 = 2 }) (record { 0 = 3 })
+abbrev one_pair : CrateState
+one_pair = paired unknown (record { 0 = 2 }) (record { 0 = 3 })
 
-pair : (one_pair.krate.macro_of_function (record { 0 = 2 }) ≡ Some (record { 0 = 3 })) × (one_pair.krate.function_of_macro (record { 0 = 3 }) ≡ Some (record { 0 = 2 }))
+pair : (one_pair.macro_of_function (record { 0 = 2 }) ≡ Some (record { 0 = 3 })) × (one_pair.function_of_macro (record { 0 = 3 }) ≡ Some (record { 0 = 2 }))
 pair = (refl, refl)
 
-pair_of_none : (one_pair.krate.macro_of_function (record { 0 = 3 }) ≡ None) × (one_pair.krate.function_of_macro (record { 0 = 2 }) ≡ None)
+pair_of_none : (one_pair.macro_of_function (record { 0 = 3 }) ≡ None) × (one_pair.function_of_macro (record { 0 = 2 }) ≡ None)
 pair_of_none = (refl, refl)
 
 -- an item leads to its macro; the item of its number in a macro's file leads nowhere
-macro_there : (with_macro_at bare (item 4) (rules 1)).krate.macro_at (item 4) ≡ Some (rules 1)
+macro_there : (with_macro_at bare (item 4) (rules 1)).macro_at (item 4) ≡ Some (rules 1)
 macro_there = refl
 
-macro_of_another_file : (with_macro_at bare (item 4) (rules 1)).krate.macro_at (record { file = Macro (record { 0 = 1 }); value = record { 0 = 4 } }) ≡ None
+macro_of_another_file : (with_macro_at bare (item 4) (rules 1)).macro_at (record { file = Macro (record { 0 = 1 }); value = record { 0 = 4 } }) ≡ None
 macro_of_another_file = refl
 
 -- a later macro of a name takes the place of an earlier one
-used_macro : (with_macro_use (with_macro_use bare (name 5) (rules 1)) (name 5) (rules 2)).krate.macro_use (name 5) ≡ Some (rules 2)
+used_macro : (with_macro_use (with_macro_use bare (name 5) (rules 1)) (name 5) (rules 2)).macro_use (name 5) ≡ Some (rules 2)
 used_macro = refl
 
 -- helpers of an item stand in order, and those of another item apart

@@ -55,20 +55,18 @@ pub record ModuleState : Type 0 where
   -- the names that failed to import
   pub failed : Name → Bool
 
--- what a map shows of its crate
+-- what is known of a crate, which its map and those of its blocks share
 pub record CrateState : Type 0 where
-  pub recursion_limit : Option ℕ
-  pub no_core : Bool
-  pub no_std : Bool
-  pub coherence_is_core : Bool
-  pub features : Name → Bool
-  pub tools : List Name
   pub exported_helpers : MacroId → List Name
   pub macro_of_function : FunctionId → Option ProcMacroId
   pub function_of_macro : ProcMacroId → Option FunctionId
-  pub macro_at : Position → Option MacroId
-  pub macro_use : Name → Option MacroId
-  pub prelude : Option ModuleId
+  pub tools : List Name
+  pub features : Name → Bool
+  pub coherence_is_core : Bool
+  pub no_core : Bool
+  pub no_std : Bool
+  pub edition : Edition
+  pub recursion_limit : Option ℕ
 
 -- a helper attribute as a map shows it: its name, the derive macro, and what the derive gave
 pub record ShownHelper : Type 0 where
@@ -79,11 +77,14 @@ pub record ShownHelper : Type 0 where
 -- all that a map shows beside its bindings
 pub record MapState : Type 0 where
   pub id : MapId
-  pub edition : Edition
   -- the modules around a block, innermost first
   pub containing : List ModuleId
   -- each module's parent, by number
   pub parents : List (Option ℕ)
   pub modules : List ModuleState
   pub krate : CrateState
+  pub prelude : Option ModuleId
+  -- the macros that extern crates brought
+  pub macro_use : Name → Option MacroId
   pub helpers : Position → List ShownHelper
+  pub macro_at : Position → Option MacroId

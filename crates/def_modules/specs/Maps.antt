@@ -11,9 +11,10 @@ use Rattle.def_ids.specs.Equality.{macro_eq}
 use Rattle.def_ids.specs.Ids.{is_same_map}
 use Rattle.def_bindings.specs.Content.{is_name}
 use Rattle.def_bindings.specs.Tree.{chain_of}
+use Rattle.def_modules.specs.declared.crate_data.DefMapCrateData.{DefMapCrateData}
+use Rattle.def_modules.specs.declared.crate_data.UnstableFeatures.{UnstableFeatures}
 use Rattle.def_modules.specs.declared.map.DeriveHelper.{DeriveHelper}
 use Rattle.def_modules.specs.declared.map.MapData.{MapData}
-use Rattle.def_modules.specs.declared.map.UnstableFeatures.{UnstableFeatures}
 use Rattle.def_modules.specs.Equality.{position_eq, function_eq, proc_macro_eq}
 use Rattle.def_modules.specs.MapState.{ModuleState, CrateState, MapState, ShownHelper, Position}
 use Rattle.def_modules.specs.MapView.{MapFacts}
@@ -40,22 +41,20 @@ exported_of exported id = option_map_or (λ names. names) (get macro_eq exported
 abbrev pub features_of : UnstableFeatures → Name → Bool
 features_of f = contains is_name f.names
 
--- what a map shows of its crate
-abbrev pub crate_state : MapData → CrateState
-crate_state d =
+-- what is known of a crate
+abbrev pub crate_state : DefMapCrateData → CrateState
+crate_state k =
     record {
-      recursion_limit = d.recursion_limit;
-      no_core = d.no_core;
-      no_std = d.no_std;
-      coherence_is_core = d.rustc_coherence_is_core;
-      features = features_of d.features;
-      tools = d.registered_tools;
-      exported_helpers = exported_of d.exported_derives;
-      macro_of_function = get function_eq d.fn_as_proc_macro;
-      function_of_macro = get proc_macro_eq d.proc_macro_as_fn;
-      macro_at = get position_eq d.macro_by_position;
-      macro_use = get is_name d.macro_use_prelude;
-      prelude = d.prelude;
+      exported_helpers = exported_of k.exported_derives;
+      macro_of_function = get function_eq k.fn_proc_macro_mapping;
+      function_of_macro = get proc_macro_eq k.fn_proc_macro_mapping_back;
+      tools = k.registered_tools;
+      features = features_of k.unstable_features;
+      coherence_is_core = k.rustc_coherence_is_core;
+      no_core = k.no_core;
+      no_std = k.no_std;
+      edition = k.edition;
+      recursion_limit = k.recursion_limit;
     }
 
 -- what a map shows beside its bindings
@@ -63,12 +62,14 @@ abbrev pub map_state : MapData → MapState
 map_state d =
     record {
       id = d.tree.map;
-      edition = d.edition;
       containing = d.tree.containing;
       parents = d.tree.parents;
       modules = map module_state d.modules.items;
-      krate = crate_state d;
+      krate = crate_state d.krate;
+      prelude = d.prelude;
+      macro_use = get is_name d.macro_use_prelude;
       helpers = helpers_of d.derive_helpers;
+      macro_at = get position_eq d.macro_by_position;
     }
 
 -- the first of a list
@@ -84,12 +85,12 @@ abbrev pub facts_in : MapState → MapFacts
 facts_in s =
     record {
       id = s.id;
-      edition = s.edition;
+      edition = s.krate.edition;
       chain = chain_of s.id s.parents s.containing;
       containing = s.containing;
-      prelude = s.krate.prelude;
+      prelude = s.prelude;
       textual_macro = λ at name. if is_same_map at.map s.id then first_of_list (textual_at s at.index name) else None;
-      macro_use = s.krate.macro_use;
+      macro_use = s.macro_use;
       exported_helpers = s.krate.exported_helpers;
     }
 
@@ -110,34 +111,32 @@ abbrev pub pushed : MapState → ℕ → ModuleState → MapState
 pushed s parent m = record s { parents = s.parents ++ known_parent s.parents parent ∷ []; modules = s.modules ++ m ∷ [] }
 
 -- one feature more
-abbrev pub with_feature : MapState → Name → MapState
-with_feature s name = record s { krate = record s.krate { features = set_where (is_name name) true s.krate.features } }
+abbrev pub with_feature : CrateState → Name → CrateState
+with_feature c name = record c { features = set_where (is_name name) true c.features }
 
 -- one registered tool more
-abbrev pub with_tool : MapState → Name → MapState
-with_tool s tool = record s { krate = record s.krate { tools = s.krate.tools ++ tool ∷ [] } }
+abbrev pub with_tool : CrateState → Name → CrateState
+with_tool c tool = record c { tools = c.tools ++ tool ∷ [] }
 
 -- the helpers that other crates see of a derive macro
-abbrev pub with_exported : MapState → MacroId → List Name → MapState
-with_exported s id helpers = record s { krate = record s.krate { exported_helpers = set_where (macro_eq id) helpers s.krate.exported_helpers } }
+abbrev pub with_exported : CrateState → MacroId → List Name → CrateState
+with_exported c id helpers = record c { exported_helpers = set_where (macro_eq id) helpers c.exported_helpers }
 
 -- a procedural macro and its function lead to each other
-abbrev pub paired : MapState → FunctionId → ProcMacroId → MapState
-paired s function id =
-    record s {
-      krate = record s.krate {
-        macro_of_function = set_where (function_eq function) (Some id) s.krate.macro_of_function;
-        function_of_macro = set_where (proc_macro_eq id) (Some function) s.krate.function_of_macro;
-      };
+abbrev pub paired : CrateState → FunctionId → ProcMacroId → CrateState
+paired c function id =
+    record c {
+      macro_of_function = set_where (function_eq function) (Some id) c.macro_of_function;
+      function_of_macro = set_where (proc_macro_eq id) (Some function) c.function_of_macro;
     }
 
 -- a position leads to a macro
 abbrev pub with_macro_at : MapState → Position → MacroId → MapState
-with_macro_at s position id = record s { krate = record s.krate { macro_at = set_where (position_eq position) (Some id) s.krate.macro_at } }
+with_macro_at s position id = record s { macro_at = set_where (position_eq position) (Some id) s.macro_at }
 
 -- a macro that an extern crate brought
 abbrev pub with_macro_use : MapState → Name → MacroId → MapState
-with_macro_use s name id = record s { krate = record s.krate { macro_use = set_where (is_name name) (Some id) s.krate.macro_use } }
+with_macro_use s name id = record s { macro_use = set_where (is_name name) (Some id) s.macro_use }
 
 -- one helper attribute of a position more, behind the others
 abbrev pub with_helper : MapState → Position → ShownHelper → MapState

@@ -3,10 +3,11 @@ ghost use Rattle.std.specs.Prelude.{◌≡◌, ◌++◌, ◌∷◌, [], length, 
 ghost use Rattle.def_modules.specs.Scopes.{module_state, declared_in};
 ghost use Rattle.def_modules.specs.Maps.{map_state, with_module, pushed, known_parent};
 
+use crate::crate_data::DefMapCrateData;
 use crate::module_data::{DeriveCall, ModuleData, Position};
 use def_bindings::ModuleTree;
-use def_ids::{Def, Edition, FunctionId, MacroId, ModuleId, ProcMacroId};
-use indexmap::{IndexMap, IndexSet};
+use def_ids::{MacroId, ModuleId};
+use indexmap::IndexMap;
 use item_tree::{Name, Seq};
 use std::alloc::AllocError;
 
@@ -18,56 +19,31 @@ pub struct DeriveHelper {
     pub by: DeriveCall,
 }
 
-/// The features that a crate enables.
-#[derive(Drop)]
-pub struct UnstableFeatures {
-    pub names: IndexSet<Name>,
-}
-
 /// All of a map but its bindings, unnamed traits and glob edges. The collector works on it.
 pub struct MapData {
     /// The map, the parents of its modules, and for a block the modules that contain it.
     pub tree: ModuleTree,
-    pub edition: Edition,
     /// The modules in order of declaration: a parent before its children, the root first.
     pub modules: Vec<ModuleData>,
-    /// The limit that the crate states.
-    pub recursion_limit: Option<u32>,
-    pub no_core: bool,
-    pub no_std: bool,
-    pub rustc_coherence_is_core: bool,
-    pub features: UnstableFeatures,
-    pub registered_tools: Seq<Name>,
-    /// The helper attributes of each derive macro that other crates may name.
-    pub exported_derives: IndexMap<MacroId, Seq<Name>>,
-    pub fn_as_proc_macro: IndexMap<FunctionId, ProcMacroId>,
-    pub proc_macro_as_fn: IndexMap<ProcMacroId, FunctionId>,
-    pub macro_by_position: IndexMap<Position, MacroId>,
-    pub derive_helpers: IndexMap<Position, Seq<DeriveHelper>>,
+    /// What is known of the crate. A block's map has a copy.
+    pub krate: DefMapCrateData,
     pub prelude: Option<ModuleId>,
     /// The macros that extern crates brought.
     pub macro_use_prelude: IndexMap<Name, MacroId>,
+    pub derive_helpers: IndexMap<Position, Seq<DeriveHelper>>,
+    pub macro_by_position: IndexMap<Position, MacroId>,
 }
 
 impl Drop for MapData {
     fn drop(self) {
         let MapData {
             tree: _,
-            edition: _,
             modules: _,
-            recursion_limit: _,
-            no_core: _,
-            no_std: _,
-            rustc_coherence_is_core: _,
-            features: _,
-            registered_tools: _,
-            exported_derives: _,
-            fn_as_proc_macro: _,
-            proc_macro_as_fn: _,
-            macro_by_position: _,
-            derive_helpers: _,
+            krate: _,
             prelude: _,
             macro_use_prelude: _,
+            derive_helpers: _,
+            macro_by_position: _,
         } = self;
     }
 }

@@ -3,7 +3,8 @@ ghost use Rattle.std.specs.Prelude.{◌≡◌};
 ghost use Rattle.def_modules.specs.Maps.{map_state, facts_of, first_of_list, limit_of, features_of};
 ghost use Rattle.def_modules.specs.Scopes.{module_state};
 
-use crate::map::{MapData, UnstableFeatures};
+use crate::crate_data::UnstableFeatures;
+use crate::map::MapData;
 use crate::module_data::ModuleData;
 use def_ids::{MacroId, ModuleId};
 use item_tree::Name;
@@ -45,7 +46,7 @@ impl MapData {
     pub fn exported_helpers(&self, id: MacroId) -> &[Name]
         ensures { result.now ≡ (facts_of self.now).exported_helpers id }
     {
-        match self.exported_derives.get(&id) {
+        match self.krate.exported_derives.get(&id) {
             Some(names) => names.as_slice(),
             None => &[],
         }
@@ -55,7 +56,7 @@ impl MapData {
     pub fn recursion_limit(&self) -> u32
         ensures { result ≡ limit_of (map_state self.now).krate }
     {
-        self.recursion_limit.unwrap_or(128)
+        self.krate.recursion_limit.unwrap_or(128)
     }
 }
 

@@ -97,7 +97,7 @@ pub(crate) fn absolute_type<D: PathDatabase, T: BindingTable<Vis = Visibility>>(
         let keep = is_fitting q.kind_of None in
         result ≡ first_found keep (absolute_sources q own) name Types }
 {
-    if is_2015(asking.world.map.edition) {
+    if is_2015(asking.world.map.krate.edition) {
         root_type(asking, name)
     } else {
         extern_type(asking, name)
@@ -115,7 +115,7 @@ pub(crate) fn relative_type<D: PathDatabase, T: BindingTable<Vis = Visibility>>(
         let keep = is_fitting q.kind_of None in
         result ≡ first_found keep (relative_sources q own place false) name Types }
 {
-    if is_2015(asking.world.map.edition) && asking.asked.mode.is_for_import() {
+    if is_2015(asking.world.map.krate.edition) && asking.asked.mode.is_for_import() {
         root_type(asking, name)
     } else {
         plain_type(asking, place, name)

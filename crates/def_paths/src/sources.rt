@@ -327,7 +327,7 @@ pub(crate) fn absolute<D: PathDatabase, T: BindingTable<Vis = Visibility>>(
         let keep = is_fitting q.kind_of segment.sub in
         result ≡ found_in keep (absolute_sources q own) segment.name }
 {
-    if is_2015(asking.world.map.edition) {
+    if is_2015(asking.world.map.krate.edition) {
         from_root(asking, segment)
     } else {
         or_extern(asking, PerNs::none(), segment)
@@ -344,7 +344,7 @@ pub(crate) fn relative<D: PathDatabase, T: BindingTable<Vis = Visibility>>(
         let keep = is_fitting q.kind_of segment.sub in
         result ≡ found_in keep (relative_sources q own segment.place true) segment.name }
 {
-    if is_2015(asking.world.map.edition) && asking.asked.mode.is_for_import() {
+    if is_2015(asking.world.map.krate.edition) && asking.asked.mode.is_for_import() {
         from_root(asking, segment)
     } else {
         plain(asking, segment)

@@ -9,6 +9,7 @@ use Rattle.item_tree.specs.declared.tt.Leaf.TheVariants.{Ident}
 use Rattle.item_tree.specs.KnownNames as known
 use Rattle.item_tree.specs.TokenTrees.{TokenTrees, no_trees, leaf}
 use Rattle.def_oracle.specs.declared.source_database.LangCrate.TheVariants.{Core, Std}
+use Rattle.def_ids.specs.declared.macro_def.Edition.TheVariants.{Edition2021}
 use Rattle.def_map.specs.Fresh.{fresh_crate, known_tools}
 use Rattle.def_modules.specs.Maps.{limit_of}
 use Rattle.def_rules.specs.Crates.{after_attrs, is_left_out, read_u32, says_proc_macro}
@@ -53,24 +54,24 @@ one_more_is_not = refl
 abbrev limits : List Attr
 limits = attr known.recursion_limit_name (text (codes "5")) ∷ attr known.recursion_limit_name (text (codes "4")) ∷ attr known.recursion_limit_name (text (codes "x")) ∷ []
 
-the_last_number_counts : limit_of (after_attrs limits fresh_crate) ≡ 4
+the_last_number_counts : limit_of (after_attrs limits (fresh_crate Edition2021)) ≡ 4
 the_last_number_counts = refl
 
-none_is_128 : limit_of (after_attrs [] fresh_crate) ≡ 128
+none_is_128 : limit_of (after_attrs [] (fresh_crate Edition2021)) ≡ 128
 none_is_128 = refl
 
 -- flags, each by its own name
-no_core_is_no_core : (after_attrs (attr known.no_core_name None ∷ []) fresh_crate).no_core ≡ true
+no_core_is_no_core : (after_attrs (attr known.no_core_name None ∷ []) (fresh_crate Edition2021)).no_core ≡ true
 no_core_is_no_core = refl
 
-no_core_is_not_no_std : (after_attrs (attr known.no_core_name None ∷ []) fresh_crate).no_std ≡ false
+no_core_is_not_no_std : (after_attrs (attr known.no_core_name None ∷ []) (fresh_crate Edition2021)).no_std ≡ false
 no_core_is_not_no_std = refl
 
 -- one tool, if it stands alone
-a_tool_is_added : (after_attrs (attr known.register_tool_name (tokens (word 40 no_trees)) ∷ []) fresh_crate).tools ≡ record { 0 = 27 } ∷ record { 0 = 28 } ∷ record { 0 = 29 } ∷ record { 0 = 30 } ∷ record { 0 = 31 } ∷ record { 0 = 40 } ∷ []
+a_tool_is_added : (after_attrs (attr known.register_tool_name (tokens (word 40 no_trees)) ∷ []) (fresh_crate Edition2021)).tools ≡ record { 0 = 27 } ∷ record { 0 = 28 } ∷ record { 0 = 29 } ∷ record { 0 = 30 } ∷ record { 0 = 31 } ∷ record { 0 = 40 } ∷ []
 a_tool_is_added = refl
 
-two_are_not : (after_attrs (attr known.register_tool_name (tokens (word 40 (word 41 no_trees))) ∷ []) fresh_crate).tools ≡ known_tools
+two_are_not : (after_attrs (attr known.register_tool_name (tokens (word 40 (word 41 no_trees))) ∷ []) (fresh_crate Edition2021)).tools ≡ known_tools
 two_are_not = refl
 
 -- `crate_type`
@@ -81,8 +82,8 @@ a_library : says_proc_macro (attr known.crate_type_name (text (codes "lib"))) �
 a_library = refl
 
 -- `no_core` leaves out both crates of the language, and `no_std` only `std`
-std_goes_with_core : is_left_out (after_attrs (attr known.no_core_name None ∷ []) fresh_crate) (Some Std) ≡ true
+std_goes_with_core : is_left_out (after_attrs (attr known.no_core_name None ∷ []) (fresh_crate Edition2021)) (Some Std) ≡ true
 std_goes_with_core = refl
 
-core_stays_without_std : is_left_out (after_attrs (attr known.no_std_name None ∷ []) fresh_crate) (Some Core) ≡ false
+core_stays_without_std : is_left_out (after_attrs (attr known.no_std_name None ∷ []) (fresh_crate Edition2021)) (Some Core) ≡ false
 core_stays_without_std = refl

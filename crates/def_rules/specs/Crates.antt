@@ -170,4 +170,4 @@ prelude_path edition no_std names = record { kind = prelude_kind edition; segmen
 abbrev pub prelude_module : Oracle → State → Option ModuleId
 prelude_module oracle s =
     cond s.map.krate.no_core None
-    (module_found (resolve (world oracle s) for_module (root s.map) (prelude_path s.map.edition s.map.krate.no_std (unwrap_or s.outer s.local))))
+    (module_found (resolve (world oracle s) for_module (root s.map) (prelude_path s.map.krate.edition s.map.krate.no_std (unwrap_or s.outer s.local))))

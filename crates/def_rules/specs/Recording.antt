@@ -64,7 +64,7 @@ glob_def import answer = unless_prelude (new_prelude import answer) (types_def a
 
 -- the map with this prelude in the place of an earlier one, if there is one
 abbrev pub with_new_prelude : Option ModuleId → MapState → MapState
-with_new_prelude made m = record m { krate = record m.krate { prelude = option_or made m.krate.prelude } }
+with_new_prelude made m = record m { prelude = option_or made m.prelude }
 
 -- a module of this crate gets an edge once its entries are put; one of another crate none
 abbrev pub edge_tasks : Bool → ModuleId → EdgeTo Visibility → List Task

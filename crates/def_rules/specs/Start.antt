@@ -80,23 +80,24 @@ first_reports m tree in_block None = []
 first_reports m tree true (Some cfg) = []
 first_reports m tree false (Some cfg) = root_disabled (root m) tree cfg ∷ []
 
--- what is known of a crate before its items: its data, whether it is one of procedural macros, and the names of crates
+-- what is known of a crate before its items: its data, its prelude, whether it is one of procedural macros, and the names of crates
 pub record Head : Type 0 where
   pub krate : CrateState
+  pub prelude : Option ModuleId
   pub is_proc_macro : Bool
   pub local : LocalView
 
 -- what a state knows of its crate
 abbrev pub head_of : State → Head
-head_of s = record { krate = s.map.krate; is_proc_macro = s.is_proc_macro; local = s.local }
+head_of s = record { krate = s.map.krate; prelude = s.map.prelude; is_proc_macro = s.is_proc_macro; local = s.local }
 
 -- the state that knows this, and is the same in all else
 abbrev pub with_head : State → Head → State
-with_head s h = record s { map = record s.map { krate = h.krate }; is_proc_macro = h.is_proc_macro; local = h.local }
+with_head s h = record s { map = record s.map { krate = h.krate; prelude = h.prelude }; is_proc_macro = h.is_proc_macro; local = h.local }
 
 -- the head with the prelude that is found with it
 abbrev pub with_prelude : Oracle → State → Head → Head
-with_prelude oracle s h = record h { krate = record h.krate { prelude = prelude_module oracle (with_head s h) } }
+with_prelude oracle s h = record h { prelude = prelude_module oracle (with_head s h) }
 
 -- what the attributes of its root file say of a crate
 abbrev pub with_attrs : List Attr → Head → Head

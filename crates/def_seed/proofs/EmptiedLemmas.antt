@@ -13,10 +13,11 @@ use Rattle.def_ids.specs.contracts.ids.MacroIdPartialEq.TheImpl as macros
 use Rattle.def_bindings.specs.Content.{is_name}
 use Rattle.def_bindings.specs.IdLaws.{name-refl}
 use Rattle.def_bindings.specs.declared.visibility.Visibility.TheVariants.{Public}
+use Rattle.def_modules.specs.declared.crate_data.DefMapCrateData.{DefMapCrateData}
 use Rattle.def_modules.specs.declared.map.DeriveHelper.{DeriveHelper}
 use Rattle.def_modules.specs.declared.map.MapData.{MapData}
 use Rattle.def_modules.specs.Equality.{position_eq, function_eq, proc_macro_eq}
-use Rattle.def_seed.specs.Fresh.{root_origin, known_tools, fresh_crate, fresh_state, block_crate, emptied, fresh_by, IsOfFreshCrate}
+use Rattle.def_seed.specs.Fresh.{root_origin, known_tools, fresh_crate, fresh_state, emptied, fresh_by, IsOfFreshCrate}
 use Rattle.def_modules.specs.MapState.{MapState, Position}
 use Rattle.def_modules.specs.Maps.{map_state, crate_state, helper_state, exported_of}
 use Rattle.def_modules.specs.Scopes.{module_state, empty_module}
@@ -47,41 +48,36 @@ module _ (d : MapData) where
   same_helpers = ap (λ e. get e d.derive_helpers) positions_same
 
   pub state_from_nothing : HoldsNothing d → map_state d ≡ emptied (map_state d)
-  state_from_nothing n =
-      let krate : crate_state d ≡ block_crate (crate_state d) = λ i. record (crate_state d) {
-        macro_at = keys_none position_eq position-refl d.macro_by_position n.macro_at i;
-        macro_use = keys_none is_name name-refl d.macro_use_prelude n.macro_use i;
-        prelude = n.prelude i;
-      } in
-      λ i. record (map_state d) {
-        parents = n.parents i;
-        modules = n.modules i;
-        krate = krate i;
-        helpers = λ k. (ap (λ f. option_map_or (map helper_state) (f k) []) (sym same_helpers) ∙ shown_none (get derived_position_eq d.derive_helpers k) (n.helpers k)) i;
-      }
+  state_from_nothing n = λ i. record (map_state d) {
+    parents = n.parents i;
+    modules = n.modules i;
+    prelude = n.prelude i;
+    macro_use = keys_none is_name name-refl d.macro_use_prelude n.macro_use i;
+    helpers = λ k. (ap (λ f. option_map_or (map helper_state) (f k) []) (sym same_helpers) ∙ shown_none (get derived_position_eq d.derive_helpers k) (n.helpers k)) i;
+    macro_at = keys_none position_eq position-refl d.macro_by_position n.macro_at i;
+  }
 
   pub nothing_from_state : map_state d ≡ emptied (map_state d) → HoldsNothing d
   nothing_from_state h = record {
     parents = λ i. (h i).parents;
     modules = λ i. (h i).modules;
     helpers = λ k. none_shown (get derived_position_eq d.derive_helpers k) (ap (λ f. option_map_or (map helper_state) (f k) []) same_helpers ∙ (λ i. (h i).helpers k));
-    macro_at = no_keys position_eq position-refl d.macro_by_position (λ i. (h i).krate.macro_at);
-    macro_use = no_keys is_name name-refl d.macro_use_prelude (λ i. (h i).krate.macro_use);
-    prelude = λ i. (h i).krate.prelude;
+    macro_at = no_keys position_eq position-refl d.macro_by_position (λ i. (h i).macro_at);
+    macro_use = no_keys is_name name-refl d.macro_use_prelude (λ i. (h i).macro_use);
+    prelude = λ i. (h i).prelude;
   }
 
--- a map knows nothing of its crate
-pub record KnowsNothing (d : MapData) : Type 0 where
-  pub containing : d.tree.containing ≡ []
-  pub recursion_limit : d.recursion_limit ≡ None
-  pub no_core : d.no_core ≡ false
-  pub no_std : d.no_std ≡ false
-  pub coherence : d.rustc_coherence_is_core ≡ false
-  pub features : d.features.names.keys ≡ []
-  pub tools : d.registered_tools ≡ known_tools
-  pub exported : (k : MacroId) → unwrap_or (get macros.ghosts.eq d.exported_derives k) [] ≡ []
-  pub macro_of_function : d.fn_as_proc_macro.entries ≡ []
-  pub function_of_macro : d.proc_macro_as_fn.entries ≡ []
+-- nothing is known of a crate
+pub record KnowsNothing (k : DefMapCrateData) : Type 0 where
+  pub exported : (id : MacroId) → unwrap_or (get macros.ghosts.eq k.exported_derives id) [] ≡ []
+  pub macro_of_function : k.fn_proc_macro_mapping.entries ≡ []
+  pub function_of_macro : k.fn_proc_macro_mapping_back.entries ≡ []
+  pub tools : k.registered_tools ≡ known_tools
+  pub features : k.unstable_features.names.keys ≡ []
+  pub coherence : k.rustc_coherence_is_core ≡ false
+  pub no_core : k.no_core ≡ false
+  pub no_std : k.no_std ≡ false
+  pub recursion_limit : k.recursion_limit ≡ None
 
 function-refl : (f : FunctionId) → function_eq f f ≡ true
 function-refl f = eq-eqb f.0 f.0 refl
@@ -93,52 +89,46 @@ default_same : {X : Type 0} (o : Option (List X)) → option_map_or (λ names. n
 default_same None = refl
 default_same (Some xs) = refl
 
-module _ (d : MapData) where
-  same_exported : (k : MacroId) → exported_of d.exported_derives k ≡ unwrap_or (get macros.ghosts.eq d.exported_derives k) []
-  same_exported k = default_same (get macro_eq d.exported_derives k) ∙ ap (λ e. unwrap_or (get e d.exported_derives k) []) (sym macros_same)
+module _ (k : DefMapCrateData) where
+  same_exported : (id : MacroId) → exported_of k.exported_derives id ≡ unwrap_or (get macros.ghosts.eq k.exported_derives id) []
+  same_exported id = default_same (get macro_eq k.exported_derives id) ∙ ap (λ e. unwrap_or (get e k.exported_derives id) []) (sym macros_same)
 
-  pub state_of_unknown : KnowsNothing d → IsOfFreshCrate (map_state d)
-  state_of_unknown n = record {
-    containing = n.containing;
-    krate = λ i. record {
-      recursion_limit = n.recursion_limit i;
-      no_core = n.no_core i;
-      no_std = n.no_std i;
-      coherence_is_core = n.coherence i;
-      features = members_none is_name name-refl d.features.names n.features i;
-      tools = n.tools i;
-      exported_helpers = λ k. (same_exported k ∙ n.exported k) i;
-      macro_of_function = keys_none function_eq function-refl d.fn_as_proc_macro n.macro_of_function i;
-      function_of_macro = keys_none proc_macro_eq proc_macro-refl d.proc_macro_as_fn n.function_of_macro i;
-      macro_at = λ position. None;
-      macro_use = λ name. None;
-      prelude = None;
-    };
+  pub state_of_unknown : KnowsNothing k → crate_state k ≡ fresh_crate k.edition
+  state_of_unknown n = λ i. record {
+    exported_helpers = λ id. (same_exported id ∙ n.exported id) i;
+    macro_of_function = keys_none function_eq function-refl k.fn_proc_macro_mapping n.macro_of_function i;
+    function_of_macro = keys_none proc_macro_eq proc_macro-refl k.fn_proc_macro_mapping_back n.function_of_macro i;
+    tools = n.tools i;
+    features = members_none is_name name-refl k.unstable_features.names n.features i;
+    coherence_is_core = n.coherence i;
+    no_core = n.no_core i;
+    no_std = n.no_std i;
+    edition = k.edition;
+    recursion_limit = n.recursion_limit i;
   }
 
-  pub unknown_from_state : IsOfFreshCrate (map_state d) → KnowsNothing d
+  pub unknown_from_state : crate_state k ≡ fresh_crate k.edition → KnowsNothing k
   unknown_from_state h = record {
-    containing = h.containing;
-    recursion_limit = λ i. (h.krate i).recursion_limit;
-    no_core = λ i. (h.krate i).no_core;
-    no_std = λ i. (h.krate i).no_std;
-    coherence = λ i. (h.krate i).coherence_is_core;
-    features = no_members is_name name-refl d.features.names (λ i. (h.krate i).features);
-    tools = λ i. (h.krate i).tools;
-    exported = λ k. sym (same_exported k) ∙ (λ i. (h.krate i).exported_helpers k);
-    macro_of_function = no_keys function_eq function-refl d.fn_as_proc_macro (λ i. (h.krate i).macro_of_function);
-    function_of_macro = no_keys proc_macro_eq proc_macro-refl d.proc_macro_as_fn (λ i. (h.krate i).function_of_macro);
+    exported = λ id. sym (same_exported id) ∙ (λ i. (h i).exported_helpers id);
+    macro_of_function = no_keys function_eq function-refl k.fn_proc_macro_mapping (λ i. (h i).macro_of_function);
+    function_of_macro = no_keys proc_macro_eq proc_macro-refl k.fn_proc_macro_mapping_back (λ i. (h i).function_of_macro);
+    tools = λ i. (h i).tools;
+    features = no_members is_name name-refl k.unstable_features.names (λ i. (h i).features);
+    coherence = λ i. (h i).coherence_is_core;
+    no_core = λ i. (h i).no_core;
+    no_std = λ i. (h i).no_std;
+    recursion_limit = λ i. (h i).recursion_limit;
   }
 
 -- a crate's map is fresh where it holds and knows nothing
 pub crate_fresh : (s : MapState) → s ≡ emptied s → IsOfFreshCrate s → s ≡ fresh_by None s
-crate_fresh s e k = e ∙ (λ i. fresh_state s.id s.edition (k.containing i) (k.krate i))
+crate_fresh s e k = e ∙ (λ i. fresh_state s.id (k.containing i) (k.krate i))
 
 pub fresh_crate_parts : (s : MapState) → s ≡ fresh_by None s → (s ≡ emptied s) × IsOfFreshCrate s
 fresh_crate_parts s h =
     let containing : s.containing ≡ [] = λ i. (h i).containing in
-    let krate : block_crate s.krate ≡ fresh_crate = λ i. block_crate (h i).krate in
-    (h ∙ (λ i. fresh_state s.id s.edition (sym containing i) (sym krate i)), record { containing = containing; krate = krate })
+    let krate : s.krate ≡ fresh_crate s.krate.edition = λ i. (h i).krate in
+    (h ∙ (λ i. fresh_state s.id (sym containing i) (sym krate i)), record { containing = containing; krate = krate })
 
 -- a fresh map of any kind holds nothing
 pub emptied_from_fresh : (s : MapState) (block : Option BlockId) → s ≡ fresh_by block s → s ≡ emptied s

@@ -1,20 +1,16 @@
 -- Worked rows of what maps show and of what writes do.
-use Rattle.std.proofs.Common.{◌≡◌, ℕ, ◌+◌, Bool, true, false, List, [], ◌∷◌, Option, Some, None, refl}
-use Rattle.item_tree.specs.declared.ids.BlockId.{BlockId}
-use Rattle.item_tree.specs.declared.ids.FileAstId.{FileAstId}
-use Rattle.item_tree.specs.declared.ids.HirFileId.{HirFileId}
+use Rattle.std.proofs.Common.{◌≡◌, ℕ, ◌+◌, true, false, [], ◌∷◌, Some, None, refl}
 use Rattle.item_tree.specs.declared.ids.HirFileId.TheVariants.{File, Macro}
 use Rattle.item_tree.specs.declared.name.Name.{Name}
 use Rattle.def_ids.specs.declared.ids.Def.TheVariants.{Builtin}
 use Rattle.def_ids.specs.declared.ids.MacroId.{MacroId}
 use Rattle.def_ids.specs.declared.ids.MacroId.TheVariants.{MacroRules}
-use Rattle.def_ids.specs.declared.ids.ModuleId.{ModuleId}
-use Rattle.def_ids.specs.declared.macro_def.Edition.TheVariants.{Edition2021}
+use Rattle.def_ids.specs.declared.macro_def.Edition.TheVariants.{Edition2018, Edition2021}
 use Rattle.def_bindings.specs.declared.visibility.Visibility.TheVariants.{Public}
 use Rattle.def_modules.specs.declared.module_data.ModuleOrigin.TheVariants.{CrateRoot, Block}
 use Rattle.def_modules.specs.Equality.{file_eq, position_eq}
 use Rattle.def_seed.specs.Fresh.{fresh_crate, fresh_state, fresh_by, block_crate, root_origin}
-use Rattle.def_modules.specs.MapState.{MapState, ModuleState, Position, CrateState}
+use Rattle.def_modules.specs.MapState.{MapState, ModuleState, Position}
 use Rattle.def_modules.specs.Maps.{known_parent, pushed, with_module, facts_in, limit_of}
 use Rattle.def_modules.specs.ScopeMaps.{with_first, last_macros, defined_all, with_last}
 use Rattle.def_modules.specs.Scopes.{empty_module, declared_in, with_child, with_textual, marked_failed}
@@ -94,7 +90,7 @@ unfolding name root
 one_failed = refl
 
 seed : MapState
-seed = fresh_state (record { krate = record { 0 = 1 }; block = None }) Edition2021 [] fresh_crate
+seed = fresh_state (record { krate = record { 0 = 1 }; block = None }) [] (fresh_crate Edition2021)
 
 -- a seeded map is fresh, and no longer with a declaration
 seed_is_fresh : seed ≡ fresh_by None seed
@@ -125,16 +121,19 @@ unfolding seed
 macro_of_another_map = refl
 
 -- the limit is 128 where none is stated
-limit_unstated : limit_of fresh_crate ≡ 128
+limit_unstated : limit_of (fresh_crate Edition2021) ≡ 128
 limit_unstated = refl
 
-limit_stated : limit_of (record fresh_crate { recursion_limit = Some 7 }) ≡ 7
+limit_stated : limit_of (record (fresh_crate Edition2021) { recursion_limit = Some 7 }) ≡ 7
 limit_stated = refl
 
 -- the root of a block's map is made by the block
 root_of_block : root_origin (Some (record { 0 = 5 })) ≡ Block
 root_of_block = refl
 
--- a block's map takes over flags, and neither prelude nor macros by position
-block_keeps_flags : (block_crate (record fresh_crate { no_std = true })).no_std ≡ true
+-- a block's map takes over flags, and has the edition that is said of it
+block_keeps_flags : (block_crate Edition2018 (record (fresh_crate Edition2021) { no_std = true })).no_std ≡ true
 block_keeps_flags = refl
+
+block_has_its_edition : (block_crate Edition2018 (fresh_crate Edition2021)).edition ≡ Edition2018
+block_has_its_edition = refl

@@ -9,11 +9,11 @@ use Rattle.def_seed.specs.declared.block.BlockData.{BlockData}
 use Rattle.def_seed.specs.Seeds.{block_state}
 
 -- it has one root, made by the block, and the edition that is asked for
-root_of_info : (b : BlockData) → ((block_state Edition2021 b).modules ≡ empty_module None Block Public ∷ []) × ((block_state Edition2021 b).edition ≡ Edition2021)
+root_of_info : (b : BlockData) → ((block_state Edition2021 b).modules ≡ empty_module None Block Public ∷ []) × ((block_state Edition2021 b).krate.edition ≡ Edition2021)
 root_of_info b = (refl, refl)
 
 -- it keeps the crate's limit and tools, and neither its prelude nor a macro that an extern crate brought
 crate_of_info : (b : BlockData) (name : Name)
-    → ((block_state Edition2021 b).krate.recursion_limit ≡ b.recursion_limit) × ((block_state Edition2021 b).krate.tools ≡ b.registered_tools)
-    × ((block_state Edition2021 b).krate.prelude ≡ None) × ((block_state Edition2021 b).krate.macro_use name ≡ None)
+    → ((block_state Edition2021 b).krate.recursion_limit ≡ b.data.recursion_limit) × ((block_state Edition2021 b).krate.tools ≡ b.data.registered_tools)
+    × ((block_state Edition2021 b).prelude ≡ None) × ((block_state Edition2021 b).macro_use name ≡ None)
 crate_of_info b name = (refl, refl, refl, refl)

@@ -21,27 +21,25 @@ name_of n = record { 0 = n }
 abbrev pub known_tools : List Name
 known_tools = name_of 27 ∷ name_of 28 ∷ name_of 29 ∷ name_of 30 ∷ name_of 31 ∷ []
 
--- a crate of which nothing is known yet
-abbrev pub fresh_crate : CrateState
-fresh_crate =
+-- a crate of an edition of which nothing is known yet
+abbrev pub fresh_crate : Edition → CrateState
+fresh_crate edition =
     record {
-      recursion_limit = None;
-      no_core = false;
-      no_std = false;
-      coherence_is_core = false;
-      features = λ name. false;
-      tools = known_tools;
       exported_helpers = λ id. [];
       macro_of_function = λ function. None;
       function_of_macro = λ id. None;
-      macro_at = λ position. None;
-      macro_use = λ name. None;
-      prelude = None;
+      tools = known_tools;
+      features = λ name. false;
+      coherence_is_core = false;
+      no_core = false;
+      no_std = false;
+      edition = edition;
+      recursion_limit = None;
     }
 
--- what a block's map takes over of its crate
-abbrev pub block_crate : CrateState → CrateState
-block_crate c = record c { macro_at = λ position. None; macro_use = λ name. None; prelude = None }
+-- what a block's map takes over of its crate: all but the edition, which is said of the block
+abbrev pub block_crate : Edition → CrateState → CrateState
+block_crate edition c = record c { edition = edition }
 
 -- what made the root of a map
 abbrev pub root_origin : Option BlockId → ModuleOrigin
@@ -49,31 +47,33 @@ root_origin None = CrateRoot
 root_origin (Some block) = Block
 
 -- a map of one root, with nothing in it
-abbrev pub fresh_state : MapId → Edition → List ModuleId → CrateState → MapState
-fresh_state id edition containing krate =
+abbrev pub fresh_state : MapId → List ModuleId → CrateState → MapState
+fresh_state id containing krate =
     record {
       id = id;
-      edition = edition;
       containing = containing;
       parents = None ∷ [];
       modules = empty_module None (root_origin id.block) Public ∷ [];
       krate = krate;
+      prelude = None;
+      macro_use = λ name. None;
       helpers = λ position. [];
+      macro_at = λ position. None;
     }
 
--- the map with nothing in it that keeps what is around it and what a block has of its crate
+-- the map with nothing in it that keeps what is around it and what is known of its crate
 abbrev pub emptied : MapState → MapState
-emptied s = fresh_state s.id s.edition s.containing (block_crate s.krate)
+emptied s = fresh_state s.id s.containing s.krate
 
--- the fresh map with the same number
+-- the fresh map with the same number and edition
 abbrev pub fresh_by : Option BlockId → MapState → MapState
-fresh_by None s = fresh_state s.id s.edition [] fresh_crate
+fresh_by None s = fresh_state s.id [] (fresh_crate s.krate.edition)
 fresh_by (Some block) s = emptied s
 
 -- a crate's map stands in no module, and nothing is known of its crate
 pub record IsOfFreshCrate (s : MapState) : Type 0 where
   pub containing : s.containing ≡ []
-  pub krate : block_crate s.krate ≡ fresh_crate
+  pub krate : s.krate ≡ fresh_crate s.krate.edition
 
 -- nothing was collected in a map
 pub record IsFresh (s : MapState) (content : Content Visibility) : Type 0 where

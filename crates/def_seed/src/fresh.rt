@@ -3,12 +3,12 @@ ghost use Rattle.std.specs.Prelude.{◌≡◌, ◌↔◌, ◌∷◌, None, IsTru
 ghost use Rattle.std.specs.List.{list_all};
 ghost use Rattle.indexmap.specs.IndexMap.{get};
 ghost use Rattle.def_bindings.specs.declared.visibility.Visibility.TheVariants.{Public};
-ghost use Rattle.def_seed.specs.Fresh.{root_origin, known_tools, emptied, fresh_by, IsOfFreshCrate};
+ghost use Rattle.def_seed.specs.Fresh.{root_origin, known_tools, fresh_crate, emptied, fresh_by, IsOfFreshCrate};
 ghost use Rattle.def_modules.specs.Scopes.{module_state, empty_module};
-ghost use Rattle.def_modules.specs.Maps.{map_state};
+ghost use Rattle.def_modules.specs.Maps.{crate_state, map_state};
 
 use def_bindings::Visibility;
-use def_modules::{MapData, ModuleData, ModuleOrigin};
+use def_modules::{DefMapCrateData, MapData, ModuleData, ModuleOrigin};
 use indexmap::IndexMap;
 use item_tree::{BlockId, Name, Seq};
 use std::hash::Hash;
@@ -129,23 +129,29 @@ fn is_emptied(map: &MapData) -> bool
     are_all(&tests)
 }
 
+/// Whether nothing is known of a crate but its edition.
+fn is_new_crate(krate: &DefMapCrateData) -> bool
+    ensures { IsTrue result ↔ (crate_state krate.now ≡ fresh_crate krate.now.edition) }
+{
+    let tests = [
+        are_lists_empty(&krate.exported_derives),
+        krate.fn_proc_macro_mapping.is_empty(),
+        krate.fn_proc_macro_mapping_back.is_empty(),
+        are_known_tools(&krate.registered_tools),
+        krate.unstable_features.names.is_empty(),
+        !krate.rustc_coherence_is_core,
+        !krate.no_core,
+        !krate.no_std,
+        krate.recursion_limit.is_none(),
+    ];
+    are_all(&tests)
+}
+
 /// Whether a map stands in no module and knows nothing of its crate.
 fn is_of_fresh_crate(map: &MapData) -> bool
     ensures { IsTrue result ↔ IsOfFreshCrate (map_state map.now) }
 {
-    let tests = [
-        map.tree.containing.is_empty(),
-        map.recursion_limit.is_none(),
-        !map.no_core,
-        !map.no_std,
-        !map.rustc_coherence_is_core,
-        map.features.names.is_empty(),
-        are_known_tools(&map.registered_tools),
-        are_lists_empty(&map.exported_derives),
-        map.fn_as_proc_macro.is_empty(),
-        map.proc_macro_as_fn.is_empty(),
-    ];
-    are_all(&tests)
+    map.tree.containing.is_empty() && is_new_crate(&map.krate)
 }
 
 /// Whether the data of a map are as they were seeded: a root with nothing in it. What a block's map

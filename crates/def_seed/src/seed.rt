@@ -4,7 +4,7 @@ ghost use Rattle.std.specs.Prelude.{true, ◌∷◌, [], map};
 ghost use Rattle.def_bindings.specs.Tree.{are_apart};
 ghost use Rattle.def_bindings.specs.declared.visibility.Visibility.TheVariants.{Public};
 ghost use Rattle.def_modules.specs.declared.module_data.ModuleOrigin.TheVariants.{Block};
-ghost use Rattle.def_modules.specs.Maps.{map_state};
+ghost use Rattle.def_modules.specs.Maps.{crate_state, map_state};
 ghost use Rattle.def_modules.specs.Scopes.{module_state, empty_module};
 ghost use Rattle.def_seed.specs.Fresh.{known_tools, fresh_state, fresh_crate};
 ghost use Rattle.def_seed.specs.Seeds.{block_state, crate_map_id};
@@ -12,7 +12,7 @@ ghost use Rattle.def_seed.specs.Seeds.{block_state, crate_map_id};
 use crate::block::BlockData;
 use def_bindings::{ModuleTree, Visibility};
 use def_ids::{Edition, MapId, ModuleId};
-use def_modules::{MapData, ModuleData, ModuleOrigin, UnstableFeatures};
+use def_modules::{DefMapCrateData, MapData, ModuleData, ModuleOrigin, UnstableFeatures};
 use indexmap::{IndexMap, IndexSet};
 use item_tree::{Crate, Name, Seq};
 use std::alloc::{AllocError, Global};
@@ -60,30 +60,40 @@ fn tools_known(alloc: Global) -> Result<Seq<Name>, AllocError>
     Ok(tools)
 }
 
+/// A crate of which nothing is known but its edition.
+fn new_crate(alloc: Global, edition: Edition) -> Result<DefMapCrateData, AllocError>
+    ensures { IfOk result (λ krate. crate_state krate ≡ fresh_crate edition) }
+{
+    let registered_tools = tools_known(alloc)?;
+    Ok(DefMapCrateData {
+        exported_derives: IndexMap::new(alloc),
+        fn_proc_macro_mapping: IndexMap::new(alloc),
+        fn_proc_macro_mapping_back: IndexMap::new(alloc),
+        registered_tools,
+        unstable_features: UnstableFeatures {
+            names: IndexSet::new(alloc),
+        },
+        rustc_coherence_is_core: false,
+        no_core: false,
+        no_std: false,
+        edition,
+        recursion_limit: None,
+    })
+}
+
 /// The data of a crate's map.
 pub fn crate_data(alloc: Global, krate: Crate, edition: Edition) -> Result<MapData, AllocError>
-    ensures { IfOk result (λ d. map_state d ≡ fresh_state (crate_map_id krate) edition [] fresh_crate) }
+    ensures { IfOk result (λ d. map_state d ≡ fresh_state (crate_map_id krate) [] (fresh_crate edition)) }
 {
     let map = MapId { krate, block: None };
     Ok(MapData {
         tree: root_tree(alloc, map, no_items(alloc))?,
-        edition,
         modules: root_modules(alloc, ModuleOrigin::CrateRoot)?,
-        recursion_limit: None,
-        no_core: false,
-        no_std: false,
-        rustc_coherence_is_core: false,
-        features: UnstableFeatures {
-            names: IndexSet::new(alloc),
-        },
-        registered_tools: tools_known(alloc)?,
-        exported_derives: IndexMap::new(alloc),
-        fn_as_proc_macro: IndexMap::new(alloc),
-        proc_macro_as_fn: IndexMap::new(alloc),
-        macro_by_position: IndexMap::new(alloc),
-        derive_helpers: IndexMap::new(alloc),
+        krate: new_crate(alloc, edition)?,
         prelude: None,
         macro_use_prelude: IndexMap::new(alloc),
+        derive_helpers: IndexMap::new(alloc),
+        macro_by_position: IndexMap::new(alloc),
     })
 }
 
@@ -125,16 +135,9 @@ fn rooted(alloc: Global, edition: Edition, block: BlockData, root: Root) -> MapD
         krate,
         block,
         containing,
-        recursion_limit,
-        no_core,
-        no_std,
-        rustc_coherence_is_core,
-        features,
-        registered_tools,
-        exported_derives,
-        fn_as_proc_macro,
-        proc_macro_as_fn,
+        mut data,
     } = block;
+    data.edition = edition;
     MapData {
         tree: ModuleTree {
             map: MapId {
@@ -144,20 +147,11 @@ fn rooted(alloc: Global, edition: Edition, block: BlockData, root: Root) -> MapD
             parents,
             containing,
         },
-        edition,
         modules,
-        recursion_limit,
-        no_core,
-        no_std,
-        rustc_coherence_is_core,
-        features,
-        registered_tools,
-        exported_derives,
-        fn_as_proc_macro,
-        proc_macro_as_fn,
-        macro_by_position: IndexMap::new(alloc),
-        derive_helpers: IndexMap::new(alloc),
+        krate: data,
         prelude: None,
         macro_use_prelude: IndexMap::new(alloc),
+        derive_helpers: IndexMap::new(alloc),
+        macro_by_position: IndexMap::new(alloc),
     }
 }

@@ -138,8 +138,9 @@ fn derive_of(key: usize) -> DeriveKey {
 fn write(alloc: Global, map: &mut MapData, key: usize) -> Result<(), AllocError> {
     map.set_child(0, Name(key), key)?;
     map.define_legacy_macro(0, Name(key), macro_of(key))?;
-    map.enable_feature(Name(key))?;
-    map.export_derive(macro_of(key), Seq::from_vec(Vec::new(alloc)))?;
+    map.krate.enable_feature(Name(key))?;
+    map.krate
+        .export_derive(macro_of(key), Seq::from_vec(Vec::new(alloc)))?;
     map.add_macro_use(Name(key), macro_of(key))?;
     let derive = DeriveMacroInvocation {
         call: MacroCallId(key),
@@ -166,8 +167,8 @@ fn module_has_at(module: &ModuleData, place: usize, key: usize) -> bool {
 
 /// Whether the maps of a crate have this key at a place.
 fn crate_has_at(map: &MapData, place: usize, key: usize) -> bool {
-    map.features.names.get_index(place) == Some(&Name(key))
-        && has_key(map.exported_derives.get_index(place), macro_of(key))
+    map.krate.unstable_features.names.get_index(place) == Some(&Name(key))
+        && has_key(map.krate.exported_derives.get_index(place), macro_of(key))
         && has_key(map.macro_use_prelude.get_index(place), Name(key))
 }
 

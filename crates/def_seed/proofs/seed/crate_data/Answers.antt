@@ -6,6 +6,5 @@ root_tree-requires c = rw c.no_items.ensures refl
 
 pub returns : goal.returns
 returns c =
-    rw (c.in_ok-root_tree.ensures.0, c.in_ok-root_tree.ensures.1, c.in_ok-root_tree.ensures.2, c.in_ok-root_modules.ensures, c.in_ok-tools_known.ensures)
-    (rw (c.no_items.ensures, c.new.ensures.empty, c.new-2.ensures.empty, c.new-3.ensures.empty)
-    (rw (c.new-4.ensures.empty, c.new-5.ensures.empty, c.new-6.ensures.empty, c.new-7.ensures.empty) refl))
+    rw (c.in_ok-root_tree.ensures.0, c.in_ok-root_tree.ensures.1, c.in_ok-root_tree.ensures.2, c.in_ok-root_modules.ensures, c.in_ok-new_crate.ensures)
+    (rw (c.no_items.ensures, c.new.ensures.empty, c.new-2.ensures.empty, c.new-3.ensures.empty) refl)

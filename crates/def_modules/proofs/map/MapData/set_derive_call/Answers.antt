@@ -1,4 +1,4 @@
-use Rattle.std.proofs.Common.{Result, Ok, rules}
+use Rattle.std.proofs.Common.{Ok, rules}
 use Rattle.def_modules.specs.Scopes.{called_at}
 use Rattle.def_modules.proofs.MapsLemmas.{module_changed, module_missing}
 use Rattle.def_modules.proofs.map.MapData.set_derive_call.Goals as goal

@@ -8,5 +8,4 @@ use Rattle.def_modules.proofs.map.MapData.set_macro_at.Goals as goal
 pub returns : goal.returns
 returns c =
     let e = rekeyed derived_position_eq position_eq positions_same c.args.self.now.macro_by_position c.insert.new.self c.args.position (Some c.args.id) c.in_ok-insert.ensures.updates.0 in
-    let s = map_state c.args.self.now in
-    ap (λ f. record s { krate = record s.krate { macro_at = f } }) e
+    ap (λ f. record (map_state c.args.self.now) { macro_at = f }) e

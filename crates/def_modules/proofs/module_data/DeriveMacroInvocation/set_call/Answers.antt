@@ -1,4 +1,4 @@
-use Rattle.std.proofs.Common.{◌≡◌, ◌<◌, ◌≤◌, Some, length, vec_len, ap, sym, arith, rules}
+use Rattle.std.proofs.Common.{◌<◌, ◌≤◌, Some, vec_len, ap, sym, arith, rules}
 use Rattle.def_modules.specs.ScopeMaps.{derive_state}
 use Rattle.def_modules.proofs.MapsLemmas.{set-update, missing}
 use Rattle.def_modules.proofs.module_data.DeriveMacroInvocation.set_call.Goals as goal

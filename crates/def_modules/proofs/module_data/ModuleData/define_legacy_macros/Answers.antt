@@ -1,4 +1,4 @@
-use Rattle.std.proofs.Common.{ap, ◌∙◌, rules}
+use Rattle.std.proofs.Common.{ap, ◌∙◌}
 use Rattle.def_modules.specs.Scopes.{module_state, with_textual, with_textual_of}
 use Rattle.def_modules.proofs.LegacyLemmas.{pair_defined}
 use Rattle.def_modules.proofs.module_data.ModuleData.define_legacy_macros.Goals as goal

@@ -1,4 +1,4 @@
-use Rattle.std.proofs.Common.{◌≡◌, ◌++◌, sym, ap, ◌∙◌, reverse, arith, rules}
+use Rattle.std.proofs.Common.{◌≡◌, ◌++◌, sym, ap, ◌∙◌, reverse, arith}
 use Rattle.std.proofs.lemmas.List.{take_all}
 use Rattle.def_modules.specs.ScopeMaps.{last_macros, named_first}
 use Rattle.def_modules.proofs.LegacyLemmas.{are_last, last_more}

@@ -1,5 +1,5 @@
 use Rattle.std.proofs.Common.{rules}
-use Rattle.def_modules.proofs.map.MapData.pair_proc_macro.Goals as goal
+use Rattle.def_modules.proofs.crate_data.DefMapCrateData.pair_proc_macro.Goals as goal
 
 pub returns : goal.returns
 returns c = search rules
