@@ -1,0 +1,17 @@
+pub mod Tables
+pub mod TableLemmas
+pub mod Trees
+pub mod Vectors
+pub mod Rows
+pub mod RowLemmas
+pub mod Empty
+pub mod OneStruct
+pub mod Plain
+pub mod Cycle
+pub mod Excluded
+pub mod EmptyAlone
+pub mod OutcomeLemmas
+pub mod Ring
+pub mod Private
+pub mod OneStructAlone
+pub mod Excused

@@ -1,0 +1,171 @@
+-- Each answer of `pub struct S;` binds S, whatever run is taken: so the map as it was seeded, with nothing bound, is no answer.
+use Rattle.std.proofs.Common.{◌≡◌, inl, inr, ℕ, Some, None, List, [], ◌∷◌, ◌++◌, IsPermutation, refl, sym, subst, ap, ◌∙◌, append-nil}
+use Rattle.def_ids.specs.declared.ids.Def.TheVariants.{Struct}
+use Rattle.def_ids.specs.Session.{Session}
+use Rattle.def_bindings.specs.declared.bindings.Binding.{Binding}
+use Rattle.def_bindings.specs.declared.bindings.Namespace.{Namespace}
+use Rattle.def_bindings.specs.declared.bindings.Namespace.TheVariants.{Types, Values}
+use Rattle.def_bindings.specs.declared.visibility.Visibility.{Visibility}
+use Rattle.def_bindings.specs.declared.visibility.Visibility.TheVariants.{Public}
+use Rattle.def_bindings.specs.Content.{Content, empty}
+use Rattle.def_globs.proofs.ListLaws.{none_in, only_in}
+use Rattle.def_laws.proofs.RunsLaws.{kept_along}
+use Rattle.def_rules.specs.Headline.{Answers}
+use Rattle.def_rules.specs.Items.{put_declared}
+use Rattle.def_rules.specs.Report.{Answer}
+use Rattle.def_rules.specs.Settled.{IsDeclared}
+use Rattle.def_rules.specs.Start.{first_site, start}
+use Rattle.def_rules.specs.State.{Site, State, Effect, Task, Enter, Visit, Event, PutExplicit, Moment, after, with_content, with_state}
+use Rattle.def_rules.specs.Steps.{Does, Step, performs, copies, rearranges, records}
+use Rattle.def_runs.proofs.OneStruct.{S, setting}
+use Rattle.def_runs.proofs.RowLemmas.{none_in_any_order, none_recorded}
+use Rattle.def_runs.proofs.Rows.{module_at, no_session}
+
+-- where the items of the root stand
+abbrev root : Site
+root = first_site setting.oracle setting.seeded setting.tree
+
+-- S, by some number
+abbrev held : ℕ → Binding Visibility
+held n = record { def = Struct (record { 0 = n }); vis = Public; import = None }
+
+-- it is put in a namespace, and that is an event
+abbrev put_in : Namespace → ℕ → Task
+put_in ns n = put_declared (module_at 0) S ns (Struct (record { 0 = n })) Public
+
+abbrev was_put_in : Namespace → ℕ → Event
+was_put_in ns n = PutExplicit (module_at 0) S ns (held n)
+
+-- how far a run has come
+data Stage (m : Moment) : Type 0 where
+  begins : m.tasks ≡ Enter root.scope root.directory ∷ Visit root (record { 0 = 0 }) ∷ [] → m.events ≡ [] → Stage m
+  visits : m.tasks ≡ Visit root (record { 0 = 0 }) ∷ [] → m.events ≡ [] → Stage m
+  puts_types : (n : ℕ) → m.tasks ≡ put_in Types n ∷ put_in Values n ∷ [] → m.events ≡ [] → Stage m
+  puts_values : (n : ℕ) → m.tasks ≡ put_in Values n ∷ [] → m.events ≡ was_put_in Types n ∷ [] → Stage m
+  ends : (n : ℕ) → m.tasks ≡ [] → m.events ≡ was_put_in Types n ∷ was_put_in Values n ∷ [] → Stage m
+
+-- and no import ever waits
+record IsOnWay (m : Moment) : Type 0 where
+  stage : Stage m
+  imports : m.state.imports ≡ []
+
+-- a run goes on where a task's effect is known
+record Moves (a : Moment) (rest : List Task) (effect : Effect) : Type 0 where
+  stage : Stage (after a rest effect)
+  imports : effect.state.imports ≡ []
+
+-- the directory of the root is stored
+enters : (a : Moment) (rest : List Task) (effect : Effect) → IsOnWay a → a.events ≡ [] → rest ≡ Visit root (record { 0 = 0 }) ∷ [] → Does setting.oracle a.state (Enter root.scope root.directory) effect → Moves a rest effect
+enters a rest effect way none left does =
+    subst (Moves a rest) (sym does) (record { stage = visits left (append-nil a.events ∙ none); imports = way.imports })
+
+-- the struct is visited, in a session that may have more, and gets some number
+visited : (a : Moment) (rest : List Task) (effect : Effect) → IsOnWay a → a.events ≡ [] → rest ≡ [] → Does setting.oracle a.state (Visit root (record { 0 = 0 })) effect → Moves a rest effect
+visited a rest effect way none left does =
+    let n = does.2.0 in
+    subst (Moves a rest) (sym does.2.2) (record {
+      stage = puts_types n (ap (λ l. put_in Types n ∷ put_in Values n ∷ l) left) (append-nil a.events ∙ none);
+      imports = way.imports;
+    })
+
+-- its entries are put
+types_put : (a : Moment) (rest : List Task) (effect : Effect) (n : ℕ) → IsOnWay a → a.events ≡ [] → rest ≡ put_in Values n ∷ [] → Does setting.oracle a.state (put_in Types n) effect → Moves a rest effect
+types_put a rest effect n way none left does =
+    subst (Moves a rest) (sym does) (record { stage = puts_values n left (ap (λ es. es ++ was_put_in Types n ∷ []) none); imports = way.imports })
+
+values_put : (a : Moment) (rest : List Task) (effect : Effect) (n : ℕ) → IsOnWay a → a.events ≡ was_put_in Types n ∷ [] → rest ≡ [] → Does setting.oracle a.state (put_in Values n) effect → Moves a rest effect
+values_put a rest effect n way before left does =
+    subst (Moves a rest) (sym does) (record { stage = ends n left (ap (λ es. es ++ was_put_in Values n ∷ []) before); imports = way.imports })
+
+-- a task is performed
+performed : (a : Moment) (task : Task) (rest : List Task) (effect : Effect) → a.tasks ≡ task ∷ rest → Does setting.oracle a.state task effect → IsOnWay a → Moves a rest effect
+performed a task rest effect first does way = by way.stage
+  where
+    by : Stage a → Moves a rest effect
+    by (begins todo none) =
+        let same : task ≡ Enter root.scope root.directory = cc in
+        let left : rest ≡ Visit root (record { 0 = 0 }) ∷ [] = cc in
+        enters a rest effect way none left (subst (λ t. Does setting.oracle a.state t effect) same does)
+    by (visits todo none) =
+        let same : task ≡ Visit root (record { 0 = 0 }) = cc in
+        let left : rest ≡ [] = cc in
+        visited a rest effect way none left (subst (λ t. Does setting.oracle a.state t effect) same does)
+    by (puts_types n todo none) =
+        let same : task ≡ put_in Types n = cc in
+        let left : rest ≡ put_in Values n ∷ [] = cc in
+        types_put a rest effect n way none left (subst (λ t. Does setting.oracle a.state t effect) same does)
+    by (puts_values n todo before) =
+        let same : task ≡ put_in Values n = cc in
+        let left : rest ≡ [] = cc in
+        values_put a rest effect n way before left (subst (λ t. Does setting.oracle a.state t effect) same does)
+    by (ends n todo happened) = absurd cc
+
+-- what changes neither what is to be done nor what happened
+stays : (a : Moment) (s : State) → s.imports ≡ [] → IsOnWay a → IsOnWay (with_state a s)
+stays a s no_imports way = record { stage = by way.stage; imports = no_imports }
+  where
+    by : Stage a → Stage (with_state a s)
+    by (begins todo none) = begins todo none
+    by (visits todo none) = visits todo none
+    by (puts_types n todo none) = puts_types n todo none
+    by (puts_values n todo before) = puts_values n todo before
+    by (ends n todo happened) = ends n todo happened
+
+goes_on : (a b : Moment) → Step setting.oracle a b → IsOnWay a → IsOnWay b
+goes_on a b (performs task rest effect first does is) way =
+    let moves = performed a task rest effect first does way in
+    subst IsOnWay (sym is) (record { stage = moves.stage; imports = moves.imports })
+goes_on a b (copies content copy is) way = subst IsOnWay (sym is) (stays a (with_content a.state content) way.imports way)
+goes_on a b (rearranges s same is) way =
+    subst IsOnWay (sym is)
+    (stays a s (none_in_any_order s.imports (subst (λ ps. IsPermutation ps s.imports) way.imports same.imports)) way)
+goes_on a b (records effect idle step is) way = absurd (none_recorded setting.oracle a.state effect way.imports step)
+
+sets_out : IsOnWay (start setting no_session)
+sets_out = record { stage = begins refl refl; imports = refl }
+
+-- S is bound in types and in values, to one struct, public, by declaration
+record Binds (c : Content Visibility) : Type 0 where
+  number : ℕ
+  types : c.binding (module_at 0) S Types ≡ Some (held number)
+  values : c.binding (module_at 0) S Values ≡ Some (held number)
+
+-- where nothing is left to do, both puts happened, and what was put stands
+arrived : (m : Moment) → m.tasks ≡ [] → IsDeclared m.events m.state.content → IsOnWay m → Binds m.state.content
+arrived m done declared way = by way.stage
+  where
+    by : Stage m → Binds m.state.content
+    by (begins todo none) = absurd cc
+    by (visits todo none) = absurd cc
+    by (puts_types n todo none) = absurd cc
+    by (puts_values n todo before) = absurd cc
+    by (ends n todo happened) = record { number = n; types = in_types; values = in_values }
+      where
+        in_types : m.state.content.binding (module_at 0) S Types ≡ Some (held n)
+        in_types =
+            let stands = declared [] (was_put_in Values n ∷ []) (module_at 0) S Types (held n) happened in
+            elim stands.2 [
+              | inl same ↦ stands.1 ∙ ap Some same
+              | inr before ↦ absurd (none_in _ before)
+            ]
+
+        in_values : m.state.content.binding (module_at 0) S Values ≡ Some (held n)
+        in_values =
+            let stands = declared (was_put_in Types n ∷ []) [] (module_at 0) S Values (held n) happened in
+            elim stands.2 [
+              | inl same ↦ stands.1 ∙ ap Some same
+              | inr before ↦ absurd (let wrong = only_in (was_put_in Types n) _ before in cc)
+            ]
+
+module _ (after : Session) (answer : Answer) (answers : Answers setting no_session after answer) where
+  s_is_bound : Binds answer.content
+  s_is_bound =
+      subst Binds (sym answers.answered.content)
+      (arrived answers.run.end answers.run.done answers.declared (kept_along {oracle = setting.oracle} IsOnWay goes_on answers.run.runs sets_out))
+
+  -- so an answer in which nothing is bound is none
+  nothing_bound_is_no_answer : answer.content ≡ empty → ⊥
+  nothing_bound_is_no_answer nothing =
+      let bound = s_is_bound.types in
+      let unbound = ap (λ (c : Content Visibility). c.binding (module_at 0) S Types) nothing in
+      cc

@@ -1,0 +1,150 @@
+-- What rows share of their answers: what follows of each run is cited, and only what is special of a row is left to it.
+use Rattle.std.proofs.Common.{◌≡◌, ℕ, List, [], ◌∷◌, true, Some, None, slice_get, refl, sym, subst, ap, ◌∙◌, IsPermutation, Contains, Bool, not, inl, inr}
+use Rattle.std.proofs.lemmas.List.Sorted.{Contains-permutation, IsPermutation-sym}
+use Rattle.std.proofs.lemmas.Bool.{and_parts}
+use Rattle.std.specs.List.{IsDistinct, list_all}
+use Rattle.def_ids.specs.declared.ids.ModuleId.{ModuleId}
+use Rattle.def_ids.specs.Session.{Session}
+use Rattle.def_bindings.specs.declared.bindings.EdgeTo.{EdgeTo}
+use Rattle.def_bindings.specs.declared.bindings.Slot.{Slot}
+use Rattle.def_bindings.specs.declared.visibility.Visibility.{Visibility}
+use Rattle.def_bindings.specs.Closure.{IsClosed, IsCoherent}
+use Rattle.def_bindings.specs.Content.{Content}
+use Rattle.def_bindings.specs.Order.{Order}
+use Rattle.def_bindings.specs.Puts.{copied}
+use Rattle.def_globs.proofs.ListLaws.{first_in, in_cases, none_in}
+use Rattle.def_globs.specs.Raised.{IsRaisedAt}
+use Rattle.def_oracle.specs.Oracle.{Oracle}
+use Rattle.def_laws.proofs.DeclaredLaws.{declared_along, was_put_along}
+use Rattle.def_laws.proofs.EveryNamespaceLaws.{every_namespace_along}
+use Rattle.def_laws.proofs.StaysLaws.{explicit_stays_along}
+use Rattle.def_rules.specs.declared.outcome.Outcome.{Outcome}
+use Rattle.def_rules.specs.Headline.{Answers}
+use Rattle.def_rules.specs.Imports.{answer_now, is_ready, unresolved_imports}
+use Rattle.def_rules.specs.Recording.{ImportStep, NoneReady, import_effect}
+use Rattle.def_rules.specs.Report.{Answer, AreTargets, IsOutcome, marked, report}
+use Rattle.def_rules.specs.Start.{start}
+use Rattle.def_rules.specs.State.{Setting, State, Effect, Moment, ImportDirective, after, order, with_content, with_state}
+use Rattle.def_rules.specs.Steps.{Reaches, one, copies, records}
+use Rattle.def_rules.specs.Targets.{leaves_out, target_of}
+use Rattle.def_runs.proofs.TableLemmas.{is_false}
+
+-- a list in its own order
+pub same_order : {X : Type 0} (xs : List X) → IsPermutation xs xs
+same_order xs = record { moves = []; below = tt; is = refl }
+
+-- the moment after an import was recorded, with what its path gives
+abbrev pub moment_after : Oracle → Moment → ImportDirective → List ImportDirective → Moment
+moment_after oracle a directive rest = after a [] (import_effect oracle a.state directive rest (answer_now oracle a.state directive.import))
+
+-- the first import that waits is recorded
+pub import_recorded : (oracle : Oracle) (a : Moment) (directive : ImportDirective) (rest : List ImportDirective) → a.tasks ≡ [] → a.state.imports ≡ directive ∷ rest
+    → is_ready directive.recorded (answer_now oracle a.state directive.import) ≡ true
+    → Reaches oracle a (moment_after oracle a directive rest)
+import_recorded oracle a directive rest idle first ready =
+    let stands = subst (λ ds. IsPermutation a.state.imports ds) first (same_order a.state.imports) in
+    one (records _ idle (record { directive = directive; rest = rest; stands = stands; ready = ready; is = refl }) refl)
+
+-- one slot is copied along an edge
+pub copied_along : (oracle : Oracle) (a : Moment) (source : ModuleId) (index : ℕ) (edge : EdgeTo Visibility) (slot : Slot) → slice_get (a.state.content.edges source) index ≡ Some edge
+    → Reaches oracle a (with_state a (with_content a.state (copied (order a.state) source edge slot a.state.content)))
+copied_along oracle a source index edge slot stands = one (copies _ (record { source = source; index = index; edge = edge; slot = slot; stands = stands; after = refl }) refl)
+
+-- no glob was recorded, and none is listed
+pub no_targets : AreTargets (λ glob. None) []
+unfolding IsDistinct
+no_targets = record { once = tt; all = λ glob. refl }
+
+-- whether an import that may still be recorded is not ready
+abbrev pub waits_on : Oracle → State → ImportDirective → Bool
+waits_on oracle s directive = not (is_ready directive.recorded (answer_now oracle s directive.import))
+
+-- whether no import is ready, as a test that computes
+abbrev pub none_is_ready : Oracle → State → Bool
+none_is_ready oracle s = list_all (waits_on oracle s) s.imports
+
+-- what passes at each of a list passes at what the list contains
+passes_in : {X : Type 0} (test : X → Bool) (xs : List X) (x : X) → list_all test xs ≡ true → Contains xs x → test x ≡ true
+passes_in test [] x all h = absurd (none_in x h)
+passes_in test (y ∷ ys) x all h =
+    elim (in_cases y ys x h) [
+      | inl same ↦ subst (λ z. test z ≡ true) (sym same) (and_parts (test y) (list_all test ys) all).0
+      | inr rest ↦ passes_in test ys x (and_parts (test y) (list_all test ys) all).1 rest
+    ]
+
+-- no import is ready where the test says so
+pub settled_by_test : (oracle : Oracle) (s : State) → none_is_ready oracle s ≡ true → NoneReady oracle s
+settled_by_test oracle s passes =
+    record { none = λ directive h. is_false (is_ready directive.recorded (answer_now oracle s directive.import)) (passes_in (waits_on oracle s) s.imports directive passes h) }
+
+-- nothing in any order is nothing
+pub none_in_any_order : {X : Type 0} (ys : List X) → IsPermutation [] ys → ys ≡ []
+none_in_any_order [] same = refl
+none_in_any_order (y ∷ ys) same = absurd (none_in y (Contains-permutation (y ∷ ys) [] y (IsPermutation-sym [] (y ∷ ys) same) (first_in y ys)))
+
+-- no import is recorded where none is left
+pub none_recorded : (oracle : Oracle) (s : State) (effect : Effect) → s.imports ≡ [] → ImportStep oracle s effect → ⊥
+none_recorded oracle s effect no_imports step =
+    let none = none_in_any_order (step.directive ∷ step.rest) (subst (λ ds. IsPermutation ds (step.directive ∷ step.rest)) no_imports step.stands) in cc
+
+-- nor where none is ready
+pub none_recorded_unready : (oracle : Oracle) (s : State) (effect : Effect) → NoneReady oracle s → ImportStep oracle s effect → ⊥
+none_recorded_unready oracle s effect none step =
+    let all = step.directive ∷ step.rest in
+    let not_ready = none.none step.directive (Contains-permutation all s.imports step.directive (IsPermutation-sym s.imports all step.stands) (first_in step.directive step.rest)) in
+    let ready = step.ready in
+    cc
+
+-- what is answered of an end, with this outcome
+abbrev pub answer_of : State → Outcome → Answer
+answer_of end outcome = record { map = marked end.map (unresolved_imports end.imports); content = end.content; local = end.local; outcome = outcome; diagnostics = report end }
+
+-- the answer of a run's end is right where names are closed, coherent and raised at the end, and no import is ready
+pub answers : (w : Setting) (before : Session) (end : Moment) (outcome : Outcome) → Reaches w.oracle (start w before) end → end.tasks ≡ [] → none_is_ready w.oracle end.state ≡ true
+    → IsOutcome end.state outcome
+    → IsClosed (order end.state) (leaves_out end.state) end.state.content
+    → IsCoherent (order end.state) (leaves_out end.state) (target_of end.state.map.id end.state.targets) end.state.content
+    → ((importer : ModuleId) (slot : Slot) → IsRaisedAt (order end.state) end.state.content importer slot)
+    → Answers w before end.state.session (answer_of end.state outcome)
+answers w before end outcome runs done passes shown closed coherent raised =
+    let settled = settled_by_test w.oracle end.state passes in
+    record {
+      run = record { end = end; runs = runs; done = done };
+      session = refl;
+      answered = record { map = refl; content = refl; local = refl; outcome = shown };
+      closed = closed;
+      coherent = coherent;
+      raised = λ importer slot kept. raised importer slot;
+      declared = declared_along runs refl refl;
+      was_put = was_put_along runs refl refl;
+      explicit_stays = λ a b run. explicit_stays_along run.goes_on;
+      settled = record { imports = settled };
+      every_namespace = every_namespace_along runs refl refl done settled;
+      reported = refl;
+    }
+
+-- no edge stands
+abbrev NoEdge : Content Visibility → Type 0
+NoEdge c = (source : ModuleId) → c.edges source ≡ []
+
+-- names are closed, coherent and raised where no edge stands and no glob was recorded
+closed_without : (o : Order Visibility) (left_out : ModuleId → Bool) (c : Content Visibility) → NoEdge c → IsClosed o left_out c
+closed_without o left_out c none source index edge slot b at left h sees =
+    let at_none = sym (ap (λ es. slice_get es index) (none source)) ∙ at in absurd cc
+
+coherent_without : (o : Order Visibility) (left_out : ModuleId → Bool) (c : Content Visibility) (s : State) → s.targets ≡ (λ glob. None) → IsCoherent o left_out (target_of s.map.id s.targets) c
+coherent_without o left_out c s none = subst (λ ts. IsCoherent o left_out (target_of s.map.id ts) c) (sym none) (λ importer name ns b glob target at by leads. absurd cc)
+
+raised_without : (o : Order Visibility) (c : Content Visibility) → NoEdge c → (importer : ModuleId) (slot : Slot) → IsRaisedAt o c importer slot
+raised_without o c none importer slot source index edge at =
+    let at_none = sym (ap (λ es. slice_get es index) (none source)) ∙ at in absurd cc
+
+-- so the answer of a run in which no glob was recorded is right where no import is ready
+pub answers_without : (w : Setting) (before : Session) (end : Moment) (outcome : Outcome) → Reaches w.oracle (start w before) end → end.tasks ≡ [] → none_is_ready w.oracle end.state ≡ true
+    → IsOutcome end.state outcome → NoEdge end.state.content → end.state.targets ≡ (λ glob. None)
+    → Answers w before end.state.session (answer_of end.state outcome)
+answers_without w before end outcome runs done passes shown none no_target =
+    answers w before end outcome runs done passes shown
+    (closed_without (order end.state) (leaves_out end.state) end.state.content none)
+    (coherent_without (order end.state) (leaves_out end.state) end.state.content end.state no_target)
+    (raised_without (order end.state) end.state.content none)
