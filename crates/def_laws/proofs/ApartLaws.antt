@@ -25,7 +25,8 @@ use Rattle.def_laws.specs.Roles.{Role, puts, links, stays, adds_edge, does_more,
 use Rattle.def_rules.specs.Imports.{answer_now, bound_name, import_vis, named_entries}
 use Rattle.def_rules.specs.Recording.{ImportStep, after_import, edge_tasks, glob_def, glob_edge, glob_tasks, is_own_crate, record_effect, record_tasks}
 use Rattle.def_rules.specs.Globs.{module_entries, variant_entries}
-use Rattle.def_laws.proofs.FootprintLaws.{ArePlain, Footprint, IsPlain}
+use Rattle.def_laws.proofs.FootprintLaws.{Footprint}
+use Rattle.def_laws.proofs.PlainLaws.{ArePlain, IsPlain}
 use Rattle.def_laws.proofs.MovesLaws.{AreStill, Move, putting, linking, doing, copying, sorting, recording, move_of}
 use Rattle.def_laws.proofs.RunsLaws.{kept_along}
 use Rattle.def_rules.specs.State.{State, Effect, Moment, Import, Task, Put, AddEdge, order, put_each, with_content, world}

@@ -25,7 +25,7 @@ use Rattle.def_rules.specs.Items.{top_items, tree_cfg}
 use Rattle.def_rules.specs.Start.{first_site, first_tasks, first_tree, first_walk, seeded_state, started}
 use Rattle.def_rules.specs.State.{Setting, Site}
 use Rattle.def_laws.proofs.ApartLaws.{plain_adds}
-use Rattle.def_laws.proofs.FootprintLaws.{ArePlain, own_walk, plain_walk}
+use Rattle.def_laws.proofs.PlainLaws.{ArePlain, own_walk, plain_walk}
 
 -- what the map of a fresh crate or block has of modules
 pub record HasRoot (m : MapState) : Type 0 where

@@ -1,5 +1,5 @@
 -- What a rule does to a run, as laws read it.
-use Rattle.std.proofs.Common.{◌≡◌, ◌⊎◌, ℕ, Bool, true, false, List, [], ◌∷◌, ◌++◌, length, Option, Some, None, Result, Ok, Err, Contains, refl, sym, ap, ◌∙◌, subst, inl, inr}
+use Rattle.std.proofs.Common.{◌≡◌, ◌⊎◌, ℕ, Bool, true, false, List, [], ◌∷◌, length, Option, Some, None, Result, Ok, Err, Contains, refl, sym, ap, subst, inl, inr}
 use Rattle.std.proofs.lemmas.List.Elements.{Contains-append_cases}
 use Rattle.item_tree.specs.declared.ids.CfgExpr.{CfgExpr}
 use Rattle.item_tree.specs.declared.ids.ModItemId.{ModItemId}
@@ -20,7 +20,7 @@ use Rattle.def_ids.specs.declared.ids.UseId.{UseId}
 use Rattle.def_bindings.specs.declared.bindings.ImportOrExternCrate.TheVariants.{Glob, ExternCrate as ByCrate}
 use Rattle.def_bindings.specs.declared.bindings.Namespace.TheVariants.{Types}
 use Rattle.def_bindings.specs.declared.visibility.Visibility.{Visibility}
-use Rattle.def_bindings.specs.Puts.{IsExplicit, Origin, glob_of}
+use Rattle.def_bindings.specs.Puts.{IsExplicit, Origin}
 use Rattle.def_modules.specs.declared.module_data.ModuleOrigin.{ModuleOrigin}
 use Rattle.def_modules.specs.declared.module_data.ModuleOrigin.TheVariants as origin
 use Rattle.def_modules.specs.MapState.{MapState, ModuleState}
@@ -30,11 +30,10 @@ use Rattle.def_parts.specs.Directories.{Directory, FoundFile, descend}
 use Rattle.def_globs.proofs.ListLaws.{none_in, in_cases}
 use Rattle.def_rules.specs.declared.diagnostics.DefDiagnosticKind.TheVariants.{UnresolvedModule}
 use Rattle.def_laws.specs.Finished.{NoneFailed}
-use Rattle.def_laws.specs.Followed.{AreFollowed, IsFollowed}
-use Rattle.def_laws.specs.Roles.{Role, puts, links, stays, role_of}
+use Rattle.def_laws.specs.Roles.{stays}
 use Rattle.def_laws.specs.Own.{AreOwnTasks, IsOwn, IsRecorded}
 use Rattle.def_rules.specs.Globs.{Targets}
-use Rattle.def_rules.specs.Items.{ctor_task, diagnostic, ctor_vis, is_crate_root, is_prelude_import, node_at, noted_in, ordered, new_imports, position_of, put_declared, top_items, tree_cfg, visits, walk, written_vis}
+use Rattle.def_rules.specs.Items.{ctor_task, diagnostic, ctor_vis, is_crate_root, is_prelude_import, node_at, noted_in, new_imports, position_of, put_declared, top_items, tree_cfg, walk, written_vis}
 use Rattle.def_rules.specs.Modules.{add_module, file_tree, inline_contents, inner_site, module_item, name_text, next_module, outline_found, outline_item}
 use Rattle.def_rules.specs.ExternCrates.{crate_effect, crate_entry, crate_name, named_crate, naming_crate}
 use Rattle.def_rules.specs.Rules.{Visits, VisitsAt, VisitsNode, Rule, Follows, rule_of, declares, declares_struct, opens_module, opens_block, queues, binds_crate, notes_impl, notes_const}
@@ -44,53 +43,7 @@ use Rattle.def_laws.proofs.SoundLaws.{IsLarger}
 use Rattle.def_laws.proofs.AddedLaws.{AddsNew, added_new, none_added}
 use Rattle.def_laws.proofs.CleanLaws.{IsClean, none_failed-add_module, none_failed-with_module}
 use Rattle.def_laws.proofs.LargerLaws.{larger_add_module, larger_refl, larger_with_module, own_next}
-
--- Tasks
-
--- what a role puts is for no glob, and it adds no edge
-abbrev pub IsPlain : Role → Type 0
-IsPlain (puts at entry) = IsExplicit entry.origin
-IsPlain (links source edge) = ⊥
-IsPlain stays = Unit {0}
-
--- no task is for a glob
-abbrev pub ArePlain : List Task → Type 0
-ArePlain [] = Unit {0}
-ArePlain (task ∷ tasks) = IsPlain (role_of task) × ArePlain tasks
-
--- the first of plain tasks are plain
-pub plain_first : (xs ys : List Task) → ArePlain (xs ++ ys) → ArePlain xs
-plain_first [] ys h = tt
-plain_first (task ∷ xs) ys h = (h.0, plain_first xs ys h.1)
-
-explicit_by : (origin : Origin) (g : GlobId) → IsExplicit origin → origin ≡ Some (Glob g) → ⊥
-explicit_by origin g explicit by = let wrong : None ≡ Some g = sym explicit ∙ ap glob_of by in cc
-
--- and need no edge
-pub plain_followed : (T : GlobId → Option ModuleId) (tasks : List Task) → ArePlain tasks → AreFollowed T tasks
-plain_followed T [] h = tt
-plain_followed T (task ∷ tasks) h = (by_role (role_of task) h.0, plain_followed T tasks h.1)
-  where
-    by_role : (role : Role) → IsPlain role → IsFollowed T role tasks
-    by_role (puts at entry) plain = λ g by. absurd (explicit_by entry.origin g plain by)
-    by_role (links source edge) plain = absurd plain
-    by_role stays plain = tt
-
-plain_visits : (site : Site) (ids : List ModItemId) → ArePlain (visits site ids)
-plain_visits site [] = tt
-plain_visits site (id ∷ ids) = (tt, plain_visits site ids)
-
-own_visits : (m : MapState) (targets : Targets) (site : Site) (ids : List ModItemId) → IsOwn m site.scope → AreOwnTasks m targets (visits site ids)
-own_visits m targets site [] own = tt
-own_visits m targets site (id ∷ ids) own = ((own, tt), own_visits m targets site ids own)
-
--- a walk in a module of the map
-pub own_walk : (oracle : Oracle) (m : MapState) (targets : Targets) (site : Site) (ids : List ModItemId) → IsOwn m site.scope → AreOwnTasks m targets (walk oracle site ids)
-own_walk oracle m targets site ids own = ((own, tt), own_visits m targets site (ordered (oracle.item_tree site.tree) site.scope ids) own)
-
--- and a plain one
-pub plain_walk : (oracle : Oracle) (site : Site) (ids : List ModItemId) → ArePlain (walk oracle site ids)
-plain_walk oracle site ids = (tt, plain_visits site (ordered (oracle.item_tree site.tree) site.scope ids))
+use Rattle.def_laws.proofs.PlainLaws.{ArePlain, own_walk, plain_walk, explicit_by}
 
 -- Footprints
 

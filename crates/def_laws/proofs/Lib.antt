@@ -3,6 +3,7 @@ pub mod SoundLaws
 pub mod BroughtLaws
 pub mod LargerLaws
 pub mod CleanLaws
+pub mod PlainLaws
 pub mod FootprintLaws
 pub mod MovesLaws
 pub mod OwnLaws

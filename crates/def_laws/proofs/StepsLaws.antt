@@ -26,7 +26,8 @@ use Rattle.def_rules.specs.State.{State, Effect, Site, Task, Enter, Visit, Rearr
 use Rattle.def_rules.specs.Steps.{Does, one, rearranges, records}
 use Rattle.def_laws.specs.Runs.{Leads}
 use Rattle.def_laws.proofs.ApartLaws.{apart_along}
-use Rattle.def_laws.proofs.FootprintLaws.{ArePlain, plain_first, plain_followed, visits_footprint}
+use Rattle.def_laws.proofs.FootprintLaws.{visits_footprint}
+use Rattle.def_laws.proofs.PlainLaws.{ArePlain, plain_first, plain_followed}
 use Rattle.def_laws.proofs.SoundLaws.{sound_larger, sound_wave}
 use Rattle.def_laws.proofs.StandsLaws.{import_sound, stands_along, stands_first}
 use Rattle.def_laws.proofs.TargetsLaws.{puts_nowhere}

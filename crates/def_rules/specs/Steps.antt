@@ -51,7 +51,7 @@ pub data Step (oracle : Oracle) (a b : Moment) : Type 0 where
   performs : (task : Task) (rest : List Task) (effect : Effect) → a.tasks ≡ task ∷ rest → Does oracle a.state task effect → b ≡ after a rest effect → Step oracle a b
   -- something is copied along an edge
   copies : (content : Content Visibility) → Copies a.state content → b ≡ with_state a (with_content a.state content) → Step oracle a b
-  -- the bags are put into another order
+  -- the imports that are not resolved are put into another order
   rearranges : (state : State) → Rearranges a.state state → b ≡ with_state a state → Step oracle a b
   -- where nothing is left to do, an import that is ready is recorded
   records : (effect : Effect) → a.tasks ≡ [] → ImportStep oracle a.state effect → b ≡ after a [] effect → Step oracle a b
