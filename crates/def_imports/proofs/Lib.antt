@@ -1,2 +1,3 @@
+pub mod GlobLemmas
 pub mod PassLemmas
 pub mod TriesLemmas

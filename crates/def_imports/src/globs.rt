@@ -1,25 +1,25 @@
 //! Globs: what one brings, what it was recorded with, and its edge.
 ghost use Rattle.std.specs.Prelude.{◌≡◌, Some, IfOk, OnOk};
-ghost use Rattle.std.specs.List.{flat_map};
-ghost use Rattle.def_ids.specs.declared.ids.Def.TheVariants as def_kind;
-ghost use Rattle.def_ids.specs.declared.interner.Interner.{Interner};
-ghost use Rattle.def_map.specs.Answers.{variants_of};
-ghost use Rattle.def_map.specs.Paths.{for_import, map_of, question};
+ghost use Rattle.def_map.specs.Asking.{world_lent};
+ghost use Rattle.def_map.specs.Oracle.{Oracle};
+ghost use Rattle.def_modules.specs.Tables.{bound_by};
+ghost use Rattle.def_items.specs.Parts.{with_parts};
 ghost use Rattle.def_laws.specs.Performs.{Performs, target_state};
 ghost use Rattle.def_steps.specs.Shown.{import_of};
 ghost use Rattle.def_state.specs.Collector.{state_of};
-ghost use Rattle.def_rules.specs.Globs.{module_entries, variant_entries};
+ghost use Rattle.def_imports.specs.GlobEntries.{edge_source, entries_of_enum, entries_of_glob, entries_of_module};
 ghost use Rattle.def_rules.specs.Imports.{import_vis};
 ghost use Rattle.def_rules.specs.Recording.{glob_edge, glob_id, glob_tasks, is_own_crate, types_def};
-ghost use Rattle.def_rules.specs.State.{order, with_content, world};
-ghost use Rattle.def_globs.specs.Globs.{with_recorded};
+ghost use Rattle.def_rules.specs.State.{State, world};
 
 use def_bindings::{EdgeTo, Entry, Visibility};
-use def_ids::{Def, EnumId, Interner, LocationId, ModuleId};
-use def_map::{ResolvePathResult, SourceDatabase, finished_map};
+use def_globs::Globs;
+use def_ids::{Def, EnumId, Interner, LocationId, MapId, ModuleId};
+use def_items::put;
+use def_map::{MapData, ResolvePathResult, SourceDatabase, Table, World, finished_map};
 use def_state::DefCollector;
 use def_steps::{GlobScope, Import, add_target, kept_item, variants_entries};
-use std::alloc::AllocError;
+use std::alloc::{AllocError, Global};
 
 /// Records a glob with the definition that its path gives: puts what it brings, and adds its
 /// edge last. On `Err` nothing but safety is promised.
@@ -37,128 +37,109 @@ pub fn record_glob<'a, D: SourceDatabase>(
         (target_state s (glob_id import) (types_def answer.now)) (state_of collector.new session.now)) }
     ensures frame { collector.new ≡ record collector.old { table = collector.new.table; targets = collector.new.targets } }
 {
-    let vis = collector.resolve_visibility(db, session, import.module_id, import.vis);
-    let glob = EdgeTo {
-        importer: import.module_id,
-        vis,
-        glob: import.glob_id(),
-    };
     let Some(item) = kept_item(answer, answer.resolved_def.types) else {
         return Ok(());
     };
+    let glob = EdgeTo {
+        importer: import.module_id,
+        vis: collector.resolve_visibility(db, session, import.module_id, import.vis),
+        glob: import.glob_id(),
+    };
     add_target(&mut collector.targets, glob.glob, item.def)?;
-    put_glob(collector, db, session, glob, item.def)?;
+    let alloc = collector.alloc;
+    let entries = glob_entries(alloc, &collector.world(db, session), glob, item.def)?;
+    let table = &mut collector.table;
+    put_glob(
+        &collector.def_map,
+        table,
+        glob,
+        entries.as_slice(),
+        item.def,
+    )?;
     Ok(())
 }
 
-/// Puts what a glob of a definition brings, and adds its edge last. On `Err` nothing but safety
+/// Puts what a glob of a definition brings, and adds its edge last: what the importer is brought
+/// goes on along its own edges before names of the source travel here. On `Err` nothing but safety
 /// is promised.
-fn put_glob<'a, D: SourceDatabase>(
-    collector: &mut DefCollector<'a>,
-    db: &D,
-    session: &Interner,
+fn put_glob(
+    def_map: &MapData,
+    table: &mut Globs<Table>,
     glob: EdgeTo<Visibility>,
+    entries: &[Entry<Visibility>],
     def: Def,
 ) -> Result<(), AllocError>
-    ensures performs { OnOk result (let s = state_of collector.old session.now in
-        Performs (D.oracle db.now) (glob_tasks (world (D.oracle db.now) s) glob (Some def)) s (state_of collector.new session.now)) }
-    ensures frame { collector.new ≡ record collector.old { table = collector.new.table } }
+    ensures { OnOk result ((oracle : Oracle) (s : State) →
+        let before = with_parts s def_map.now table.old in
+        entries.now ≡ entries_of_glob (world oracle before) glob def →
+        Performs oracle (glob_tasks (world oracle before) glob (Some def)) before (with_parts s def_map.now table.new)) }
 {
-    match def {
-        Def::Module(source) => {
-            glob_module(collector, db, session, glob, source)?;
-            Ok(())
-        }
-        Def::Enum(id) => {
-            let entries = enum_entries(collector, db, session, glob, id)?;
-            collector.put(glob.importer, entries.as_slice())?;
-            Ok(())
-        }
-        Def::Function(_)
-        | Def::Struct(_)
-        | Def::Union(_)
-        | Def::Variant(_)
-        | Def::Const(_)
-        | Def::Static(_)
-        | Def::Trait(_)
-        | Def::TypeAlias(_)
-        | Def::Builtin(_)
-        | Def::Macro(_) => Ok(()),
-    }
+    put(def_map, table, glob.importer, entries)?;
+    let Some(source) = edge_source(def_map.tree.map, def) else {
+        return Ok(());
+    };
+    table.add_edge(&def_map.tree, source, glob.importer, glob.vis, glob.glob)?;
+    Ok(())
 }
 
-/// Puts what a glob sees of a module, and adds an edge last if it is of this crate. On `Err`
-/// nothing but safety is promised.
-fn glob_module<'a, D: SourceDatabase>(
-    collector: &mut DefCollector<'a>,
-    db: &D,
-    session: &Interner,
-    glob: EdgeTo<Visibility>,
-    source: ModuleId,
-) -> Result<(), AllocError>
-    ensures performs { OnOk result (let s = state_of collector.old session.now in
-        Performs (D.oracle db.now) (glob_tasks (world (D.oracle db.now) s) glob (Some (def_kind.Module source))) s (state_of collector.new session.now)) }
-    ensures frame { collector.new ≡ record collector.old { table = collector.new.table } }
+/// The module at which the edge of a glob of a definition begins: one of this crate.
+fn edge_source(map: MapId, def: Def) -> Option<ModuleId>
+    ensures { result ≡ edge_source map def }
 {
-    let list = module_entries(collector, db, session, glob, source)?;
-    collector.put(glob.importer, list.as_slice())?;
-    if !is_own_crate(collector, source) {
-        return Ok(());
+    match def {
+        Def::Module(source) if is_own_crate(map, source) => Some(source),
+        _ => None,
     }
-    add_edge(collector, source, glob)?;
-    Ok(())
 }
 
 /// Whether a module is of the map's crate.
-fn is_own_crate(collector: &DefCollector, source: ModuleId) -> bool
-    ensures { result ≡ is_own_crate collector.now.def_map.tree.map source }
+fn is_own_crate(map: MapId, source: ModuleId) -> bool
+    ensures { result ≡ is_own_crate map source }
 {
-    source.map.krate == collector.def_map.tree.map.krate
+    source.map.krate == map.krate
 }
 
-/// Adds the edge of a glob, beside the one that may be there. On `Err` nothing but safety is
-/// promised.
-fn add_edge<'a>(
-    collector: &mut DefCollector<'a>,
-    source: ModuleId,
+/// The entries of what a glob of a definition brings. All but modules and enums bring nothing.
+fn glob_entries<D: SourceDatabase>(
+    alloc: Global,
+    world: &World<'_, D, Table>,
     glob: EdgeTo<Visibility>,
-) -> Result<(), AllocError>
-    ensures frame { collector.new ≡ record collector.old { table = collector.new.table } }
-    ensures added { OnOk result ((session : Interner) → let s = state_of collector.old session in
-        state_of collector.new session ≡ with_content s (with_recorded (order s) s.content source glob)) }
+    def: Def,
+) -> Result<Vec<Entry<Visibility>>, AllocError>
+    ensures { IfOk result (λ entries.
+        entries.items ≡ entries_of_glob (world_lent D.oracle bound_by world.now) glob def) }
 {
-    let order = &collector.def_map.tree;
-    collector
-        .table
-        .add_edge(order, source, glob.importer, glob.vis, glob.glob)?;
-    Ok(())
+    match def {
+        Def::Module(source) => module_entries(alloc, world, glob, source),
+        Def::Enum(id) => enum_entries(alloc, world, glob, id),
+        _ => Ok(Vec::new(alloc)),
+    }
 }
 
 /// The entries of what a glob sees of a module. A map that the database lacks binds nothing.
 fn module_entries<D: SourceDatabase>(
-    collector: &DefCollector,
-    db: &D,
-    session: &Interner,
+    alloc: Global,
+    world: &World<'_, D, Table>,
     glob: EdgeTo<Visibility>,
     source: ModuleId,
 ) -> Result<Vec<Entry<Visibility>>, AllocError>
-    ensures { IfOk result (λ entries. let s = state_of collector.now session.now in
-        entries.items ≡ module_entries (order s) glob (is_own_crate s.map.id source) (map_of (world (D.oracle db.now) s) source.map) source) }
+    ensures { IfOk result (λ entries.
+        entries.items ≡ entries_of_module (world_lent D.oracle bound_by world.now) glob source) }
 {
-    let order = &collector.def_map.tree;
-    let own = is_own_crate(collector, source);
-    if source.map == collector.def_map.tree.map {
+    let order = &world.map.tree;
+    let own = is_own_crate(order.map, source);
+    if source.map == order.map {
         let scope = GlobScope {
-            table: collector.table.table(),
+            table: world.table,
             order,
             glob,
             own,
             source,
         };
-        return scope.entries(collector.alloc);
+        return scope.entries(alloc);
     }
-    let Some(map) = finished_map(db, source.map) else {
-        return Ok(Vec::new(collector.alloc));
+    let Some(map) = finished_map(world.db, source.map) else {
+        return Ok(Vec::new(alloc));
     };
     let scope = GlobScope {
         table: map.table(),
@@ -167,25 +148,24 @@ fn module_entries<D: SourceDatabase>(
         own,
         source,
     };
-    scope.entries(collector.alloc)
+    scope.entries(alloc)
 }
 
 /// The entries of the variants of an enum. One that is not known has none.
 fn enum_entries<D: SourceDatabase>(
-    collector: &DefCollector,
-    db: &D,
-    session: &Interner,
+    alloc: Global,
+    world: &World<'_, D, Table>,
     glob: EdgeTo<Visibility>,
     id: EnumId,
 ) -> Result<Vec<Entry<Visibility>>, AllocError>
-    ensures { IfOk result (λ entries. let s = state_of collector.now session.now in
-        entries.items ≡ flat_map (variant_entries (order s) glob) (variants_of (question (world (D.oracle db.now) s) for_import) id.0)) }
+    ensures { IfOk result (λ entries.
+        entries.items ≡ entries_of_enum (world_lent D.oracle bound_by world.now) glob id.0) }
 {
-    let Some(loc) = id.lookup(session) else {
-        return Ok(Vec::new(collector.alloc));
+    let Some(loc) = id.lookup(world.session) else {
+        return Ok(Vec::new(alloc));
     };
-    let Some(variants) = db.enum_variants(loc) else {
-        return Ok(Vec::new(collector.alloc));
+    let Some(variants) = world.db.enum_variants(loc) else {
+        return Ok(Vec::new(alloc));
     };
-    variants_entries(collector.alloc, &collector.def_map.tree, glob, variants)
+    variants_entries(alloc, &world.map.tree, glob, variants)
 }

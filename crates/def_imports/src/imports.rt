@@ -1,26 +1,32 @@
 //! Imports: each pass records those that are ready.
 ghost use Rattle.std.specs.Prelude.{◌≡◌, ◌<◌, [], ℕ, true, false, length, IfOk, OnOk};
-ghost use Rattle.item_tree.specs.declared.items.ImportKind.TheVariants.{Plain};
 ghost use Rattle.def_ids.specs.declared.interner.Interner.{Interner};
 ghost use Rattle.def_state.specs.Collector.{state_of};
 ghost use Rattle.def_imports.specs.Passes.{IsUnready, entries_of};
 ghost use Rattle.def_steps.specs.Shown.{import_of};
 ghost use Rattle.def_laws.specs.Turns.{Moves, turns_left};
-ghost use Rattle.def_laws.specs.Performs.{Performs};
-ghost use Rattle.def_rules.specs.Imports.{answer_now};
-ghost use Rattle.def_rules.specs.Recording.{record_effect, record_tasks, NoneReady};
+ghost use Rattle.def_items.specs.Parts.{with_parts};
+ghost use Rattle.def_laws.specs.Performs.{Performs, Updated};
+ghost use Rattle.def_rules.specs.Imports.{answer_now, bound_name, named_entries};
+ghost use Rattle.def_rules.specs.Recording.{record_effect, NoneReady};
+ghost use Rattle.def_rules.specs.State.{State, order};
 ghost use Rattle.def_laws.specs.Runs.{Leads};
 
 use crate::globs::record_glob;
+use def_bindings::Visibility;
+use def_globs::Globs;
 use def_ids::Interner;
-use def_map::{Asked, ResolvePathResult, SourceDatabase, World, resolve_path_fp_with_macro};
+use def_items::put;
+use def_map::{
+    Asked, MapData, ResolvePathResult, SourceDatabase, Table, resolve_path_fp_with_macro,
+};
 use def_state::DefCollector;
 use def_steps::{
     Import, ImportDirective, ImportList, drop_left, is_ready, named_entries, new_prelude,
     next_tried, retire, still_indeterminate,
 };
 use item_tree::ImportKind;
-use std::alloc::AllocError;
+use std::alloc::{AllocError, Global};
 
 /// Records each import that is ready: those that are unresolved first, and then those that are
 /// indeterminate, in the order in which they became so. Answers whether one was recorded. On `Err`
@@ -124,13 +130,7 @@ fn resolve_import<D: SourceDatabase>(
 ) -> ResolvePathResult
     ensures { result ≡ answer_now (D.oracle db.now) (state_of collector.now session.now) (import_of import.now) }
 {
-    let world = World {
-        map: &collector.def_map,
-        table: collector.table.table(),
-        local: collector.local(),
-        db,
-        session,
-    };
+    let world = collector.world(db, session);
     let path = &import.written.path;
     resolve_path_fp_with_macro(&world, Asked::for_import(), import.module_id, path)
 }
@@ -150,7 +150,17 @@ fn record_resolved_import<'a, D: SourceDatabase>(
 {
     match import.written.kind {
         ImportKind::Plain | ImportKind::TypeOnly => {
-            record_named(collector, db, session, import, answer)?;
+            let at = import.module_id;
+            let vis = collector.resolve_visibility(db, session, at, import.vis);
+            let table = &mut collector.table;
+            record_named(
+                collector.alloc,
+                &collector.def_map,
+                table,
+                import,
+                vis,
+                answer,
+            )?;
             Ok(())
         }
         ImportKind::Glob => match new_prelude(import, answer) {
@@ -166,23 +176,24 @@ fn record_resolved_import<'a, D: SourceDatabase>(
     }
 }
 
-/// Puts what a named import gives at its name. On `Err` nothing but safety is promised.
-fn record_named<'a, D: SourceDatabase>(
-    collector: &mut DefCollector<'a>,
-    db: &D,
-    session: &Interner,
+/// Puts what a named import gives at its name, as visible as is said. On `Err` nothing but safety
+/// is promised.
+fn record_named(
+    alloc: Global,
+    def_map: &MapData,
+    table: &mut Globs<Table>,
     import: &Import,
+    vis: Visibility,
     answer: &ResolvePathResult,
 ) -> Result<(), AllocError>
-    ensures performs { OnOk result (let s = state_of collector.old session.now in
-        Performs (D.oracle db.now) (record_tasks (D.oracle db.now) s (import_of import.now) answer.now Plain)
-        s (state_of collector.new session.now)) }
-    ensures frame { collector.new ≡ record collector.old { table = collector.new.table } }
+    ensures { OnOk result ((s : State) →
+        let before = with_parts s def_map.now table.old in
+        let import = import_of import.now in
+        Updated import.scope (named_entries (order before) import vis answer.now (bound_name import.written))
+        before (with_parts s def_map.now table.new)) }
 {
-    let vis = collector.resolve_visibility(db, session, import.module_id, import.vis);
-    let order = &collector.def_map.tree;
-    let entries = named_entries(collector.alloc, order, import, vis, answer)?;
-    collector.put(import.module_id, entries.as_slice())?;
+    let entries = named_entries(alloc, &def_map.tree, import, vis, answer)?;
+    put(def_map, table, import.module_id, entries.as_slice())?;
     Ok(())
 }
 

@@ -1,5 +1,5 @@
--- What a glob brings, gathered entry by entry, and what it was recorded with.
-use Rattle.std.proofs.Common.{◌≡◌, ◌⊎◌, inl, inr, Bool, true, false, map, if◌then◌else◌, List, [], ◌∷◌, ◌++◌, Option, Some, None, refl, sym, ap, ◌∙◌, subst, inl, inr, append-nil}
+-- What a glob brings, and what it was recorded with.
+use Rattle.std.proofs.Common.{◌≡◌, ◌⊎◌, inl, inr, Bool, true, false, List, [], ◌∷◌, ◌++◌, Option, Some, None, refl, sym, ap, ◌∙◌, subst, inl, inr, append-nil}
 use Rattle.def_ids.specs.declared.ids.Def.{Def}
 use Rattle.def_ids.specs.declared.ids.GlobId.{GlobId}
 use Rattle.def_ids.specs.Equality.{glob_eq}
@@ -13,17 +13,13 @@ use Rattle.def_bindings.specs.declared.bindings.Entry.{Entry}
 use Rattle.def_bindings.specs.declared.visibility.Visibility.{Visibility}
 use Rattle.def_paths.specs.declared.asked.ResolvePathResult.{ResolvePathResult}
 use Rattle.def_oracle.specs.Oracle.{Oracle}
-use Rattle.def_ids.specs.Ids.{is_same_map}
-use Rattle.def_bindings.specs.Content.{Content}
-use Rattle.def_modules.specs.MapView.{MapView}
 use Rattle.def_paths.specs.Paths.{map_of}
-use Rattle.def_paths.specs.Sources.{finished_map}
 use Rattle.def_globs.specs.Globs.{with_recorded}
 use Rattle.def_laws.specs.Performs.{Performs, Updated, target_state}
-use Rattle.def_rules.specs.Globs.{module_entries, scope_entries, with_target}
+use Rattle.def_rules.specs.Globs.{module_entries, with_target}
 use Rattle.def_rules.specs.Imports.{import_vis}
 use Rattle.def_rules.specs.Recording.{edge_tasks, glob_def, glob_edge, glob_id, glob_tasks, is_own_crate, made_prelude, new_prelude, record_effect, record_tasks, targets_after, types_def, unless_prelude, with_new_prelude}
-use Rattle.def_rules.specs.State.{State, AddEdge, Import, map_view, only, order, put_each, with_content, world}
+use Rattle.def_rules.specs.State.{State, AddEdge, Import, only, order, put_each, with_content, world}
 use Rattle.def_laws.proofs.EdgeLaws.{glob_raised, glob_sound}
 use Rattle.def_laws.proofs.StepsLaws.{performs_listed, performs_none}
 use Rattle.def_laws.proofs.WaveLaws.{runs_task, runs_trans, runs_wave}
@@ -31,28 +27,6 @@ use Rattle.def_laws.proofs.WaveLaws.{runs_task, runs_trans, runs_wave}
 -- no glob was recorded yet
 pub no_targets : {S : Type 0} (m : IndexMap GlobId (List Def) S) → m.entries ≡ [] → get glob_eq m ≡ (λ glob. None)
 no_targets m none = rw none refl
-
--- Where the entries of a module come from
-
-module _ (oracle : Oracle) (s : State) (glob : EdgeTo Visibility) (source : ModuleId) (entries : List (Entry Visibility)) (own : Bool) (content : Content Visibility) where
-  -- a module of this map
-  pub entries_here : own ≡ is_own_crate s.map.id source → is_same_map source.map s.map.id ≡ true → content ≡ s.content → entries ≡ scope_entries (order s) glob own content source
-      → entries ≡ module_entries (order s) glob (is_own_crate s.map.id source) (map_of (world oracle s) source.map) source
-  entries_here of_crate here same are =
-      are
-      ∙ ap (λ b. scope_entries (order s) glob b content source) of_crate
-      ∙ ap (λ c. scope_entries (order s) glob (is_own_crate s.map.id source) c source) same
-      ∙ ap (λ b. module_entries (order s) glob (is_own_crate s.map.id source) (if b then Some (map_view s) else finished_map oracle source.map) source) (sym here)
-
-  -- a module of a finished map
-  pub entries_elsewhere : (map : MapView) → own ≡ is_own_crate s.map.id source → is_same_map source.map s.map.id ≡ false → Some map ≡ finished_map oracle source.map → content ≡ map.content → entries ≡ scope_entries (order s) glob own content source
-      → entries ≡ module_entries (order s) glob (is_own_crate s.map.id source) (map_of (world oracle s) source.map) source
-  entries_elsewhere map of_crate other there same are =
-      are
-      ∙ ap (λ b. scope_entries (order s) glob b content source) of_crate
-      ∙ ap (λ c. scope_entries (order s) glob (is_own_crate s.map.id source) c source) same
-      ∙ ap (λ m. module_entries (order s) glob (is_own_crate s.map.id source) m source) there
-      ∙ ap (λ b. module_entries (order s) glob (is_own_crate s.map.id source) (if b then Some (map_view s) else finished_map oracle source.map) source) (sym other)
 
 -- What a recorded import leads to
 

@@ -2,16 +2,35 @@
 ghost use Rattle.std.specs.Prelude.{◌≡◌, map};
 ghost use Rattle.def_state.specs.Collector.{state_of};
 ghost use Rattle.def_rules.specs.Items.{ctor_vis, least_in, least_of, written_vis};
-ghost use Rattle.def_rules.specs.State.{order};
+ghost use Rattle.def_rules.specs.State.{order, world};
+ghost use Rattle.def_modules.specs.Tables.{bound_by};
+ghost use Rattle.def_map.specs.Asking.{world_lent};
 
 use super::DefCollector;
 use def_bindings::{VisOrder, Visibility};
 use def_ids::{Interner, ModuleId};
 use def_items::meant_or_public;
-use def_map::{SourceDatabase, World, resolve_visibility};
+use def_map::{SourceDatabase, Table, World, resolve_visibility};
 use item_tree::{CtorVisibility, RawVisibility};
 
 impl DefCollector<'_> {
+    /// What paths are read against.
+    pub fn world<'w, D: SourceDatabase>(
+        &'w self,
+        db: &'w D,
+        session: &'w Interner,
+    ) -> World<'w, D, Table>
+        ensures { world_lent D.oracle bound_by result ≡ world (D.oracle db.now) (state_of self.now session.now) }
+    {
+        World {
+            map: &self.def_map,
+            table: self.table.table(),
+            local: self.local(),
+            db,
+            session,
+        }
+    }
+
     /// What a written visibility means in a module. It is public where it means nothing.
     pub fn resolve_visibility<D: SourceDatabase>(
         &self,
@@ -22,13 +41,7 @@ impl DefCollector<'_> {
     ) -> Visibility
         ensures { result ≡ written_vis (D.oracle db.now) (state_of self.now session.now) module_id visibility.now }
     {
-        let world = World {
-            map: &self.def_map,
-            table: self.table.table(),
-            local: self.local(),
-            db,
-            session,
-        };
+        let world = self.world(db, session);
         meant_or_public(resolve_visibility(&world, module_id, visibility))
     }
 

@@ -1,13 +1,11 @@
-use Rattle.std.proofs.Common.{ap, ◌∙◌}
-use Rattle.def_state.specs.Collector.{state_of}
-use Rattle.def_laws.proofs.StepsLaws.{performs_listed}
-use Rattle.def_rules.specs.Imports.{bound_name, named_entries}
-use Rattle.def_rules.specs.State.{order}
-use Rattle.def_steps.specs.Shown.{import_of}
+use Rattle.std.proofs.Common.{ap, subst, ◌∙◌}
+use Rattle.def_items.specs.Parts.{with_parts}
+use Rattle.def_laws.specs.Performs.{Updated}
+use Rattle.def_rules.specs.State.{State}
 use Rattle.def_imports.proofs.imports.record_named.Goals as goal
 
-pub returns-clause-performs : goal.returns-clause-performs
-returns-clause-performs g c =
-    performs_listed c.args.import.now.module_id _ _ (state_of c.args.collector.now c.args.session.now) (state_of c.put.new.self c.args.session.now)
-    (c.as_slice.ensures.value ∙ c.in_ok-entries.ensures
-    ∙ ap (λ vis. named_entries (order (state_of c.args.collector.now c.args.session.now)) (import_of c.args.import.now) vis c.args.answer.now (bound_name c.args.import.now.written.now)) c.resolve_visibility-vis.ensures) (c.in_ok-put.ensures.updated c.args.session.now)
+pub returns : goal.returns
+returns c = λ s.
+    let before : State = with_parts s c.args.def_map.now c.args.table.now in
+    let after : State = with_parts s c.args.def_map.now c.put.new.table in
+    subst (λ list. Updated c.args.import.now.module_id list before after) (c.as_slice.ensures.value ∙ c.in_ok-entries.ensures) (c.in_ok-put.ensures s)
