@@ -19,3 +19,6 @@ returns-clause-moved g c = λ _.
     (stands_at (entries_of c.args.list c.args.collector.now) c.entries.result.now c.args.i _ c.in-Some.directive c.entries.ensures c.requires c.in-Some.is))
     c.in_ok-record_resolved_import.ensures.performs
     (turns_kept c.args.session.now kept c.record_resolved_import.new.collector c.record_resolved_import.ensures.frame)
+
+pub returns-then-not-is_ready-clause-same : goal.returns-then-not-is_ready-clause-same
+returns-then-not-is_ready-clause-same g c = λ _. refl
