@@ -3,7 +3,6 @@ use Rattle.std.specs.Prelude.{◌++◌, option_map}
 use Rattle.def_ids.specs.declared.interner.Interner.{Interner}
 use Rattle.def_ids.specs.Equality.{glob_eq}
 use Rattle.def_ids.specs.Session.{session_of}
-use Rattle.def_map.specs.DefMaps as whole
 use Rattle.def_crates.specs.Missing.{missing_in}
 use Rattle.def_items.specs.Parts.{directories_of}
 use Rattle.def_modules.specs.Locals.{local_view}
@@ -11,9 +10,7 @@ use Rattle.def_modules.specs.Maps.{map_state}
 use Rattle.def_modules.specs.Tables.{bound_by}
 use Rattle.def_state.specs.declared.collector.DefCollector.{DefCollector}
 use Rattle.def_steps.specs.ImportLists.{directives_in}
-use Rattle.def_rules.specs.declared.outcome.Collected.{Collected}
 use Rattle.indexmap.specs.IndexMap.{get}
-use Rattle.def_rules.specs.Report.{Answer}
 use Rattle.def_rules.specs.State.{State}
 
 -- the state that the collector is in
@@ -32,15 +29,4 @@ state_of c session =
       directories = directories_of c.mod_dirs;
       imports = directives_in c.unresolved_imports.items ++ directives_in c.indeterminate_imports.items;
       diagnostics = c.diagnostics.items;
-    }
-
--- all that is answered
-abbrev pub shown : Collected → Answer
-shown c =
-    record {
-      map = whole.state_of c.def_map;
-      content = whole.content_of c.def_map;
-      local = local_view c.local_def_map;
-      outcome = c.outcome;
-      diagnostics = c.diagnostics;
     }

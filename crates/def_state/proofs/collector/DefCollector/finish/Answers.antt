@@ -4,7 +4,8 @@ use Rattle.def_ids.specs.Equality.{glob_eq}
 use Rattle.def_modules.specs.Maps.{map_state}
 use Rattle.def_modules.specs.Tables.{bound_by}
 use Rattle.def_map.specs.DefMaps as whole
-use Rattle.def_state.specs.Collector.{state_of, shown}
+use Rattle.def_laws.specs.Finished.{shown}
+use Rattle.def_state.specs.Collector.{state_of}
 use Rattle.def_rules.specs.Report.{Answer, AreEdges, AreTargets, left_import, shown_targets}
 use Rattle.def_rules.specs.declared.outcome.Collected.{Collected}
 use Rattle.def_rules.specs.State.{State}
