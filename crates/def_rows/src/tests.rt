@@ -3,6 +3,7 @@
 mod blocks;
 mod dependencies;
 mod directories;
+mod examples;
 mod glob_imports;
 mod globs;
 mod plain_table;
@@ -11,5 +12,6 @@ mod proc_macros;
 mod rows;
 mod shown_order;
 mod tables;
+mod texts;
 mod token_trees;
 mod trees;
