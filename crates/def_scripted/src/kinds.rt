@@ -20,7 +20,8 @@ pub enum End {
     SemicolonOrBody,
 }
 
-/// How many brackets are open behind a token; none where it closes one that is not open.
+/// How many brackets are open behind a token; none where it closes one that is not open. Which kind
+/// closes which is not looked at.
 fn depth_behind(depth: usize, token: Token<'_>) -> Option<usize> {
     match token {
         Token::Mark('(' | '[' | '{') => depth.checked_add(1),

@@ -112,8 +112,8 @@ pub fn path<'a>(alloc: Global, rest: Rest<'a>) -> Result<(ModPath, Rest<'a>), St
     }
 }
 
-/// The visibility in the module of a path. It stands apart since the value in the value is costly
-/// to prove where anything else goes on.
+/// The visibility in the module of a path. It stands apart, since a value that is put into another
+/// one costs the prover much more where a path is read beside it.
 fn within(path: ModPath) -> RawVisibility {
     RawVisibility::In(path)
 }
