@@ -11,5 +11,6 @@ mod proc_macros;
 mod rows;
 mod shown_order;
 mod tables;
+mod texts;
 mod token_trees;
 mod trees;

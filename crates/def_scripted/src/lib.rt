@@ -1,16 +1,20 @@
-//! How scripted crates are written down, the item trees that they stand for, and the lines in
-//! which what is collected of them is printed.
+//! How scripted crates are written down, the item trees that their texts stand for, and the lines
+//! in which what is collected of them is printed.
 #![tactic(auto)]
 
+mod attributes;
 mod fault;
+mod imports;
+mod kinds;
 mod lines;
+mod paths;
 mod script;
+mod tokens;
 mod trees;
+mod variants;
 
-pub use fault::Fault;
+pub use fault::{Fault, ReadFault};
 pub use lines::print;
-pub use script::{
-    AttrText, BuiltinText, CrateText, CtorText, DependencyText, ImportText, ItemText, Line,
-    PathText, PlainKind, VariantsText, Vector, VisText,
-};
-pub use trees::{file_path, tree_of};
+pub use script::{ALONE, BuiltinText, CrateText, DependencyText, Vector};
+pub use trees::{ReadEnum, ReadFile, read};
+pub use variants::ReadVariant;

@@ -48,7 +48,15 @@ pub fn out_of_memory<E: io::Write>(err: &mut E) -> u8
     1
 }
 
-/// The status of a command that ended, with a text on `err` where memory was refused.
+/// Says that the text of a file cannot be read, and answers the status.
+fn unreadable<E: io::Write>(err: &mut E, byte: usize) -> u8
+    ensures { result ≡ 1 }
+{
+    let _ = writeln!(err, "a text cannot be read from byte {byte} on");
+    1
+}
+
+/// The status of a command that ended, with a text on `err` unless a write was refused.
 fn status<E: io::Write>(ended: Result<(), Fault>, err: &mut E) -> u8
     ensures done { OnOk ended (result ≡ 0) }
     ensures fault { OnErr ended (result ≡ 1) }
@@ -59,6 +67,7 @@ fn status<E: io::Write>(ended: Result<(), Fault>, err: &mut E) -> u8
         Ok(()) => 0,
         Err(Fault::Memory) => out_of_memory(err),
         Err(Fault::Output) => 1,
+        Err(Fault::Text { tree: _, byte }) => unreadable(err, byte),
     }
 }
 
@@ -122,8 +131,9 @@ fn run_words<O: io::Write, E: io::Write>(
 }
 
 /// Runs the program over its words, without its own name, and answers its exit status: 0; 1 where
-/// memory is refused, or a write to `out`; 2 for words that ask for nothing that there is. A text
-/// on `err` says which, except for a refused write. A write to `err` that fails changes nothing.
+/// memory is refused, or a write to `out`, or a vector's text cannot be read; 2 for words that ask
+/// for nothing that there is. A text on `err` says which, except for a refused write. A write to
+/// `err` that fails changes nothing.
 pub fn run<O: io::Write, E: io::Write>(
     alloc: Global,
     words: &[&str],

@@ -6,9 +6,9 @@ mod vectors;
 mod workspace;
 
 pub use command::{out_of_memory, run, show};
+pub use def_collector::{Collected, collect_defs};
 pub use def_scripted::{
-    AttrText, BuiltinText, CrateText, CtorText, DependencyText, Fault, ImportText, ItemText, Line,
-    PathText, PlainKind, VariantsText, Vector, VisText, print, tree_of,
+    ALONE, BuiltinText, CrateText, DependencyText, Fault, ReadFault, Vector, print, read,
 };
 pub use vectors::find;
 pub use workspace::Workspace;

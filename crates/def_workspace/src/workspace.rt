@@ -3,7 +3,7 @@
 ghost use Rattle.std.specs.Prelude.{◌≡◌, IfOk};
 ghost use Rattle.def_ids.specs.Session.{AddsLocations, session_of};
 ghost use Rattle.def_database.specs.Database.{answers_of};
-ghost use Rattle.def_state.specs.Collector.{shown};
+ghost use Rattle.def_laws.specs.Finished.{shown};
 ghost use Rattle.def_rules.specs.Headline.{Answers};
 ghost use Rattle.def_workspace.specs.Workspace.{file_tree, setting};
 
@@ -11,8 +11,8 @@ use def_collector::{Collected, collect_defs};
 use def_database::Database;
 use def_ids::{Interner, VariantId};
 use def_map::{CrateData, DefMap, Dependency, EnumVariant};
-use def_scripted::{CrateText, DependencyText, Line, VariantsText, Vector, file_path, tree_of};
-use item_tree::{Crate, FileAstId, FileId, HirFileId, InFile, Seq, TreeId};
+use def_scripted::{CrateText, DependencyText, Fault, ReadEnum, ReadFault, ReadFile, Vector, read};
+use item_tree::{Crate, FileId, HirFileId, InFile, Seq, TreeId};
 use std::alloc::{AllocError, Global};
 
 /// A session, and a database whose answers are in its names.
@@ -43,10 +43,10 @@ impl Workspace {
     }
 
     /// Adds the files and crates of a vector.
-    fn fill(&mut self, vector: &Vector) -> Result<(), AllocError> {
-        for (number, lines) in vector.files.iter().enumerate() {
-            self.add_file(FileId(number), lines)?;
-            self.add_paths(FileId(number), vector.files)?;
+    fn fill(&mut self, vector: &Vector) -> Result<(), Fault> {
+        for (number, text) in vector.files.iter().enumerate() {
+            self.add_text(tree_id(FileId(number)), text)?;
+            self.add_paths(FileId(number), vector.paths)?;
         }
         for krate in vector.crates {
             self.add_crate(krate)?;
@@ -55,54 +55,60 @@ impl Workspace {
             let name = self.session.intern_name(text.name)?;
             self.db.add_builtin(name, text.number)?;
         }
-        for text in vector.enums {
-            self.add_variants(text)?;
-        }
         Ok(())
     }
 
     /// The workspace of a vector, with no crate collected.
-    pub fn new(alloc: Global, vector: &Vector) -> Result<Workspace, AllocError> {
+    pub fn new(alloc: Global, vector: &Vector) -> Result<Workspace, Fault> {
         let mut workspace = Workspace::empty(alloc)?;
         workspace.fill(vector)?;
         Ok(workspace)
     }
 
-    /// Adds the paths that lead from a file to those that have one.
+    /// Adds the paths that lead from a file to others.
     fn add_paths(
         &mut self,
         from: FileId,
-        files: &'static [&'static [Line]],
+        paths: &[(&'static str, usize)],
     ) -> Result<(), AllocError> {
-        for (number, lines) in files.iter().enumerate() {
-            if let Some(path) = file_path(lines) {
-                self.db.add_path(from, path, FileId(number))?;
-            }
+        for (path, number) in paths {
+            self.db.add_path(from, path, FileId(*number))?;
         }
         Ok(())
     }
 
-    /// Adds a file. One whose lines make no tree is not there.
-    fn add_file(&mut self, file: FileId, lines: &'static [Line]) -> Result<(), AllocError> {
-        if let Ok(tree) = tree_of(self.alloc, &mut self.session, lines)? {
-            self.db.add_tree(tree_id(file), tree)?;
+    /// Adds the items of a file or a block, whose text this is.
+    pub fn add_text(&mut self, id: TreeId, text: &str) -> Result<(), Fault> {
+        match read(self.alloc, &mut self.session, text) {
+            Ok(file) => Ok(self.add_read(id, file)?),
+            Err(ReadFault::Memory) => Err(Fault::Memory),
+            Err(ReadFault::Byte(byte)) => Err(Fault::Text { tree: id, byte }),
+        }
+    }
+
+    /// Adds what was read of a file or a block.
+    fn add_read(&mut self, id: TreeId, read: ReadFile) -> Result<(), AllocError> {
+        let ReadFile { tree, enums } = read;
+        self.db.add_tree(id, tree)?;
+        for read in &enums {
+            self.add_variants(id.file, read)?;
         }
         Ok(())
     }
 
     /// Adds the variants of an enum, which are numbered from 0.
-    fn add_variants(&mut self, text: &VariantsText) -> Result<(), AllocError> {
+    fn add_variants(&mut self, file: HirFileId, read: &ReadEnum) -> Result<(), AllocError> {
         let mut variants = Vec::new(self.alloc);
-        for (number, (name, value_ctor)) in text.variants.iter().enumerate() {
+        for (number, variant) in read.variants.as_slice().iter().enumerate() {
             variants.push(EnumVariant {
-                name: self.session.intern_name(name)?,
+                name: variant.name,
                 id: VariantId(number),
-                value_ctor: *value_ctor,
+                value_ctor: variant.value_ctor,
             })?;
         }
         let position = InFile {
-            file: HirFileId::File(FileId(text.file)),
-            value: FileAstId(text.item),
+            file,
+            value: read.item,
         };
         self.db.add_variants(position, variants)
     }

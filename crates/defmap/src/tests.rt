@@ -1,6 +1,7 @@
 //! What no contract says: the printed lines, and worked rows over scripted crates.
 
 mod attrs;
+mod examples;
 mod extern_crates;
 mod files;
 mod glob_kinds;

@@ -8,6 +8,4 @@ pub mod dependencies;
 pub mod items;
 pub mod oracle;
 pub mod reading;
-#[cfg(test)]
-mod tests;
 pub mod two_files;

@@ -2,79 +2,16 @@
 #![tactic(auto)]
 
 use def_bindings::{Binding, ImportOrExternCrate, Visibility};
-use def_collector::{Collected, collect_defs};
 use def_ids::{Def, Edition, GlobId, ImportId, MapId, ModuleId, StructId, UseId};
 use def_map::{BlockInfo, DefMap, PerNs};
-use def_workspace::{
-    CrateText, CtorText, ImportText, ItemText, Line, PathText, Vector, VisText, Workspace, tree_of,
-};
-use item_tree::{BlockId, Crate, FileId, HirFileId, ImportKind, PathKind, TreeId};
+use def_workspace::{ALONE, Collected, Fault, Vector, Workspace, collect_defs};
+use item_tree::{BlockId, Crate, FileId, HirFileId, TreeId};
 use std::alloc::{AllocError, Global};
-use std::test::Fail;
 
-/// pub struct S;
 static CRATE: Vector = Vector {
-    name: "crate",
-    files: &[&[Line {
-        depth: 0,
-        item: ItemText::Struct {
-            vis: VisText::Public,
-            name: "S",
-            ctor: CtorText::Vis(VisText::Public),
-        },
-    }]],
-    crates: &[],
-    builtin_types: &[],
-    enums: &[],
+    files: &["pub struct S;"],
+    ..ALONE
 };
-
-/// use S as T;
-static BLOCK: [Line; 1] = [Line {
-    depth: 0,
-    item: ItemText::Use {
-        vis: VisText::PubSelf,
-        imports: &[ImportText {
-            path: PathText {
-                kind: PathKind::Plain,
-                segments: &["S"],
-            },
-            kind: ImportKind::Plain,
-            alias: Some("T"),
-        }],
-    },
-}];
-
-/// use crate::*;
-static GLOB_BLOCK: [Line; 1] = [Line {
-    depth: 0,
-    item: ItemText::Use {
-        vis: VisText::PubSelf,
-        imports: &[ImportText {
-            path: PathText {
-                kind: PathKind::Crate,
-                segments: &[],
-            },
-            kind: ImportKind::Glob,
-            alias: None,
-        }],
-    },
-}];
-
-/// A struct, in a block that cfg disables.
-static DISABLED_BLOCK: [Line; 2] = [
-    Line {
-        depth: 0,
-        item: ItemText::FileDisabled { cfg: 1 },
-    },
-    Line {
-        depth: 0,
-        item: ItemText::Struct {
-            vis: VisText::Public,
-            name: "T",
-            ctor: CtorText::None,
-        },
-    },
-];
 
 const TREE: TreeId = TreeId {
     file: HirFileId::File(FileId(0)),
@@ -89,22 +26,12 @@ const BLOCK_ROOT: ModuleId = ModuleId {
     index: 0,
 };
 
-/// Collects the crate, and adds the block's tree.
-fn prepare(workspace: &mut Workspace, block: &'static [Line]) -> Result<(), AllocError> {
-    workspace.collect_dependency(&CrateText {
-        krate: 0,
-        edition: Edition::Edition2021,
-        root_file: 0,
-        deps: &[],
-    })?;
-    add_block(workspace, block)
-}
-
-fn add_block(workspace: &mut Workspace, block: &'static [Line]) -> Result<(), AllocError> {
-    if let Ok(tree) = tree_of(workspace.alloc, &mut workspace.session, block)? {
-        workspace.db.add_tree(TREE, tree)?;
-    }
-    Ok(())
+/// A workspace in which the crate is collected, with a block of this text.
+fn with_block(alloc: Global, block: &str) -> Result<Workspace, Fault> {
+    let mut workspace = Workspace::new(alloc, &CRATE)?;
+    workspace.collect_dependency(&ALONE.crates[0])?;
+    workspace.add_text(TREE, block)?;
+    Ok(workspace)
 }
 
 /// A block within these modules, if they are fit.
@@ -161,16 +88,9 @@ fn meaning_within(
 fn meanings(workspace: &mut Workspace) -> Result<(Option<PerNs>, Option<PerNs>), AllocError> {
     let alloc = workspace.alloc;
     let root = ModuleId::crate_root(Crate(0));
-    prepare(workspace, BLOCK.as_slice())?;
     let once = meaning_within(workspace, vec![in alloc; root]?, "T")?;
     let twice = meaning_within(workspace, vec![in alloc; root, root]?, "T")?;
     Ok((once, twice))
-}
-
-/// The same in a workspace of its own.
-fn meanings_in_block(alloc: Global) -> Result<(Option<PerNs>, Option<PerNs>), AllocError> {
-    let mut workspace = Workspace::new(alloc, &CRATE)?;
-    meanings(&mut workspace)
 }
 
 /// This binding in types and in values.
@@ -183,7 +103,7 @@ fn in_types_and_values(binding: Binding<Visibility>) -> Option<PerNs> {
 }
 
 #[test]
-fn a_block_sees_the_module_that_it_stands_in(rt: HostRuntime) -> Result<(), Fail> {
+fn a_block_sees_the_module_that_it_stands_in(rt: HostRuntime) -> Result<(), Fault> {
     let binding = Binding {
         def: Def::Struct(StructId(0)),
         vis: Visibility::Module(BLOCK_ROOT),
@@ -192,8 +112,9 @@ fn a_block_sees_the_module_that_it_stands_in(rt: HostRuntime) -> Result<(), Fail
             idx: 0,
         })),
     };
+    let mut workspace = with_block(rt.alloc(), "use S as T;")?;
     assert_eq!(rt;
-        meanings_in_block(rt.alloc())?,
+        meanings(&mut workspace)?,
         (in_types_and_values(binding), None)
     );
     Ok(())
@@ -201,13 +122,12 @@ fn a_block_sees_the_module_that_it_stands_in(rt: HostRuntime) -> Result<(), Fail
 
 /// What S means in a block that takes all names of its crate's root.
 fn meaning_by_glob(workspace: &mut Workspace) -> Result<Option<PerNs>, AllocError> {
-    prepare(workspace, GLOB_BLOCK.as_slice())?;
     let containing = vec![in workspace.alloc; ModuleId::crate_root(Crate(0))]?;
     meaning_within(workspace, containing, "S")
 }
 
 #[test]
-fn a_block_may_take_all_names_of_a_module_around_it(rt: HostRuntime) -> Result<(), Fail> {
+fn a_block_may_take_all_names_of_a_module_around_it(rt: HostRuntime) -> Result<(), Fault> {
     let binding = Binding {
         def: Def::Struct(StructId(0)),
         vis: Visibility::Module(BLOCK_ROOT),
@@ -216,7 +136,7 @@ fn a_block_may_take_all_names_of_a_module_around_it(rt: HostRuntime) -> Result<(
             idx: 0,
         })),
     };
-    let mut workspace = Workspace::new(rt.alloc(), &CRATE)?;
+    let mut workspace = with_block(rt.alloc(), "use crate::*;")?;
     assert_eq!(rt;
         meaning_by_glob(&mut workspace)?,
         in_types_and_values(binding)
@@ -226,7 +146,6 @@ fn a_block_may_take_all_names_of_a_module_around_it(rt: HostRuntime) -> Result<(
 
 /// What T means in a block that cfg disables, and how many diagnostics there are.
 fn disabled(workspace: &mut Workspace) -> Result<Option<(bool, usize)>, AllocError> {
-    prepare(workspace, DISABLED_BLOCK.as_slice())?;
     let name = workspace.session.intern_name("T")?;
     let containing = vec![in workspace.alloc; ModuleId::crate_root(Crate(0))]?;
     let Some(info) = block_in(workspace, containing)? else {
@@ -240,8 +159,8 @@ fn disabled(workspace: &mut Workspace) -> Result<Option<(bool, usize)>, AllocErr
 }
 
 #[test]
-fn a_disabled_block_is_empty_and_silent(rt: HostRuntime) -> Result<(), Fail> {
-    let mut workspace = Workspace::new(rt.alloc(), &CRATE)?;
+fn a_disabled_block_is_empty_and_silent(rt: HostRuntime) -> Result<(), Fault> {
+    let mut workspace = with_block(rt.alloc(), "#![cfg(1)] pub struct T {}")?;
     let found = disabled(&mut workspace)?;
     assert!(rt; found == Some((true, 0)));
     Ok(())

@@ -4,11 +4,8 @@
 use crate::tests::rows::{Row, expect_rows};
 use def_ids::Edition;
 use def_map::LangCrate;
-use def_workspace::{
-    AttrText, CrateText, CtorText, DependencyText, Fault, ImportText, ItemText, Line, PathText,
-    Vector, VisText, Workspace, print,
-};
-use item_tree::{Crate, ImportKind, PathKind};
+use def_workspace::{ALONE, CrateText, DependencyText, Fault, Vector, Workspace, print};
+use item_tree::Crate;
 use std::alloc::Global;
 
 /// Crate 1 on its own, and crate 0 over it under the name `d`.
@@ -32,57 +29,7 @@ const OVER_D: &[CrateText] = &[
     },
 ];
 
-/// use d::P; use d::Q; over pub struct P; struct Q;
-const PUBLIC_AND_PRIVATE: &[&[Line]] = &[
-    &[
-        Line {
-            depth: 0,
-            item: ItemText::Use {
-                vis: VisText::PubSelf,
-                imports: &[ImportText {
-                    path: PathText {
-                        kind: PathKind::Plain,
-                        segments: &["d", "P"],
-                    },
-                    kind: ImportKind::Plain,
-                    alias: None,
-                }],
-            },
-        },
-        Line {
-            depth: 0,
-            item: ItemText::Use {
-                vis: VisText::PubSelf,
-                imports: &[ImportText {
-                    path: PathText {
-                        kind: PathKind::Plain,
-                        segments: &["d", "Q"],
-                    },
-                    kind: ImportKind::Plain,
-                    alias: None,
-                }],
-            },
-        },
-    ],
-    &[
-        Line {
-            depth: 0,
-            item: ItemText::Struct {
-                vis: VisText::Public,
-                name: "P",
-                ctor: CtorText::Vis(VisText::Public),
-            },
-        },
-        Line {
-            depth: 0,
-            item: ItemText::Struct {
-                vis: VisText::PubSelf,
-                name: "Q",
-                ctor: CtorText::Vis(VisText::PubSelf),
-            },
-        },
-    ],
-];
+const PUBLIC_AND_PRIVATE: &[&str] = &["use d::P; use d::Q;", "pub struct P; struct Q;"];
 
 /// Two crates of one name, of which the second is not in the prelude.
 const TWICE_D: &[CrateText] = &[
@@ -113,110 +60,10 @@ const TWICE_D: &[CrateText] = &[
     },
 ];
 
-/// use O as P;
-const USE_OF_O: Line = Line {
-    depth: 0,
-    item: ItemText::Use {
-        vis: VisText::PubSelf,
-        imports: &[ImportText {
-            path: PathText {
-                kind: PathKind::Plain,
-                segments: &["O"],
-            },
-            kind: ImportKind::Plain,
-            alias: Some("P"),
-        }],
-    },
-};
+/// The crate of the prelude of an edition.
+const RUST_2015: &str = "pub mod prelude { pub mod rust_2015 { pub struct O; } }";
 
-/// use std::prelude;
-const USE_OF_STD: Line = Line {
-    depth: 0,
-    item: ItemText::Use {
-        vis: VisText::PubSelf,
-        imports: &[ImportText {
-            path: PathText {
-                kind: PathKind::Plain,
-                segments: &["std", "prelude"],
-            },
-            kind: ImportKind::Plain,
-            alias: None,
-        }],
-    },
-};
-
-const PRELUDE: Line = Line {
-    depth: 0,
-    item: ItemText::Mod {
-        vis: VisText::Public,
-        name: "prelude",
-    },
-};
-
-const RUST_2015: Line = Line {
-    depth: 1,
-    item: ItemText::Mod {
-        vis: VisText::Public,
-        name: "rust_2015",
-    },
-};
-
-const RUST_2021: Line = Line {
-    depth: 1,
-    item: ItemText::Mod {
-        vis: VisText::Public,
-        name: "rust_2021",
-    },
-};
-
-/// pub struct O; in two modules.
-const STRUCT_O: Line = Line {
-    depth: 2,
-    item: ItemText::Struct {
-        vis: VisText::Public,
-        name: "O",
-        ctor: CtorText::Vis(VisText::Public),
-    },
-};
-
-const NO_CORE: Line = Line {
-    depth: 0,
-    item: ItemText::FileAttr {
-        name: "no_core",
-        input: AttrText::Word,
-    },
-};
-
-const NO_STD: Line = Line {
-    depth: 0,
-    item: ItemText::FileAttr {
-        name: "no_std",
-        input: AttrText::Word,
-    },
-};
-
-/// A crate that uses the prelude, and the crate of the prelude.
-const USES_O: &[&[Line]] = &[&[USE_OF_O], &[PRELUDE, RUST_2021, STRUCT_O]];
-
-const USES_O_WITHOUT_CORE: &[&[Line]] = &[&[NO_CORE, USE_OF_O], &[PRELUDE, RUST_2021, STRUCT_O]];
-
-/// An empty crate, and that of the prelude of an edition.
-const OVER_2015: &[&[Line]] = &[&[], &[PRELUDE, RUST_2015, STRUCT_O]];
-
-const OVER_2021: &[&[Line]] = &[&[], &[PRELUDE, RUST_2021, STRUCT_O]];
-
-/// A crate that uses the prelude and `std`, and the file of `std` and `core`.
-const USES_BOTH: &[&[Line]] = &[&[USE_OF_O, USE_OF_STD], &[PRELUDE, RUST_2021, STRUCT_O]];
-
-const USES_BOTH_WITHOUT_STD: &[&[Line]] = &[
-    &[NO_STD, USE_OF_O, USE_OF_STD],
-    &[PRELUDE, RUST_2021, STRUCT_O],
-];
-
-const USES_BOTH_WITHOUT_CORE: &[&[Line]] = &[
-    &[NO_CORE, USE_OF_O, USE_OF_STD],
-    &[PRELUDE, RUST_2021, STRUCT_O],
-];
+const RUST_2021: &str = "pub mod prelude { pub mod rust_2021 { pub struct O; } }";
 
 /// `std` on its own, and a crate over it in edition 2021.
 const OVER_STD: &[CrateText] = &[
@@ -266,8 +113,7 @@ static ROWS: [Row; 4] = [
             name: "what is public is taken from another crate",
             files: PUBLIC_AND_PRIVATE,
             crates: OVER_D,
-            builtin_types: &[],
-            enums: &[],
+            ..ALONE
         },
         "module 0 - crate
 binding 0 P types struct:0 in:0 import:0.0
@@ -279,8 +125,7 @@ binding 0 P values struct:0 in:0 import:0.0
             name: "a later dependency takes the place of an earlier one",
             files: PUBLIC_AND_PRIVATE,
             crates: TWICE_D,
-            builtin_types: &[],
-            enums: &[],
+            ..ALONE
         },
         "module 0 - crate
 diag unresolved-import 0 0:0 0
@@ -292,10 +137,9 @@ left import 0 d::Q
     (
         Vector {
             name: "the prelude is seen everywhere",
-            files: USES_O,
+            files: &["use O as P;", RUST_2021],
             crates: OVER_STD,
-            builtin_types: &[],
-            enums: &[],
+            ..ALONE
         },
         "module 0 - crate
 binding 0 P types struct:0 in:0 import:0.0
@@ -305,10 +149,9 @@ binding 0 P values struct:0 in:0 import:0.0
     (
         Vector {
             name: "a crate without core has no prelude",
-            files: USES_O_WITHOUT_CORE,
+            files: &["#![no_core] use O as P;", RUST_2021],
             crates: OVER_STD,
-            builtin_types: &[],
-            enums: &[],
+            ..ALONE
         },
         "module 0 - crate
 diag unresolved-import 0 0:0 0
@@ -341,26 +184,24 @@ fn collected_prelude(
 /// The module of the prelude of the last crate, with its crate.
 fn prelude_of(
     alloc: Global,
-    files: &'static [&'static [Line]],
+    files: &'static [&'static str],
     crates: &'static [CrateText],
 ) -> Result<Option<(usize, usize)>, Fault> {
     let vector = Vector {
-        name: "a test's",
         files,
         crates,
-        builtin_types: &[],
-        enums: &[],
+        ..ALONE
     };
     let mut workspace = Workspace::new(alloc, &vector)?;
     collected_prelude(&mut workspace, crates)
 }
 
 /// Files, crates, and the prelude of the last one.
-static PRELUDES: [(&[&[Line]], &[CrateText], Option<(usize, usize)>); 4] = [
-    (OVER_2021, OVER_STD, Some((1, 2))),
-    (OVER_2015, OVER_STD, None),
-    (OVER_2015, OVER_STD_IN_2015, Some((1, 2))),
-    (OVER_2021, OVER_STD_IN_2015, None),
+static PRELUDES: [(&[&str], &[CrateText], Option<(usize, usize)>); 4] = [
+    (&["", RUST_2021], OVER_STD, Some((1, 2))),
+    (&["", RUST_2015], OVER_STD, None),
+    (&["", RUST_2015], OVER_STD_IN_2015, Some((1, 2))),
+    (&["", RUST_2021], OVER_STD_IN_2015, None),
 ];
 
 #[test]
@@ -428,15 +269,13 @@ fn print_over_sysroot(
 /// Prints the lines of the crate over `std` and `core` in a workspace of its own.
 fn print_files(
     alloc: Global,
-    files: &'static [&'static [Line]],
+    files: &'static [&'static str],
     lines: &mut Vec<u8>,
 ) -> Result<(), Fault> {
     let vector = Vector {
-        name: "a test's",
         files,
         crates: &OVER_SYSROOT,
-        builtin_types: &[],
-        enums: &[],
+        ..ALONE
     };
     let mut workspace = Workspace::new(alloc, &vector)?;
     set_lang(&mut workspace, Crate(1), LangCrate::Std);
@@ -445,9 +284,9 @@ fn print_files(
 }
 
 /// Files, and the lines of their crate over `std` and `core` of the compiler.
-static WITH_SYSROOT: [(&[&[Line]], &str); 3] = [
+static WITH_SYSROOT: [(&[&str], &str); 3] = [
     (
-        USES_BOTH,
+        &["use O as P; use std::prelude;", RUST_2021],
         "module 0 - crate
 binding 0 P types struct:0 in:0 import:0.0
 binding 0 P values struct:0 in:0 import:0.0
@@ -455,7 +294,7 @@ binding 0 prelude types mod:1/1 in:0 import:1.0
 ",
     ),
     (
-        USES_BOTH_WITHOUT_STD,
+        &["#![no_std] use O as P; use std::prelude;", RUST_2021],
         "module 0 - crate
 binding 0 P types struct:1 in:0 import:0.0
 binding 0 P values struct:1 in:0 import:0.0
@@ -464,7 +303,7 @@ left import 0 std::prelude
 ",
     ),
     (
-        USES_BOTH_WITHOUT_CORE,
+        &["#![no_core] use O as P; use std::prelude;", RUST_2021],
         "module 0 - crate
 diag unresolved-import 0 0:0 0
 diag unresolved-import 0 0:1 0

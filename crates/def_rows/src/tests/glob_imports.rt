@@ -2,534 +2,8 @@
 #![tactic(auto)]
 
 use crate::tests::rows::{Row, expect_rows};
-use def_ids::Edition;
-use def_workspace::{
-    CrateText, CtorText, Fault, ImportText, ItemText, Line, PathText, PlainKind, Vector, VisText,
-    run,
-};
-use item_tree::{ImportKind, PathKind};
+use def_workspace::{ALONE, Fault, Vector, run};
 use std::process::Abort;
-
-/// One crate on its own.
-const ALONE: &[CrateText] = &[CrateText {
-    krate: 0,
-    edition: Edition::Edition2021,
-    root_file: 0,
-    deps: &[],
-}];
-
-/// mod a { pub use crate::b::*; pub struct X; } mod b { pub use crate::c::*; } mod c { pub use crate::a::*; }
-const AROUND_THREE: Vector = Vector {
-    name: "a name goes round a cycle",
-    files: &[&[
-        Line {
-            depth: 0,
-            item: ItemText::Mod {
-                vis: VisText::PubSelf,
-                name: "a",
-            },
-        },
-        Line {
-            depth: 1,
-            item: ItemText::Use {
-                vis: VisText::Public,
-                imports: &[ImportText {
-                    path: PathText {
-                        kind: PathKind::Crate,
-                        segments: &["b"],
-                    },
-                    kind: ImportKind::Glob,
-                    alias: None,
-                }],
-            },
-        },
-        Line {
-            depth: 1,
-            item: ItemText::Struct {
-                vis: VisText::Public,
-                name: "X",
-                ctor: CtorText::Vis(VisText::Public),
-            },
-        },
-        Line {
-            depth: 0,
-            item: ItemText::Mod {
-                vis: VisText::PubSelf,
-                name: "b",
-            },
-        },
-        Line {
-            depth: 1,
-            item: ItemText::Use {
-                vis: VisText::Public,
-                imports: &[ImportText {
-                    path: PathText {
-                        kind: PathKind::Crate,
-                        segments: &["c"],
-                    },
-                    kind: ImportKind::Glob,
-                    alias: None,
-                }],
-            },
-        },
-        Line {
-            depth: 0,
-            item: ItemText::Mod {
-                vis: VisText::PubSelf,
-                name: "c",
-            },
-        },
-        Line {
-            depth: 1,
-            item: ItemText::Use {
-                vis: VisText::Public,
-                imports: &[ImportText {
-                    path: PathText {
-                        kind: PathKind::Crate,
-                        segments: &["a"],
-                    },
-                    kind: ImportKind::Glob,
-                    alias: None,
-                }],
-            },
-        },
-    ]],
-    crates: ALONE,
-    builtin_types: &[],
-    enums: &[],
-};
-
-/// mod a { pub struct S; } mod b { use crate::a::*; pub use crate::a::*; }
-const TWICE: Vector = Vector {
-    name: "two globs of one module share an edge",
-    files: &[&[
-        Line {
-            depth: 0,
-            item: ItemText::Mod {
-                vis: VisText::PubSelf,
-                name: "a",
-            },
-        },
-        Line {
-            depth: 1,
-            item: ItemText::Struct {
-                vis: VisText::Public,
-                name: "S",
-                ctor: CtorText::Vis(VisText::Public),
-            },
-        },
-        Line {
-            depth: 0,
-            item: ItemText::Mod {
-                vis: VisText::PubSelf,
-                name: "b",
-            },
-        },
-        Line {
-            depth: 1,
-            item: ItemText::Use {
-                vis: VisText::PubSelf,
-                imports: &[ImportText {
-                    path: PathText {
-                        kind: PathKind::Crate,
-                        segments: &["a"],
-                    },
-                    kind: ImportKind::Glob,
-                    alias: None,
-                }],
-            },
-        },
-        Line {
-            depth: 1,
-            item: ItemText::Use {
-                vis: VisText::Public,
-                imports: &[ImportText {
-                    path: PathText {
-                        kind: PathKind::Crate,
-                        segments: &["a"],
-                    },
-                    kind: ImportKind::Glob,
-                    alias: None,
-                }],
-            },
-        },
-    ]],
-    crates: ALONE,
-    builtin_types: &[],
-    enums: &[],
-};
-
-/// mod a { pub struct S; } mod b { pub struct S; } use b::*; use a::*;
-const OF_TWO_MODULES: Vector = Vector {
-    name: "the first of two globs binds a name",
-    files: &[&[
-        Line {
-            depth: 0,
-            item: ItemText::Mod {
-                vis: VisText::PubSelf,
-                name: "a",
-            },
-        },
-        Line {
-            depth: 1,
-            item: ItemText::Struct {
-                vis: VisText::Public,
-                name: "S",
-                ctor: CtorText::Vis(VisText::Public),
-            },
-        },
-        Line {
-            depth: 0,
-            item: ItemText::Mod {
-                vis: VisText::PubSelf,
-                name: "b",
-            },
-        },
-        Line {
-            depth: 1,
-            item: ItemText::Struct {
-                vis: VisText::Public,
-                name: "S",
-                ctor: CtorText::Vis(VisText::Public),
-            },
-        },
-        Line {
-            depth: 0,
-            item: ItemText::Use {
-                vis: VisText::PubSelf,
-                imports: &[ImportText {
-                    path: PathText {
-                        kind: PathKind::Plain,
-                        segments: &["b"],
-                    },
-                    kind: ImportKind::Glob,
-                    alias: None,
-                }],
-            },
-        },
-        Line {
-            depth: 0,
-            item: ItemText::Use {
-                vis: VisText::PubSelf,
-                imports: &[ImportText {
-                    path: PathText {
-                        kind: PathKind::Plain,
-                        segments: &["a"],
-                    },
-                    kind: ImportKind::Glob,
-                    alias: None,
-                }],
-            },
-        },
-    ]],
-    crates: ALONE,
-    builtin_types: &[],
-    enums: &[],
-};
-
-/// pub struct S; use self::*;
-const OF_ITSELF: Vector = Vector {
-    name: "a module may import itself",
-    files: &[&[
-        Line {
-            depth: 0,
-            item: ItemText::Struct {
-                vis: VisText::Public,
-                name: "S",
-                ctor: CtorText::Vis(VisText::Public),
-            },
-        },
-        Line {
-            depth: 0,
-            item: ItemText::Use {
-                vis: VisText::PubSelf,
-                imports: &[ImportText {
-                    path: PathText {
-                        kind: PathKind::Super(0),
-                        segments: &[],
-                    },
-                    kind: ImportKind::Glob,
-                    alias: None,
-                }],
-            },
-        },
-    ]],
-    crates: ALONE,
-    builtin_types: &[],
-    enums: &[],
-};
-
-/// use gone::*;
-const OF_NOTHING: Vector = Vector {
-    name: "a glob of nothing is left over",
-    files: &[&[Line {
-        depth: 0,
-        item: ItemText::Use {
-            vis: VisText::PubSelf,
-            imports: &[ImportText {
-                path: PathText {
-                    kind: PathKind::Plain,
-                    segments: &["gone"],
-                },
-                kind: ImportKind::Glob,
-                alias: None,
-            }],
-        },
-    }]],
-    crates: ALONE,
-    builtin_types: &[],
-    enums: &[],
-};
-
-/// pub struct S; use self::S::*;
-const OF_A_STRUCT: Vector = Vector {
-    name: "a glob of a struct brings nothing",
-    files: &[&[
-        Line {
-            depth: 0,
-            item: ItemText::Struct {
-                vis: VisText::Public,
-                name: "S",
-                ctor: CtorText::Vis(VisText::Public),
-            },
-        },
-        Line {
-            depth: 0,
-            item: ItemText::Use {
-                vis: VisText::PubSelf,
-                imports: &[ImportText {
-                    path: PathText {
-                        kind: PathKind::Super(0),
-                        segments: &["S"],
-                    },
-                    kind: ImportKind::Glob,
-                    alias: None,
-                }],
-            },
-        },
-    ]],
-    crates: ALONE,
-    builtin_types: &[],
-    enums: &[],
-};
-
-/// mod d { pub(crate) use crate::s::*; pub use crate::x::*; } mod e { pub use crate::d::*; } mod x { pub use crate::s::*; } mod s { pub use crate::o::T; } mod o { pub struct T; }
-const RAISED: Vector = Vector {
-    name: "a name that is raised travels on",
-    files: &[&[
-        Line {
-            depth: 0,
-            item: ItemText::Mod {
-                vis: VisText::PubSelf,
-                name: "d",
-            },
-        },
-        Line {
-            depth: 1,
-            item: ItemText::Use {
-                vis: VisText::PubCrate,
-                imports: &[ImportText {
-                    path: PathText {
-                        kind: PathKind::Crate,
-                        segments: &["s"],
-                    },
-                    kind: ImportKind::Glob,
-                    alias: None,
-                }],
-            },
-        },
-        Line {
-            depth: 1,
-            item: ItemText::Use {
-                vis: VisText::Public,
-                imports: &[ImportText {
-                    path: PathText {
-                        kind: PathKind::Crate,
-                        segments: &["x"],
-                    },
-                    kind: ImportKind::Glob,
-                    alias: None,
-                }],
-            },
-        },
-        Line {
-            depth: 0,
-            item: ItemText::Mod {
-                vis: VisText::PubSelf,
-                name: "e",
-            },
-        },
-        Line {
-            depth: 1,
-            item: ItemText::Use {
-                vis: VisText::Public,
-                imports: &[ImportText {
-                    path: PathText {
-                        kind: PathKind::Crate,
-                        segments: &["d"],
-                    },
-                    kind: ImportKind::Glob,
-                    alias: None,
-                }],
-            },
-        },
-        Line {
-            depth: 0,
-            item: ItemText::Mod {
-                vis: VisText::PubSelf,
-                name: "x",
-            },
-        },
-        Line {
-            depth: 1,
-            item: ItemText::Use {
-                vis: VisText::Public,
-                imports: &[ImportText {
-                    path: PathText {
-                        kind: PathKind::Crate,
-                        segments: &["s"],
-                    },
-                    kind: ImportKind::Glob,
-                    alias: None,
-                }],
-            },
-        },
-        Line {
-            depth: 0,
-            item: ItemText::Mod {
-                vis: VisText::PubSelf,
-                name: "s",
-            },
-        },
-        Line {
-            depth: 1,
-            item: ItemText::Use {
-                vis: VisText::Public,
-                imports: &[ImportText {
-                    path: PathText {
-                        kind: PathKind::Crate,
-                        segments: &["o", "T"],
-                    },
-                    kind: ImportKind::Plain,
-                    alias: None,
-                }],
-            },
-        },
-        Line {
-            depth: 0,
-            item: ItemText::Mod {
-                vis: VisText::PubSelf,
-                name: "o",
-            },
-        },
-        Line {
-            depth: 1,
-            item: ItemText::Struct {
-                vis: VisText::Public,
-                name: "T",
-                ctor: CtorText::Vis(VisText::Public),
-            },
-        },
-    ]],
-    crates: ALONE,
-    builtin_types: &[],
-    enums: &[],
-};
-
-/// use m::n::*; mod t { pub trait N {} } mod m { use crate::t::*; pub mod n { pub use crate::m::*; } pub use crate::t::*; }
-const RAISED_BEHIND: Vector = Vector {
-    name: "a name that is raised is seen further on",
-    files: &[&[
-        Line {
-            depth: 0,
-            item: ItemText::Use {
-                vis: VisText::PubSelf,
-                imports: &[ImportText {
-                    path: PathText {
-                        kind: PathKind::Plain,
-                        segments: &["m", "n"],
-                    },
-                    kind: ImportKind::Glob,
-                    alias: None,
-                }],
-            },
-        },
-        Line {
-            depth: 0,
-            item: ItemText::Mod {
-                vis: VisText::PubSelf,
-                name: "t",
-            },
-        },
-        Line {
-            depth: 1,
-            item: ItemText::Plain {
-                kind: PlainKind::Trait,
-                vis: VisText::Public,
-                name: "N",
-            },
-        },
-        Line {
-            depth: 0,
-            item: ItemText::Mod {
-                vis: VisText::PubSelf,
-                name: "m",
-            },
-        },
-        Line {
-            depth: 1,
-            item: ItemText::Use {
-                vis: VisText::PubSelf,
-                imports: &[ImportText {
-                    path: PathText {
-                        kind: PathKind::Crate,
-                        segments: &["t"],
-                    },
-                    kind: ImportKind::Glob,
-                    alias: None,
-                }],
-            },
-        },
-        Line {
-            depth: 1,
-            item: ItemText::Mod {
-                vis: VisText::Public,
-                name: "n",
-            },
-        },
-        Line {
-            depth: 2,
-            item: ItemText::Use {
-                vis: VisText::Public,
-                imports: &[ImportText {
-                    path: PathText {
-                        kind: PathKind::Crate,
-                        segments: &["m"],
-                    },
-                    kind: ImportKind::Glob,
-                    alias: None,
-                }],
-            },
-        },
-        Line {
-            depth: 1,
-            item: ItemText::Use {
-                vis: VisText::Public,
-                imports: &[ImportText {
-                    path: PathText {
-                        kind: PathKind::Crate,
-                        segments: &["t"],
-                    },
-                    kind: ImportKind::Glob,
-                    alias: None,
-                }],
-            },
-        },
-    ]],
-    crates: ALONE,
-    builtin_types: &[],
-    enums: &[],
-};
 
 const GLOB: &str = "module 0 - crate
 module 1 0 a
@@ -720,14 +194,80 @@ edge 3 0 in:0 0.0
 ";
 
 static ROWS: [Row; 8] = [
-    (AROUND_THREE, AROUND_THREE_LINES),
-    (TWICE, TWICE_LINES),
-    (OF_TWO_MODULES, OF_TWO_MODULES_LINES),
-    (OF_ITSELF, OF_ITSELF_LINES),
-    (OF_NOTHING, OF_NOTHING_LINES),
-    (OF_A_STRUCT, OF_A_STRUCT_LINES),
-    (RAISED, RAISED_LINES),
-    (RAISED_BEHIND, RAISED_BEHIND_LINES),
+    (
+        Vector {
+            name: "a name goes round a cycle",
+            files: &[
+                "mod a { pub use crate::b::*; pub struct X; } mod b { pub use crate::c::*; }
+                mod c { pub use crate::a::*; }",
+            ],
+            ..ALONE
+        },
+        AROUND_THREE_LINES,
+    ),
+    (
+        Vector {
+            name: "two globs of one module share an edge",
+            files: &["mod a { pub struct S; } mod b { use crate::a::*; pub use crate::a::*; }"],
+            ..ALONE
+        },
+        TWICE_LINES,
+    ),
+    (
+        Vector {
+            name: "the first of two globs binds a name",
+            files: &["mod a { pub struct S; } mod b { pub struct S; } use b::*; use a::*;"],
+            ..ALONE
+        },
+        OF_TWO_MODULES_LINES,
+    ),
+    (
+        Vector {
+            name: "a module may import itself",
+            files: &["pub struct S; use self::*;"],
+            ..ALONE
+        },
+        OF_ITSELF_LINES,
+    ),
+    (
+        Vector {
+            name: "a glob of nothing is left over",
+            files: &["use gone::*;"],
+            ..ALONE
+        },
+        OF_NOTHING_LINES,
+    ),
+    (
+        Vector {
+            name: "a glob of a struct brings nothing",
+            files: &["pub struct S; use self::S::*;"],
+            ..ALONE
+        },
+        OF_A_STRUCT_LINES,
+    ),
+    (
+        Vector {
+            name: "a name that is raised travels on",
+            files: &[
+                "mod d { pub(crate) use crate::s::*; pub use crate::x::*; }
+                mod e { pub use crate::d::*; } mod x { pub use crate::s::*; }
+                mod s { pub use crate::o::T; } mod o { pub struct T; }",
+            ],
+            ..ALONE
+        },
+        RAISED_LINES,
+    ),
+    (
+        Vector {
+            name: "a name that is raised is seen further on",
+            files: &[
+                "use m::n::*; mod t { pub trait N {} }
+                mod m { use crate::t::*; pub mod n { pub use crate::m::*; } pub use crate::t::*; }",
+            ],
+            ..ALONE
+        },
+        RAISED_BEHIND_LINES,
+    ),
 ];
 
 #[test]

@@ -3,11 +3,7 @@
 #![tactic(auto)]
 
 use def_ids::Edition;
-use def_workspace::{
-    AttrText, CrateText, CtorText, DependencyText, Fault, ImportText, ItemText, Line, PathText,
-    Vector, VisText, Workspace, print,
-};
-use item_tree::{ImportKind, PathKind};
+use def_workspace::{ALONE, CrateText, DependencyText, Fault, Vector, Workspace, print};
 use std::alloc::Global;
 
 /// Crate 1 on its own, and crate 0 over it under the name `d`.
@@ -31,131 +27,12 @@ static CRATES: [CrateText; 2] = [
     },
 ];
 
-/// use O as P;
-const USE_OF_O: Line = Line {
-    depth: 0,
-    item: ItemText::Use {
-        vis: VisText::PubSelf,
-        imports: &[ImportText {
-            path: PathText {
-                kind: PathKind::Plain,
-                segments: &["O"],
-            },
-            kind: ImportKind::Plain,
-            alias: Some("P"),
-        }],
-    },
-};
-
-const MODULE_P: Line = Line {
-    depth: 0,
-    item: ItemText::Mod {
-        vis: VisText::Public,
-        name: "p",
-    },
-};
-
-const STRUCT_O: Line = Line {
-    depth: 1,
-    item: ItemText::Struct {
-        vis: VisText::Public,
-        name: "O",
-        ctor: CtorText::Vis(VisText::Public),
-    },
-};
-
-/// use d::p::*; over pub mod p { pub struct O; struct Q; }
-const WITHOUT_ATTR: &[&[Line]] = &[
-    &[Line {
-        depth: 0,
-        item: ItemText::Use {
-            vis: VisText::PubSelf,
-            imports: &[ImportText {
-                path: PathText {
-                    kind: PathKind::Plain,
-                    segments: &["d", "p"],
-                },
-                kind: ImportKind::Glob,
-                alias: None,
-            }],
-        },
-    }],
-    &[
-        MODULE_P,
-        STRUCT_O,
-        Line {
-            depth: 1,
-            item: ItemText::Struct {
-                vis: VisText::PubSelf,
-                name: "Q",
-                ctor: CtorText::Vis(VisText::PubSelf),
-            },
-        },
-    ],
-];
-
-/// #[prelude_import] use d::p::*; use O as P; over pub mod p { pub struct O; }
-const OF_ANOTHER: &[&[Line]] = &[
-    &[
-        Line {
-            depth: 0,
-            item: ItemText::WithAttr {
-                name: "prelude_import",
-                input: AttrText::Word,
-                item: &ItemText::Use {
-                    vis: VisText::PubSelf,
-                    imports: &[ImportText {
-                        path: PathText {
-                            kind: PathKind::Plain,
-                            segments: &["d", "p"],
-                        },
-                        kind: ImportKind::Glob,
-                        alias: None,
-                    }],
-                },
-            },
-        },
-        USE_OF_O,
-    ],
-    &[MODULE_P, STRUCT_O],
-];
-
-/// use O as P; #[prelude_import] use crate::p::*; pub mod p { pub struct O; }
-const OF_ITS_OWN: &[&[Line]] = &[
-    &[
-        USE_OF_O,
-        Line {
-            depth: 0,
-            item: ItemText::WithAttr {
-                name: "prelude_import",
-                input: AttrText::Word,
-                item: &ItemText::Use {
-                    vis: VisText::PubSelf,
-                    imports: &[ImportText {
-                        path: PathText {
-                            kind: PathKind::Crate,
-                            segments: &["p"],
-                        },
-                        kind: ImportKind::Glob,
-                        alias: None,
-                    }],
-                },
-            },
-        },
-        MODULE_P,
-        STRUCT_O,
-    ],
-    &[],
-];
-
 /// The lines of crate 0, and of how many globs it has targets.
-fn collected(alloc: Global, files: &'static [&'static [Line]]) -> Result<(Vec<u8>, usize), Fault> {
+fn collected(alloc: Global, files: &'static [&'static str]) -> Result<(Vec<u8>, usize), Fault> {
     let vector = Vector {
-        name: "a test's",
         files,
         crates: &CRATES,
-        builtin_types: &[],
-        enums: &[],
+        ..ALONE
     };
     let mut workspace = Workspace::new(alloc, &vector)?;
     workspace.collect_dependency(&CRATES[0])?;
@@ -166,10 +43,10 @@ fn collected(alloc: Global, files: &'static [&'static [Line]]) -> Result<(Vec<u8
 }
 
 /// What a row shows, its files, the lines of crate 0, and of how many globs it has targets.
-static ROWS: [(&str, &[&[Line]], &str, usize); 3] = [
+static ROWS: [(&str, &[&str], &str, usize); 3] = [
     (
         "a glob takes what is public of another crate",
-        WITHOUT_ATTR,
+        &["use d::p::*;", "pub mod p { pub struct O; struct Q; }"],
         "module 0 - crate
 binding 0 O types struct:0 in:0 glob:0.0
 binding 0 O values struct:0 in:0 glob:0.0
@@ -178,7 +55,10 @@ binding 0 O values struct:0 in:0 glob:0.0
     ),
     (
         "a prelude import adds no edge and no target",
-        OF_ANOTHER,
+        &[
+            "#[prelude_import] use d::p::*; use O as P;",
+            "pub mod p { pub struct O; }",
+        ],
         "module 0 - crate
 binding 0 P types struct:0 in:0 import:1.0
 binding 0 P values struct:0 in:0 import:1.0
@@ -187,7 +67,10 @@ binding 0 P values struct:0 in:0 import:1.0
     ),
     (
         "nor does one of the crate itself",
-        OF_ITS_OWN,
+        &[
+            "use O as P; #[prelude_import] use crate::p::*; pub mod p { pub struct O; }",
+            "",
+        ],
         "module 0 - crate
 module 1 0 p
 binding 0 P types struct:0 in:0 import:0.0

@@ -5,7 +5,7 @@ use def_map::{
     DefMap, DeriveKey, DeriveMacroInvocation, MapData, ModuleData, ModuleOrigin, Position,
     Visibility,
 };
-use def_workspace::{CrateText, DependencyText, Fault, Line, Vector, Workspace};
+use def_workspace::{ALONE, CrateText, DependencyText, Fault, Vector, Workspace};
 use item_tree::{AttrId, Crate, FileAstId, FileId, HirFileId, MacroCallId, Name, Seq};
 use std::alloc::{AllocError, Global};
 use std::test::Fail;
@@ -79,18 +79,9 @@ static PRELUDES: [(&[CrateText], &str); 4] = [
     ),
 ];
 
-/// A file without items.
-static NO_ITEMS: [&[Line]; 1] = [&[]];
-
 /// The names with which the paths of the first of some crates may begin, in order.
 fn extern_names(alloc: Global, crates: &'static [CrateText]) -> Result<String, Fault> {
-    let vector = Vector {
-        name: "a test's",
-        files: &NO_ITEMS,
-        crates,
-        builtin_types: &[],
-        enums: &[],
-    };
+    let vector = Vector { crates, ..ALONE };
     let mut workspace = Workspace::new(alloc, &vector)?;
     let mut names = String::new(alloc);
     if let Some(text) = crates.first() {

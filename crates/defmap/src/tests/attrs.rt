@@ -2,29 +2,15 @@
 #![tactic(auto)]
 
 use crate::tests::rows::expect_lines;
-use def_ids::Edition;
 use def_map::DefMap;
-use def_workspace::{AttrText, CrateText, Fault, ItemText, Line, Vector, Workspace, find};
+use def_workspace::{ALONE, Fault, Vector, Workspace, find};
 use item_tree::Name;
 use std::alloc::Global;
 use std::process::Abort;
 
-static CRATES: [CrateText; 1] = [CrateText {
-    krate: 0,
-    edition: Edition::Edition2021,
-    root_file: 0,
-    deps: &[],
-}];
-
 /// The crate of one file.
-fn of_file(files: &'static [&'static [Line]]) -> Vector {
-    Vector {
-        name: "a test's",
-        files,
-        crates: &CRATES,
-        builtin_types: &[],
-        enums: &[],
-    }
+fn of_file(files: &'static [&'static str]) -> Vector {
+    Vector { files, ..ALONE }
 }
 
 /// Whether a map has what the attributes of the vector say, one feature and not the other.
@@ -41,7 +27,7 @@ fn has_said(map: &DefMap, feature: Name, other: Name) -> bool {
 fn is_as_said(workspace: &mut Workspace) -> Result<bool, Fault> {
     let feature = workspace.session.intern_name("register_tool")?;
     let other = workspace.session.intern_name("feature")?;
-    let collected = workspace.collect(&CRATES[0])?;
+    let collected = workspace.collect(&ALONE.crates[0])?;
     Ok(has_said(&collected.def_map, feature, other))
 }
 
@@ -56,77 +42,29 @@ fn a_root_file_says_what_its_crate_is(rt: HostRuntime) -> Result<(), Fault> {
     expect_lines(&rt, rt.alloc(), vector, "module 0 - crate\n")
 }
 
-/// #![recursion_limit = ".."], of which the last two are no numbers of 32 bits
-const LIMITS: &[&[Line]] = &[&[
-    Line {
-        depth: 0,
-        item: ItemText::FileAttr {
-            name: "recursion_limit",
-            input: AttrText::Text("5"),
-        },
-    },
-    Line {
-        depth: 0,
-        item: ItemText::FileAttr {
-            name: "recursion_limit",
-            input: AttrText::Text("+4294967295"),
-        },
-    },
-    Line {
-        depth: 0,
-        item: ItemText::FileAttr {
-            name: "recursion_limit",
-            input: AttrText::Text("4294967296"),
-        },
-    },
-    Line {
-        depth: 0,
-        item: ItemText::FileAttr {
-            name: "recursion_limit",
-            input: AttrText::Text("+"),
-        },
-    },
-]];
+/// The last two are no numbers of 32 bits.
+const LIMITS: &[&str] = &[
+    r#"#![recursion_limit = "5"] #![recursion_limit = "+4294967295"]
+    #![recursion_limit = "4294967296"] #![recursion_limit = "+"]"#,
+];
 
-/// #![recursion_limit = ""] #![register_tool(a, b)]
-const NOTHING_SAID: &[&[Line]] = &[&[
-    Line {
-        depth: 0,
-        item: ItemText::FileAttr {
-            name: "recursion_limit",
-            input: AttrText::Text(""),
-        },
-    },
-    Line {
-        depth: 0,
-        item: ItemText::FileAttr {
-            name: "register_tool",
-            input: AttrText::List(&["a", "b"]),
-        },
-    },
-]];
+const NOTHING_SAID: &[&str] = &[r#"#![recursion_limit = ""] #![register_tool(a, b)]"#];
 
 /// The limit and the number of tools of the crate that is collected.
 fn collected_limit(workspace: &mut Workspace) -> Result<(u32, usize), Fault> {
-    let collected = workspace.collect(&CRATES[0])?;
+    let collected = workspace.collect(&ALONE.crates[0])?;
     let map = &collected.def_map;
     Ok((map.recursion_limit(), map.registered_tools().len()))
 }
 
 /// The limit and the number of tools of a crate.
-fn limit_and_tools(
-    alloc: Global,
-    files: &'static [&'static [Line]],
-) -> Result<(u32, usize), Fault> {
+fn limit_and_tools(alloc: Global, files: &'static [&'static str]) -> Result<(u32, usize), Fault> {
     let mut workspace = Workspace::new(alloc, &of_file(files))?;
     collected_limit(&mut workspace)
 }
 
 /// Root files, and the limit and the number of tools of their crates.
-static SAID: [(&[&[Line]], (u32, usize)); 2] = [
-    (LIMITS, (4294967295, 5)),
-    (NOTHING_SAID, (128, 5)),
-];
+static SAID: [(&[&str], (u32, usize)); 2] = [(LIMITS, (4294967295, 5)), (NOTHING_SAID, (128, 5))];
 
 #[test]
 fn the_last_limit_that_is_a_number_counts(rt: HostRuntime) -> Result<(), Fault> {
@@ -136,35 +74,9 @@ fn the_last_limit_that_is_a_number_counts(rt: HostRuntime) -> Result<(), Fault> 
     Ok(())
 }
 
-/// cfg disables the file, which says #![no_std] #![rustc_coherence_is_core]
-/// #![register_tool(tool)]
-static DISABLED: [&[Line]; 1] = [&[
-    Line {
-        depth: 0,
-        item: ItemText::FileDisabled { cfg: 7 },
-    },
-    Line {
-        depth: 0,
-        item: ItemText::FileAttr {
-            name: "no_std",
-            input: AttrText::Word,
-        },
-    },
-    Line {
-        depth: 0,
-        item: ItemText::FileAttr {
-            name: "rustc_coherence_is_core",
-            input: AttrText::Word,
-        },
-    },
-    Line {
-        depth: 0,
-        item: ItemText::FileAttr {
-            name: "register_tool",
-            input: AttrText::List(&["tool"]),
-        },
-    },
-]];
+static DISABLED: [&str; 1] = [
+    "#![cfg(7)] #![no_std] #![rustc_coherence_is_core] #![register_tool(tool)]",
+];
 
 /// Whether a map has what the disabled file says, with this tool as the last.
 fn has_read(map: &DefMap, tool: Name) -> bool {
@@ -177,7 +89,7 @@ fn has_read(map: &DefMap, tool: Name) -> bool {
 /// Whether the disabled file was read.
 fn is_read(workspace: &mut Workspace) -> Result<bool, Fault> {
     let tool = workspace.session.intern_name("tool")?;
-    let collected = workspace.collect(&CRATES[0])?;
+    let collected = workspace.collect(&ALONE.crates[0])?;
     Ok(has_read(&collected.def_map, tool))
 }
 

@@ -4,19 +4,7 @@
 use crate::tests::rows::{Row, expect_rows, expect_vectors};
 use def_ids::Edition;
 use def_map::DefMap;
-use def_workspace::{
-    CrateText, CtorText, DependencyText, Fault, ImportText, ItemText, Line, PathText, Vector,
-    VisText, Workspace,
-};
-use item_tree::{ImportKind, PathKind};
-
-/// One crate on its own.
-const ALONE: &[CrateText] = &[CrateText {
-    krate: 0,
-    edition: Edition::Edition2021,
-    root_file: 0,
-    deps: &[],
-}];
+use def_workspace::{ALONE, CrateText, DependencyText, Fault, Vector, Workspace};
 
 /// Crate 1 on its own, and crate 0 over it under the name `d`, which paths may not begin with.
 const OVER_D: &[CrateText] = &[
@@ -74,415 +62,13 @@ const OVER_TWO: &[CrateText] = &[
     },
 ];
 
-/// extern crate self as me; pub struct S; use me::S as T;
-const ITSELF: Vector = Vector {
-    name: "a crate may name itself",
-    files: &[&[
-        Line {
-            depth: 0,
-            item: ItemText::ExternCrate {
-                vis: VisText::PubSelf,
-                name: "self",
-                alias: Some("me"),
-            },
-        },
-        Line {
-            depth: 0,
-            item: ItemText::Struct {
-                vis: VisText::Public,
-                name: "S",
-                ctor: CtorText::Vis(VisText::Public),
-            },
-        },
-        Line {
-            depth: 0,
-            item: ItemText::Use {
-                vis: VisText::PubSelf,
-                imports: &[ImportText {
-                    path: PathText {
-                        kind: PathKind::Plain,
-                        segments: &["me", "S"],
-                    },
-                    kind: ImportKind::Plain,
-                    alias: Some("T"),
-                }],
-            },
-        },
-    ]],
-    crates: ALONE,
-    builtin_types: &[],
-    enums: &[],
-};
-
-/// pub struct d; extern crate d; over pub struct P;
-const FIRST: Vector = Vector {
-    name: "at a crates root an extern crate goes first",
-    files: &[
-        &[
-            Line {
-                depth: 0,
-                item: ItemText::Struct {
-                    vis: VisText::Public,
-                    name: "d",
-                    ctor: CtorText::Vis(VisText::Public),
-                },
-            },
-            Line {
-                depth: 0,
-                item: ItemText::ExternCrate {
-                    vis: VisText::PubSelf,
-                    name: "d",
-                    alias: None,
-                },
-            },
-        ],
-        &[Line {
-            depth: 0,
-            item: ItemText::Struct {
-                vis: VisText::Public,
-                name: "P",
-                ctor: CtorText::Vis(VisText::Public),
-            },
-        }],
-    ],
-    crates: OVER_D,
-    builtin_types: &[],
-    enums: &[],
-};
-
-/// mod m { pub struct d; extern crate d; } over pub struct P;
-const IN_ORDER: Vector = Vector {
-    name: "in a module an extern crate has its turn",
-    files: &[
-        &[
-            Line {
-                depth: 0,
-                item: ItemText::Mod {
-                    vis: VisText::PubSelf,
-                    name: "m",
-                },
-            },
-            Line {
-                depth: 1,
-                item: ItemText::Struct {
-                    vis: VisText::Public,
-                    name: "d",
-                    ctor: CtorText::Vis(VisText::Public),
-                },
-            },
-            Line {
-                depth: 1,
-                item: ItemText::ExternCrate {
-                    vis: VisText::PubSelf,
-                    name: "d",
-                    alias: None,
-                },
-            },
-        ],
-        &[Line {
-            depth: 0,
-            item: ItemText::Struct {
-                vis: VisText::Public,
-                name: "P",
-                ctor: CtorText::Vis(VisText::Public),
-            },
-        }],
-    ],
-    crates: OVER_D,
-    builtin_types: &[],
-    enums: &[],
-};
-
-/// extern { pub struct d; extern crate d; } over pub struct P;
-const IN_BLOCK: Vector = Vector {
-    name: "in an extern block at the root it goes first too",
-    files: &[
-        &[
-            Line {
-                depth: 0,
-                item: ItemText::ExternBlock,
-            },
-            Line {
-                depth: 1,
-                item: ItemText::Struct {
-                    vis: VisText::Public,
-                    name: "d",
-                    ctor: CtorText::Vis(VisText::Public),
-                },
-            },
-            Line {
-                depth: 1,
-                item: ItemText::ExternCrate {
-                    vis: VisText::PubSelf,
-                    name: "d",
-                    alias: None,
-                },
-            },
-        ],
-        &[Line {
-            depth: 0,
-            item: ItemText::Struct {
-                vis: VisText::Public,
-                name: "P",
-                ctor: CtorText::Vis(VisText::Public),
-            },
-        }],
-    ],
-    crates: OVER_D,
-    builtin_types: &[],
-    enums: &[],
-};
-
-/// extern crate d; pub use d as e; pub use self::d as f; pub use crate::d as g; over nothing
-const EXPORTED: Vector = Vector {
-    name: "an exported extern crate is as visible as the import",
-    files: &[
-        &[
-            Line {
-                depth: 0,
-                item: ItemText::ExternCrate {
-                    vis: VisText::PubSelf,
-                    name: "d",
-                    alias: None,
-                },
-            },
-            Line {
-                depth: 0,
-                item: ItemText::Use {
-                    vis: VisText::Public,
-                    imports: &[ImportText {
-                        path: PathText {
-                            kind: PathKind::Plain,
-                            segments: &["d"],
-                        },
-                        kind: ImportKind::Plain,
-                        alias: Some("e"),
-                    }],
-                },
-            },
-            Line {
-                depth: 0,
-                item: ItemText::Use {
-                    vis: VisText::Public,
-                    imports: &[ImportText {
-                        path: PathText {
-                            kind: PathKind::Super(0),
-                            segments: &["d"],
-                        },
-                        kind: ImportKind::Plain,
-                        alias: Some("f"),
-                    }],
-                },
-            },
-            Line {
-                depth: 0,
-                item: ItemText::Use {
-                    vis: VisText::Public,
-                    imports: &[ImportText {
-                        path: PathText {
-                            kind: PathKind::Crate,
-                            segments: &["d"],
-                        },
-                        kind: ImportKind::Plain,
-                        alias: Some("g"),
-                    }],
-                },
-            },
-        ],
-        &[],
-    ],
-    crates: OVER_D,
-    builtin_types: &[],
-    enums: &[],
-};
-
-/// mod m { use e::P; } extern crate d as e; over pub struct P;
-const SEEN: Vector = Vector {
-    name: "paths may begin with an extern crate of the root",
-    files: &[
-        &[
-            Line {
-                depth: 0,
-                item: ItemText::Mod {
-                    vis: VisText::PubSelf,
-                    name: "m",
-                },
-            },
-            Line {
-                depth: 1,
-                item: ItemText::Use {
-                    vis: VisText::PubSelf,
-                    imports: &[ImportText {
-                        path: PathText {
-                            kind: PathKind::Plain,
-                            segments: &["e", "P"],
-                        },
-                        kind: ImportKind::Plain,
-                        alias: None,
-                    }],
-                },
-            },
-            Line {
-                depth: 0,
-                item: ItemText::ExternCrate {
-                    vis: VisText::PubSelf,
-                    name: "d",
-                    alias: Some("e"),
-                },
-            },
-        ],
-        &[Line {
-            depth: 0,
-            item: ItemText::Struct {
-                vis: VisText::Public,
-                name: "P",
-                ctor: CtorText::Vis(VisText::Public),
-            },
-        }],
-    ],
-    crates: OVER_D,
-    builtin_types: &[],
-    enums: &[],
-};
-
-/// mod m { extern crate d as e; } use e::P; over pub struct P;
-const UNSEEN: Vector = Vector {
-    name: "and not with one of a module",
-    files: &[
-        &[
-            Line {
-                depth: 0,
-                item: ItemText::Mod {
-                    vis: VisText::PubSelf,
-                    name: "m",
-                },
-            },
-            Line {
-                depth: 1,
-                item: ItemText::ExternCrate {
-                    vis: VisText::PubSelf,
-                    name: "d",
-                    alias: Some("e"),
-                },
-            },
-            Line {
-                depth: 0,
-                item: ItemText::Use {
-                    vis: VisText::PubSelf,
-                    imports: &[ImportText {
-                        path: PathText {
-                            kind: PathKind::Plain,
-                            segments: &["e", "P"],
-                        },
-                        kind: ImportKind::Plain,
-                        alias: None,
-                    }],
-                },
-            },
-        ],
-        &[Line {
-            depth: 0,
-            item: ItemText::Struct {
-                vis: VisText::Public,
-                name: "P",
-                ctor: CtorText::Vis(VisText::Public),
-            },
-        }],
-    ],
-    crates: OVER_D,
-    builtin_types: &[],
-    enums: &[],
-};
-
-/// extern crate d as _; extern crate gone as _; use gone::X; over nothing
-const NAMELESS: Vector = Vector {
-    name: "an extern crate without a name is neither put nor remembered",
-    files: &[
-        &[
-            Line {
-                depth: 0,
-                item: ItemText::ExternCrate {
-                    vis: VisText::PubSelf,
-                    name: "d",
-                    alias: Some("_"),
-                },
-            },
-            Line {
-                depth: 0,
-                item: ItemText::ExternCrate {
-                    vis: VisText::PubSelf,
-                    name: "gone",
-                    alias: Some("_"),
-                },
-            },
-            Line {
-                depth: 0,
-                item: ItemText::Use {
-                    vis: VisText::PubSelf,
-                    imports: &[ImportText {
-                        path: PathText {
-                            kind: PathKind::Plain,
-                            segments: &["gone", "X"],
-                        },
-                        kind: ImportKind::Plain,
-                        alias: None,
-                    }],
-                },
-            },
-        ],
-        &[],
-    ],
-    crates: OVER_D,
-    builtin_types: &[],
-    enums: &[],
-};
-
-/// extern crate d; use d::P; over nothing, and over pub struct P;
-const LATER: Vector = Vector {
-    name: "of two dependencies of a name the later stands",
-    files: &[
-        &[
-            Line {
-                depth: 0,
-                item: ItemText::ExternCrate {
-                    vis: VisText::PubSelf,
-                    name: "d",
-                    alias: None,
-                },
-            },
-            Line {
-                depth: 0,
-                item: ItemText::Use {
-                    vis: VisText::PubSelf,
-                    imports: &[ImportText {
-                        path: PathText {
-                            kind: PathKind::Plain,
-                            segments: &["d", "P"],
-                        },
-                        kind: ImportKind::Plain,
-                        alias: None,
-                    }],
-                },
-            },
-        ],
-        &[],
-        &[Line {
-            depth: 0,
-            item: ItemText::Struct {
-                vis: VisText::Public,
-                name: "P",
-                ctor: CtorText::Vis(VisText::Public),
-            },
-        }],
-    ],
-    crates: OVER_TWO,
-    builtin_types: &[],
-    enums: &[],
-};
-
 static ROWS: [Row; 9] = [
     (
-        ITSELF,
+        Vector {
+            name: "a crate may name itself",
+            files: &["extern crate self as me; pub struct S; use me::S as T;"],
+            ..ALONE
+        },
         "module 0 - crate
 binding 0 S types struct:0 pub decl
 binding 0 S values struct:0 pub decl
@@ -492,14 +78,24 @@ binding 0 me types mod:0 in:0 extern:0
 ",
     ),
     (
-        FIRST,
+        Vector {
+            name: "at a crates root an extern crate goes first",
+            files: &["pub struct d; extern crate d;", "pub struct P;"],
+            crates: OVER_D,
+            ..ALONE
+        },
         "module 0 - crate
 binding 0 d types mod:1/0 in:0 extern:0
 binding 0 d values struct:1 pub decl
 ",
     ),
     (
-        IN_ORDER,
+        Vector {
+            name: "in a module an extern crate has its turn",
+            files: &["mod m { pub struct d; extern crate d; }", "pub struct P;"],
+            crates: OVER_D,
+            ..ALONE
+        },
         "module 0 - crate
 module 1 0 m
 binding 0 m types mod:1 in:0 decl
@@ -508,14 +104,27 @@ binding 1 d values struct:1 pub decl
 ",
     ),
     (
-        IN_BLOCK,
+        Vector {
+            name: "in an extern block at the root it goes first too",
+            files: &["extern { pub struct d; extern crate d; }", "pub struct P;"],
+            crates: OVER_D,
+            ..ALONE
+        },
         "module 0 - crate
 binding 0 d types mod:1/0 in:0 extern:0
 binding 0 d values struct:1 pub decl
 ",
     ),
     (
-        EXPORTED,
+        Vector {
+            name: "an exported extern crate is as visible as the import",
+            files: &[
+                "extern crate d; pub use d as e; pub use self::d as f; pub use crate::d as g;",
+                "",
+            ],
+            crates: OVER_D,
+            ..ALONE
+        },
         "module 0 - crate
 binding 0 d types mod:1/0 in:0 extern:0
 binding 0 e types mod:1/0 pub import:0.0
@@ -524,7 +133,12 @@ binding 0 g types mod:1/0 in:0 import:2.0
 ",
     ),
     (
-        SEEN,
+        Vector {
+            name: "paths may begin with an extern crate of the root",
+            files: &["mod m { use e::P; } extern crate d as e;", "pub struct P;"],
+            crates: OVER_D,
+            ..ALONE
+        },
         "module 0 - crate
 module 1 0 m
 binding 0 e types mod:1/0 in:0 extern:0
@@ -534,7 +148,12 @@ binding 1 P values struct:0 in:1 import:0.0
 ",
     ),
     (
-        UNSEEN,
+        Vector {
+            name: "and not with one of a module",
+            files: &["mod m { extern crate d as e; } use e::P;", "pub struct P;"],
+            crates: OVER_D,
+            ..ALONE
+        },
         "module 0 - crate
 module 1 0 m
 binding 0 m types mod:1 in:0 decl
@@ -544,7 +163,15 @@ left import 0 e::P
 ",
     ),
     (
-        NAMELESS,
+        Vector {
+            name: "an extern crate without a name is neither put nor remembered",
+            files: &[
+                "extern crate d as _; extern crate gone as _; use gone::X;",
+                "",
+            ],
+            crates: OVER_D,
+            ..ALONE
+        },
         "module 0 - crate
 diag unresolved-extern-crate 0 0:1
 diag unresolved-import 0 0:2 0
@@ -552,7 +179,12 @@ left import 0 gone::X
 ",
     ),
     (
-        LATER,
+        Vector {
+            name: "of two dependencies of a name the later stands",
+            files: &["extern crate d; use d::P;", "", "pub struct P;"],
+            crates: OVER_TWO,
+            ..ALONE
+        },
         "module 0 - crate
 binding 0 P types struct:0 in:0 import:0.0
 binding 0 P values struct:0 in:0 import:0.0
@@ -583,40 +215,11 @@ fn imports_of_a_missing_crate_are_excused(rt: HostRuntime) -> Result<(), Fault> 
     expect_vectors(&rt, rt.alloc(), &VECTORS)
 }
 
-/// extern crate gone; mod m { extern crate d; } over nothing
 const RECORDED: Vector = Vector {
     name: "each extern crate is recorded",
-    files: &[
-        &[
-            Line {
-                depth: 0,
-                item: ItemText::ExternCrate {
-                    vis: VisText::PubSelf,
-                    name: "gone",
-                    alias: None,
-                },
-            },
-            Line {
-                depth: 0,
-                item: ItemText::Mod {
-                    vis: VisText::PubSelf,
-                    name: "m",
-                },
-            },
-            Line {
-                depth: 1,
-                item: ItemText::ExternCrate {
-                    vis: VisText::PubSelf,
-                    name: "d",
-                    alias: None,
-                },
-            },
-        ],
-        &[],
-    ],
+    files: &["extern crate gone; mod m { extern crate d; }", ""],
     crates: OVER_D,
-    builtin_types: &[],
-    enums: &[],
+    ..ALONE
 };
 
 /// How many extern crates the root has, and the module of this number.

@@ -3,10 +3,7 @@
 
 use crate::tests::rows::{Row, expect_rows};
 use def_ids::Edition;
-use def_workspace::{
-    BuiltinText, CrateText, CtorText, Fault, ImportText, ItemText, Line, PathText, Vector, VisText,
-};
-use item_tree::{ImportKind, PathKind};
+use def_workspace::{ALONE, BuiltinText, CrateText, Fault, Vector};
 
 const IN_2015: &[CrateText] = &[CrateText {
     krate: 0,
@@ -15,91 +12,7 @@ const IN_2015: &[CrateText] = &[CrateText {
     deps: &[],
 }];
 
-const IN_2021: &[CrateText] = &[CrateText {
-    krate: 0,
-    edition: Edition::Edition2021,
-    root_file: 0,
-    deps: &[],
-}];
-
-/// mod a { use b::X; } mod b { pub struct X; }
-const TWO_MODULES: &[&[Line]] = &[&[
-    Line {
-        depth: 0,
-        item: ItemText::Mod {
-            vis: VisText::PubSelf,
-            name: "a",
-        },
-    },
-    Line {
-        depth: 1,
-        item: ItemText::Use {
-            vis: VisText::PubSelf,
-            imports: &[ImportText {
-                path: PathText {
-                    kind: PathKind::Plain,
-                    segments: &["b", "X"],
-                },
-                kind: ImportKind::Plain,
-                alias: None,
-            }],
-        },
-    },
-    Line {
-        depth: 0,
-        item: ItemText::Mod {
-            vis: VisText::PubSelf,
-            name: "b",
-        },
-    },
-    Line {
-        depth: 1,
-        item: ItemText::Struct {
-            vis: VisText::Public,
-            name: "X",
-            ctor: CtorText::Vis(VisText::Public),
-        },
-    },
-]];
-
-/// mod u8 {} use u8 as m; use u16 as n;
-const USES_OF_TYPES: &[&[Line]] = &[&[
-    Line {
-        depth: 0,
-        item: ItemText::Mod {
-            vis: VisText::PubSelf,
-            name: "u8",
-        },
-    },
-    Line {
-        depth: 0,
-        item: ItemText::Use {
-            vis: VisText::PubSelf,
-            imports: &[ImportText {
-                path: PathText {
-                    kind: PathKind::Plain,
-                    segments: &["u8"],
-                },
-                kind: ImportKind::Plain,
-                alias: Some("m"),
-            }],
-        },
-    },
-    Line {
-        depth: 0,
-        item: ItemText::Use {
-            vis: VisText::PubSelf,
-            imports: &[ImportText {
-                path: PathText {
-                    kind: PathKind::Plain,
-                    segments: &["u16"],
-                },
-                kind: ImportKind::Plain,
-                alias: Some("n"),
-            }],
-        },
-    },
-]];
+const TWO_MODULES: &[&str] = &["mod a { use b::X; } mod b { pub struct X; }"];
 
 const BUILTIN_TYPES: &[BuiltinText] = &[
     BuiltinText {
@@ -148,7 +61,7 @@ static ROWS: [Row; 3] = [
             files: TWO_MODULES,
             crates: IN_2015,
             builtin_types: BUILTIN_TYPES,
-            enums: &[],
+            ..ALONE
         },
         OLD_LINES,
     ),
@@ -156,19 +69,17 @@ static ROWS: [Row; 3] = [
         Vector {
             name: "and later where it stands",
             files: TWO_MODULES,
-            crates: IN_2021,
             builtin_types: BUILTIN_TYPES,
-            enums: &[],
+            ..ALONE
         },
         NEW_LINES,
     ),
     (
         Vector {
             name: "a module goes before a builtin type in an import",
-            files: USES_OF_TYPES,
-            crates: IN_2021,
+            files: &["mod u8 {} use u8 as m; use u16 as n;"],
             builtin_types: BUILTIN_TYPES,
-            enums: &[],
+            ..ALONE
         },
         TYPES_LINES,
     ),

@@ -2,145 +2,20 @@
 #![tactic(auto)]
 
 use crate::tests::rows::{Row, expect_rows};
-use def_ids::Edition;
-use def_workspace::{
-    CrateText, CtorText, Fault, ImportText, ItemText, Line, PathText, Vector, VisText,
-};
-use item_tree::{ImportKind, PathKind};
-
-/// mod b { use crate::s::*; pub use crate::a::*; } mod c { pub use crate::b::*; }
-/// mod a { pub use crate::s::*; } mod s { pub use crate::t::N; } mod t { pub struct N; }
-const TWICE: Vector = Vector {
-    name: "a module is raised at its second visit",
-    files: &[&[
-        Line {
-            depth: 0,
-            item: ItemText::Mod {
-                vis: VisText::PubSelf,
-                name: "b",
-            },
-        },
-        Line {
-            depth: 1,
-            item: ItemText::Use {
-                vis: VisText::PubSelf,
-                imports: &[ImportText {
-                    path: PathText {
-                        kind: PathKind::Crate,
-                        segments: &["s"],
-                    },
-                    kind: ImportKind::Glob,
-                    alias: None,
-                }],
-            },
-        },
-        Line {
-            depth: 1,
-            item: ItemText::Use {
-                vis: VisText::Public,
-                imports: &[ImportText {
-                    path: PathText {
-                        kind: PathKind::Crate,
-                        segments: &["a"],
-                    },
-                    kind: ImportKind::Glob,
-                    alias: None,
-                }],
-            },
-        },
-        Line {
-            depth: 0,
-            item: ItemText::Mod {
-                vis: VisText::PubSelf,
-                name: "c",
-            },
-        },
-        Line {
-            depth: 1,
-            item: ItemText::Use {
-                vis: VisText::Public,
-                imports: &[ImportText {
-                    path: PathText {
-                        kind: PathKind::Crate,
-                        segments: &["b"],
-                    },
-                    kind: ImportKind::Glob,
-                    alias: None,
-                }],
-            },
-        },
-        Line {
-            depth: 0,
-            item: ItemText::Mod {
-                vis: VisText::PubSelf,
-                name: "a",
-            },
-        },
-        Line {
-            depth: 1,
-            item: ItemText::Use {
-                vis: VisText::Public,
-                imports: &[ImportText {
-                    path: PathText {
-                        kind: PathKind::Crate,
-                        segments: &["s"],
-                    },
-                    kind: ImportKind::Glob,
-                    alias: None,
-                }],
-            },
-        },
-        Line {
-            depth: 0,
-            item: ItemText::Mod {
-                vis: VisText::PubSelf,
-                name: "s",
-            },
-        },
-        Line {
-            depth: 1,
-            item: ItemText::Use {
-                vis: VisText::Public,
-                imports: &[ImportText {
-                    path: PathText {
-                        kind: PathKind::Crate,
-                        segments: &["t", "N"],
-                    },
-                    kind: ImportKind::Plain,
-                    alias: None,
-                }],
-            },
-        },
-        Line {
-            depth: 0,
-            item: ItemText::Mod {
-                vis: VisText::PubSelf,
-                name: "t",
-            },
-        },
-        Line {
-            depth: 1,
-            item: ItemText::Struct {
-                vis: VisText::Public,
-                name: "N",
-                ctor: CtorText::Vis(VisText::Public),
-            },
-        },
-    ]],
-    crates: &[CrateText {
-        krate: 0,
-        edition: Edition::Edition2021,
-        root_file: 0,
-        deps: &[],
-    }],
-    builtin_types: &[],
-    enums: &[],
-};
+use def_workspace::{ALONE, Fault, Vector};
 
 /// `s` gets the name when all edges stand. It comes to `b` by its own edge, too private for `c`,
 /// and then by way of `a`, as visible as it is.
 static ROWS: [Row; 1] = [(
-    TWICE,
+    Vector {
+        name: "a module is raised at its second visit",
+        files: &[
+            "mod b { use crate::s::*; pub use crate::a::*; } mod c { pub use crate::b::*; }
+            mod a { pub use crate::s::*; } mod s { pub use crate::t::N; }
+            mod t { pub struct N; }",
+        ],
+        ..ALONE
+    },
     "module 0 - crate
 module 1 0 b
 module 2 0 c

@@ -1,10 +1,10 @@
-//! The examples at work.
+//! The examples of the library's use, at work.
 
-use crate::oracle::database;
-use crate::reading::{first_left_over, type_at_path, type_in_scope};
-use crate::{blocks, dependencies, two_files};
-use hir_def::{Def, Interner, StructId};
+use def_ids::{Def, Interner, StructId};
 use std::test::Fail;
+use uses::oracle::database;
+use uses::reading::{first_left_over, type_at_path, type_in_scope};
+use uses::{blocks, dependencies, two_files};
 
 /// The one struct of each example.
 const STRUCT: Def = Def::Struct(StructId(0));
