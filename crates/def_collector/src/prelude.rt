@@ -6,7 +6,7 @@ ghost use Rattle.def_rules.specs.Start.{head_of, with_head, with_prelude};
 
 use def_crates::prelude_path;
 use def_ids::{Interner, ModuleId};
-use def_map::{SourceDatabase, World, resolve_module};
+use def_map::{SourceDatabase, resolve_module};
 use def_state::DefCollector;
 use std::alloc::AllocError;
 
@@ -34,19 +34,12 @@ fn prelude_module<D: SourceDatabase>(
     if collector.def_map.krate.no_core {
         return Ok(None);
     }
-    let local = collector.local();
     let krate = &collector.def_map.krate;
+    let local = collector.local();
     let path = prelude_path(collector.alloc, krate.edition, krate.no_std, local)?;
     let root = ModuleId {
         map: collector.def_map.tree.map,
         index: 0,
     };
-    let world = World {
-        map: &collector.def_map,
-        table: collector.table.table(),
-        local,
-        db,
-        session,
-    };
-    Ok(resolve_module(&world, root, &path))
+    Ok(resolve_module(&collector.world(db, session), root, &path))
 }

@@ -1,8 +1,6 @@
-use Rattle.std.proofs.Common.{ap, refl, ◌∙◌}
+use Rattle.std.proofs.Common.{ap, refl, sym, ◌∙◌}
 use Rattle.def_modules.specs.Locals.{local_view}
-use Rattle.def_modules.specs.Maps.{facts_of}
 use Rattle.def_map.specs.Paths.{for_module, module_found, resolve}
-use Rattle.def_modules.specs.Tables.{bound_by}
 use Rattle.def_state.specs.Collector.{state_of}
 use Rattle.def_rules.specs.State.{root, world}
 use Rattle.def_laws.proofs.StartLaws.{prelude_found}
@@ -16,6 +14,5 @@ returns g c =
     let path = c.in_ok-path.path in
     let found = resolve (record (world oracle s) { local = local }) for_module (root s.map) path in
     prelude_found oracle s local path (found.resolved_def, found.segment_index) c.resolve_module.result c.if-collector.false
-    (c.resolve_module.ensures
-    ∙ ap (λ table. module_found (resolve (record (world oracle s) { map = record { facts = facts_of c.args.collector.now.def_map; content = bound_by table }; local = local }) for_module (root s.map) path)) c.table.ensures)
+    (c.resolve_module.ensures ∙ ap (λ w. module_found (resolve w for_module (root s.map) path)) (c.world.ensures ∙ ap (λ l. record (world oracle s) { local = l }) (sym c.local-local.ensures)))
     refl c.local-local.ensures c.in_ok-path.ensures
