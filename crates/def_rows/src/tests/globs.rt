@@ -90,14 +90,24 @@ fn add_cycle<T: BindingTable<Vis = Level>>(globs: &mut Globs<T>) -> Result<(), A
     globs.add_edge(&Levels, module(2), module(0), Level::Low, glob(2))
 }
 
+/// Asserts what the name stands for in a module.
+fn assert_bound<T: BindingTable<Vis = Level>>(
+    rt: &impl Abort,
+    globs: &Globs<T>,
+    index: usize,
+    want: Option<Binding<Level>>,
+) {
+    assert_eq!(rt; name_in(globs, index), want, "in {index}");
+}
+
 #[test]
 fn a_name_travels_round_a_cycle(rt: HostRuntime) -> Result<(), Fail> {
     let mut globs = Globs::new(rt.alloc(), ScopeTable::new(rt.alloc())?);
     add_cycle(&mut globs)?;
     globs.update(&Levels, module(0), &[declared(1, Level::High)])?;
-    assert_eq!(rt; name_in(&globs, 0), bound(1, Level::High, None));
-    assert_eq!(rt; name_in(&globs, 1), bound(1, Level::High, Some(glob(0))));
-    assert_eq!(rt; name_in(&globs, 2), bound(1, Level::Middle, Some(glob(1))));
+    assert_bound(&rt, &globs, 0, bound(1, Level::High, None));
+    assert_bound(&rt, &globs, 1, bound(1, Level::High, Some(glob(0))));
+    assert_bound(&rt, &globs, 2, bound(1, Level::Middle, Some(glob(1))));
     Ok(())
 }
 
@@ -124,8 +134,18 @@ fn a_wave_follows_the_first_edge_to_its_end(rt: HostRuntime) -> Result<(), Fail>
     add_open_edge(&mut globs, 0, 2, 1)?;
     add_open_edge(&mut globs, 1, 2, 2)?;
     globs.update(&Levels, module(0), &[declared(1, Level::High)])?;
-    assert_eq!(rt; name_in(&globs, 2), bound(1, Level::High, Some(glob(2))));
+    assert_bound(&rt, &globs, 2, bound(1, Level::High, Some(glob(2))));
     Ok(())
+}
+
+/// Asserts which names a module binds first.
+fn assert_names<T: BindingTable>(rt: &impl Abort, globs: &Globs<T>, index: usize, want: &[Name]) {
+    for place in 0..want.len() {
+        assert_eq!(rt;
+            globs.table().name_at(module(index), place),
+            Some(want[place])
+        );
+    }
 }
 
 #[test]
@@ -138,8 +158,7 @@ fn names_travel_in_the_order_of_the_list(rt: HostRuntime) -> Result<(), Fail> {
         ..declared(2, Level::High)
     };
     globs.update(&Levels, module(0), &[first, second])?;
-    assert_eq!(rt; globs.table().name_at(module(1), 0), Some(NAME));
-    assert_eq!(rt; globs.table().name_at(module(1), 1), Some(Name(41)));
+    assert_names(&rt, &globs, 1, &[NAME, Name(41)]);
     Ok(())
 }
 
@@ -148,8 +167,8 @@ fn a_name_stops_where_it_is_not_seen(rt: HostRuntime) -> Result<(), Fail> {
     let mut globs = Globs::new(rt.alloc(), NumberedTable::new(rt.alloc())?);
     add_cycle(&mut globs)?;
     globs.update(&Levels, module(0), &[declared(1, Level::Middle)])?;
-    assert_eq!(rt; name_in(&globs, 1), bound(1, Level::Middle, Some(glob(0))));
-    assert_eq!(rt; name_in(&globs, 2), None);
+    assert_bound(&rt, &globs, 1, bound(1, Level::Middle, Some(glob(0))));
+    assert_bound(&rt, &globs, 2, None);
     Ok(())
 }
 

@@ -2,6 +2,7 @@
 
 use item_tree::{Leaf, Name, TopSubtree, TopSubtreeBuilder, TtIter};
 use std::alloc::{AllocError, Global};
+use std::process::Abort;
 use std::test::Fail;
 
 /// With a hundred bytes for each level, more than a stack of 8 MB holds.
@@ -43,8 +44,9 @@ fn first_list(trees: Option<TtIter<'_>>) -> Option<TtIter<'_>> {
     trees?.next()?.subtree()
 }
 
-/// What stands in the second element.
-fn inside_second(mut trees: TtIter<'_>) -> Option<TtIter<'_>> {
+/// What stands in the second element, if that is a list.
+fn inside_second(trees: Option<TtIter<'_>>) -> Option<TtIter<'_>> {
+    let mut trees = trees?;
     let _ = trees.next();
     trees.next()?.subtree()
 }
@@ -101,38 +103,50 @@ fn row(alloc: Global) -> Result<Option<TopSubtree>, AllocError> {
     Ok(trees.build())
 }
 
-#[test]
-fn levels_are_read_one_by_one(rt: HostRuntime) -> Result<(), Fail> {
-    let alloc = rt.alloc();
-    let Some(tree) = row(alloc)? else {
-        return Ok(assert!(rt; false));
-    };
-    let top = names(alloc, tree.iter())?;
-    assert_eq!(rt; top, vec![in alloc; Some(A), None, None, Some(E)]?);
-    let Some(second) = inside_second(tree.iter()) else {
-        return Ok(assert!(rt; false));
-    };
-    let second_names = names(alloc, second)?;
-    assert_eq!(rt; second_names, vec![in alloc; Some(B), None, Some(D)]?);
-    let third = match inside_second(tree.iter()) {
-        Some(second) => inside_second(second),
-        None => None,
-    };
-    assert_eq!(rt; only_ident(third), Some(C));
+/// Asserts which names the elements of a list have.
+fn assert_names(
+    rt: &impl Abort,
+    alloc: Global,
+    trees: Option<TtIter<'_>>,
+    want: &[Option<Name>],
+) -> Result<(), AllocError> {
+    match trees {
+        Some(trees) => {
+            let found = names(alloc, trees)?;
+            assert_eq!(rt; found.as_slice(), want);
+        }
+        None => panic!(rt; "no list with {want:?}"),
+    }
     Ok(())
 }
 
 #[test]
-fn lists_are_opened_before_they_are_closed(rt: HostRuntime) -> Result<(), Fail> {
+fn levels_are_read_one_by_one(rt: HostRuntime) -> Result<(), Fail> {
     let alloc = rt.alloc();
-    let mut trees = TopSubtreeBuilder::new(alloc);
+    let tree = row(alloc)?;
+    let top = elements(&tree);
+    assert_names(&rt, alloc, top, &[Some(A), None, None, Some(E)])?;
+    let second = inside_second(elements(&tree));
+    assert_names(&rt, alloc, second, &[Some(B), None, Some(D)])?;
+    let third = inside_second(inside_second(elements(&tree)));
+    assert_names(&rt, alloc, third, &[Some(C)])?;
+    Ok(())
+}
+
+#[test]
+fn no_list_is_closed_that_is_not_open(rt: HostRuntime) -> Result<(), Fail> {
+    let mut trees = TopSubtreeBuilder::new(rt.alloc());
     assert!(rt; !trees.close()?);
     trees.push(Leaf::Ident(A))?;
     assert!(rt; !trees.close()?);
     let tree = trees.build();
     assert_eq!(rt; only_ident(elements(&tree)), Some(A));
+    Ok(())
+}
 
-    let mut trees = TopSubtreeBuilder::new(alloc);
+#[test]
+fn no_list_of_a_tree_stays_open(rt: HostRuntime) -> Result<(), Fail> {
+    let mut trees = TopSubtreeBuilder::new(rt.alloc());
     trees.open()?;
     trees.open()?;
     assert!(rt; trees.close()?);

@@ -1,6 +1,9 @@
 //! The examples of the library's use, at work.
 
 use def_ids::{Def, Interner, StructId};
+use def_workspace::Collected;
+use item_tree::Name;
+use std::process::Abort;
 use std::test::Fail;
 use uses::oracle::database;
 use uses::reading::{first_left_over, type_at_path, type_in_scope};
@@ -9,19 +12,24 @@ use uses::{blocks, dependencies, two_files};
 /// The one struct of each example.
 const STRUCT: Def = Def::Struct(StructId(0));
 
+/// Asserts that a name means the struct in each of the first modules.
+fn assert_struct(rt: &impl Abort, collected: &Collected, modules: usize, name: Name) {
+    for module in 0..modules {
+        let found = type_in_scope(collected, module, name);
+        assert_eq!(rt; found, Some(STRUCT), "in {module}");
+    }
+}
+
 #[test]
 fn the_second_file_is_found(rt: HostRuntime) -> Result<(), Fail> {
     let alloc = rt.alloc();
     let mut session = Interner::new(alloc)?;
     let db = database(alloc, &mut session)?;
     let collected = two_files::collect(alloc, &mut session, &db)?;
-    let name = session.intern_name("S")?;
-    assert_eq!(rt; type_in_scope(&collected, 0, name), Some(STRUCT));
-    assert_eq!(rt; type_in_scope(&collected, 1, name), Some(STRUCT));
-    assert_eq!(rt;
-        type_at_path(alloc, &mut session, &db, &collected, &["a", "S"])?,
-        Some(STRUCT)
-    );
+    assert_struct(&rt, &collected, 2, session.intern_name("S")?);
+    let path = &["a", "S"];
+    let found = type_at_path(alloc, &mut session, &db, &collected, path)?;
+    assert_eq!(rt; found, Some(STRUCT));
     assert_eq!(rt; first_left_over(&session, &collected), Some("T"));
     Ok(())
 }
@@ -31,8 +39,7 @@ fn a_crate_takes_names_of_another(rt: HostRuntime) -> Result<(), Fail> {
     let alloc = rt.alloc();
     let mut session = Interner::new(alloc)?;
     let collected = dependencies::collect(alloc, &mut session)?;
-    let name = session.intern_name("S")?;
-    assert_eq!(rt; type_in_scope(&collected, 0, name), Some(STRUCT));
+    assert_struct(&rt, &collected, 1, session.intern_name("S")?);
     assert!(rt; collected.outcome.imports.is_empty());
     Ok(())
 }
@@ -44,7 +51,6 @@ fn a_block_sees_the_names_around_it(rt: HostRuntime) -> Result<(), Fail> {
     let Some(collected) = blocks::collect(alloc, &mut session)? else {
         panic!(rt; "the block does not fit");
     };
-    let name = session.intern_name("T")?;
-    assert_eq!(rt; type_in_scope(&collected, 0, name), Some(STRUCT));
+    assert_struct(&rt, &collected, 1, session.intern_name("T")?);
     Ok(())
 }
