@@ -1,12 +1,32 @@
--- What a run is given.
-use Rattle.std.specs.Prelude.{Option}
-use Rattle.item_tree.specs.declared.ids.TreeId.{TreeId}
-use Rattle.def_map.specs.declared.def_map.DefMap.{DefMap}
-use Rattle.def_map.specs.DefMaps as whole
-use Rattle.def_map.specs.Oracle.{Oracle}
-use Rattle.def_modules.specs.MapView.{LocalView}
-use Rattle.def_rules.specs.State.{Setting}
+-- What the collector's parts stand for.
+use Rattle.std.specs.Prelude.{◌++◌, option_map}
+use Rattle.def_ids.specs.declared.interner.Interner.{Interner}
+use Rattle.def_ids.specs.Equality.{glob_eq}
+use Rattle.def_ids.specs.Session.{session_of}
+use Rattle.def_crates.specs.Missing.{missing_in}
+use Rattle.def_items.specs.Parts.{directories_of}
+use Rattle.def_modules.specs.Locals.{local_view}
+use Rattle.def_modules.specs.Maps.{map_state}
+use Rattle.def_modules.specs.Tables.{bound_by}
+use Rattle.def_collector.specs.declared.collector.DefCollector.{DefCollector}
+use Rattle.def_steps.specs.ImportLists.{directives_in}
+use Rattle.indexmap.specs.IndexMap.{get}
+use Rattle.def_rules.specs.State.{State}
 
--- what a run is given
-abbrev pub setting_of : Oracle → DefMap → TreeId → Option LocalView → Setting
-setting_of oracle m tree local = record { oracle = oracle; seeded = whole.state_of m; tree = tree; crate_local = local }
+-- the state that the collector is in
+abbrev pub state_of : DefCollector → Interner → State
+state_of c session =
+    record {
+      session = session_of session;
+      map = map_state c.def_map;
+      content = bound_by c.table;
+      targets = get glob_eq c.targets;
+      local = local_view c.local_def_map;
+      outer = option_map (λ l. local_view l.now) c.crate_local;
+      is_proc_macro = c.is_proc_macro;
+      deps = local_view c.deps;
+      missing_crates = missing_in c.missing_crates;
+      directories = directories_of c.mod_dirs;
+      imports = directives_in c.unresolved_imports.items ++ directives_in c.indeterminate_imports.items;
+      diagnostics = c.diagnostics.items;
+    }

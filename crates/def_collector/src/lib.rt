@@ -1,9 +1,15 @@
 //! The definition collector: from item trees to the map of modules and bindings.
 #![tactic(auto)]
 
+mod collector;
+mod globs;
+mod imports;
+mod items;
+mod modules;
 mod prelude;
 mod run;
 mod seeding;
+mod stack;
 
 pub use def_rules::{
     Collected, DefDiagnostic, DefDiagnosticKind, DefDiagnostics, Edge, LeftImport, LeftMacro,

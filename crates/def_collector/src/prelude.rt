@@ -1,13 +1,13 @@
 //! The prelude: the module whose names are seen everywhere in a crate.
 ghost use Rattle.std.specs.Prelude.{◌≡◌, IfOk, OnOk};
-ghost use Rattle.def_state.specs.Collector.{state_of};
+ghost use Rattle.def_collector.specs.Collector.{state_of};
 ghost use Rattle.def_rules.specs.Crates as crates;
 ghost use Rattle.def_rules.specs.Start.{head_of, with_head, with_prelude};
 
+use crate::collector::DefCollector;
 use def_crates::prelude_path;
 use def_ids::{Interner, ModuleId};
 use def_map::{SourceDatabase, resolve_module};
-use def_state::DefCollector;
 use std::alloc::AllocError;
 
 /// Finds the prelude. On `Err` nothing but safety is promised.

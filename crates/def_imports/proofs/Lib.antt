@@ -1,3 +1,2 @@
 pub mod GlobLemmas
-pub mod PassLemmas
-pub mod TriesLemmas
+pub mod ResultLaws

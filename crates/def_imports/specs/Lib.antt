@@ -1,2 +1,1 @@
 pub mod GlobEntries
-pub mod Passes

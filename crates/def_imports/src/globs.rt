@@ -1,68 +1,26 @@
-//! Globs: what one brings, what it was recorded with, and its edge.
+//! Globs: what one brings, and its edge.
 ghost use Rattle.std.specs.Prelude.{◌≡◌, Some, IfOk, OnOk};
 ghost use Rattle.def_map.specs.Asking.{world_lent};
 ghost use Rattle.def_map.specs.Oracle.{Oracle};
 ghost use Rattle.def_modules.specs.Tables.{bound_by};
 ghost use Rattle.def_items.specs.Parts.{with_parts};
-ghost use Rattle.def_laws.specs.Performs.{Performs, target_state};
-ghost use Rattle.def_steps.specs.Shown.{import_of};
-ghost use Rattle.def_state.specs.Collector.{state_of};
+ghost use Rattle.def_laws.specs.Performs.{Performs};
 ghost use Rattle.def_imports.specs.GlobEntries.{edge_source, entries_of_enum, entries_of_glob, entries_of_module};
-ghost use Rattle.def_rules.specs.Imports.{import_vis};
-ghost use Rattle.def_rules.specs.Recording.{glob_edge, glob_id, glob_tasks, is_own_crate, types_def};
+ghost use Rattle.def_rules.specs.Recording.{glob_tasks, is_own_crate};
 ghost use Rattle.def_rules.specs.State.{State, world};
 
 use def_bindings::{EdgeTo, Entry, Visibility};
 use def_globs::Globs;
-use def_ids::{Def, EnumId, Interner, LocationId, MapId, ModuleId};
+use def_ids::{Def, EnumId, LocationId, MapId, ModuleId};
 use def_items::put;
-use def_map::{MapData, ResolvePathResult, SourceDatabase, Table, World, finished_map};
-use def_state::DefCollector;
-use def_steps::{GlobScope, Import, add_target, kept_item, variants_entries};
+use def_map::{MapData, SourceDatabase, Table, World, finished_map};
+use def_steps::{GlobScope, variants_entries};
 use std::alloc::{AllocError, Global};
-
-/// Records a glob with the definition that its path gives: puts what it brings, and adds its
-/// edge last. On `Err` nothing but safety is promised.
-pub fn record_glob<'a, D: SourceDatabase>(
-    collector: &mut DefCollector<'a>,
-    db: &D,
-    session: &Interner,
-    import: &Import,
-    answer: &ResolvePathResult,
-) -> Result<(), AllocError>
-    ensures performs { OnOk result (let s = state_of collector.old session.now in
-        let import = import_of import.now in
-        let glob = glob_edge import (import_vis (D.oracle db.now) s import) in
-        Performs (D.oracle db.now) (glob_tasks (world (D.oracle db.now) s) glob (types_def answer.now))
-        (target_state s (glob_id import) (types_def answer.now)) (state_of collector.new session.now)) }
-    ensures frame { collector.new ≡ record collector.old { table = collector.new.table; targets = collector.new.targets } }
-{
-    let Some(item) = kept_item(answer, answer.resolved_def.types) else {
-        return Ok(());
-    };
-    let glob = EdgeTo {
-        importer: import.module_id,
-        vis: collector.resolve_visibility(db, session, import.module_id, import.vis),
-        glob: import.glob_id(),
-    };
-    add_target(&mut collector.targets, glob.glob, item.def)?;
-    let alloc = collector.alloc;
-    let entries = glob_entries(alloc, &collector.world(db, session), glob, item.def)?;
-    let table = &mut collector.table;
-    put_glob(
-        &collector.def_map,
-        table,
-        glob,
-        entries.as_slice(),
-        item.def,
-    )?;
-    Ok(())
-}
 
 /// Puts what a glob of a definition brings, and adds its edge last: what the importer is brought
 /// goes on along its own edges before names of the source travel here. On `Err` nothing but safety
 /// is promised.
-fn put_glob(
+pub fn put_glob(
     def_map: &MapData,
     table: &mut Globs<Table>,
     glob: EdgeTo<Visibility>,
@@ -100,7 +58,7 @@ fn is_own_crate(map: MapId, source: ModuleId) -> bool
 }
 
 /// The entries of what a glob of a definition brings. All but modules and enums bring nothing.
-fn glob_entries<D: SourceDatabase>(
+pub fn glob_entries<D: SourceDatabase>(
     alloc: Global,
     world: &World<'_, D, Table>,
     glob: EdgeTo<Visibility>,

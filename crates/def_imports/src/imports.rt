@@ -1,184 +1,37 @@
-//! Imports: each pass records those that are ready.
-ghost use Rattle.std.specs.Prelude.{◌≡◌, ◌<◌, [], ℕ, true, false, length, IfOk, OnOk};
-ghost use Rattle.def_ids.specs.declared.interner.Interner.{Interner};
-ghost use Rattle.def_state.specs.Collector.{state_of};
-ghost use Rattle.def_imports.specs.Passes.{IsUnready, entries_of};
+//! Imports: what the path of one gives, and what a named one puts.
+ghost use Rattle.std.specs.Prelude.{◌≡◌, OnOk};
 ghost use Rattle.def_steps.specs.Shown.{import_of};
-ghost use Rattle.def_laws.specs.Turns.{Moves, turns_left};
 ghost use Rattle.def_items.specs.Parts.{with_parts};
-ghost use Rattle.def_laws.specs.Performs.{Performs, Updated};
-ghost use Rattle.def_rules.specs.Imports.{answer_now, bound_name, named_entries};
-ghost use Rattle.def_rules.specs.Recording.{record_effect, NoneReady};
+ghost use Rattle.def_laws.specs.Performs.{Updated};
+ghost use Rattle.def_map.specs.Asking.{world_lent};
+ghost use Rattle.def_map.specs.Paths.{for_import, resolve};
+ghost use Rattle.def_modules.specs.Tables.{bound_by};
+ghost use Rattle.def_rules.specs.Imports.{bound_name, named_entries};
 ghost use Rattle.def_rules.specs.State.{State, order};
-ghost use Rattle.def_laws.specs.Runs.{Leads};
 
-use crate::globs::record_glob;
 use def_bindings::Visibility;
 use def_globs::Globs;
-use def_ids::Interner;
 use def_items::put;
 use def_map::{
-    Asked, MapData, ResolvePathResult, SourceDatabase, Table, resolve_path_fp_with_macro,
+    Asked, MapData, ResolvePathResult, SourceDatabase, Table, World, resolve_path_fp_with_macro,
 };
-use def_state::DefCollector;
-use def_steps::{
-    Import, ImportDirective, ImportList, drop_left, is_ready, named_entries, new_prelude,
-    next_tried, retire, still_indeterminate,
-};
-use item_tree::ImportKind;
+use def_steps::{Import, named_entries};
 use std::alloc::{AllocError, Global};
 
-/// Records each import that is ready: those that are unresolved first, and then those that are
-/// indeterminate, in the order in which they became so. Answers whether one was recorded. On `Err`
-/// nothing but safety is promised.
-pub fn resolve_imports<'a, D: SourceDatabase>(
-    collector: &mut DefCollector<'a>,
-    db: &D,
-    session: &Interner,
-) -> Result<bool, AllocError>
-    ensures run { OnOk result (Leads (D.oracle db.now)
-        [] (state_of collector.old session.now) [] (state_of collector.new session.now)) }
-    ensures settled { IfOk result (λ moved. moved ≡ false →
-        NoneReady (D.oracle db.now) (state_of collector.new session.now)) }
-    ensures fewer { IfOk result (λ moved. moved ≡ true → turns_left (state_of collector.new session.now) < turns_left (state_of collector.old session.now)) }
-{
-    let unresolved = try_imports(collector, db, session, ImportList::Unresolved)?;
-    let indeterminate = try_imports(collector, db, session, ImportList::Indeterminate)?;
-    let moved = unresolved || indeterminate;
-    if moved {
-        drop_resolved(collector);
-    }
-    Ok(moved)
-}
-
-/// Tries each import of a list in order. Answers whether one was recorded.
-fn try_imports<'a, D: SourceDatabase>(
-    collector: &mut DefCollector<'a>,
-    db: &D,
-    session: &Interner,
-    list: ImportList,
-) -> Result<bool, AllocError>
-    ensures run { OnOk result (Leads (D.oracle db.now)
-        [] (state_of collector.old session.now) [] (state_of collector.new session.now)) }
-    ensures fewer { IfOk result (λ moved. moved ≡ true →
-        turns_left (state_of collector.new session.now) < turns_left (state_of collector.old session.now)) }
-    ensures unready { IfOk result (λ moved. moved ≡ false → (index : ℕ) →
-        IsUnready (D.oracle db.now) session.now list collector.old index) }
-    ensures same { IfOk result (λ moved. moved ≡ false → collector.new ≡ collector.old) }
-{
-    let mut moved = false;
-    let mut from = 0;
-    'tried: while let Some(i) = next_tried(entries(collector, list), from) {
-        if try_import(collector, db, session, list, i)? {
-            moved = true;
-        }
-        from = i + 1;
-    }
-    Ok(moved)
-}
-
-/// Records an import, if it is ready. Answers whether it was.
-fn try_import<'a, D: SourceDatabase>(
-    collector: &mut DefCollector<'a>,
-    db: &D,
-    session: &Interner,
-    list: ImportList,
-    i: usize,
-) -> Result<bool, AllocError>
-    requires { i < length (entries_of list collector.old) }
-    ensures len { OnOk result (length (entries_of list collector.new) ≡ length (entries_of list collector.old)) }
-    ensures moved { IfOk result (λ moved. moved ≡ true →
-        Moves (D.oracle db.now) (state_of collector.old session.now) (state_of collector.new session.now)) }
-    ensures unready { IfOk result (λ moved. moved ≡ false →
-        IsUnready (D.oracle db.now) session.now list collector.old i) }
-    ensures same { IfOk result (λ moved. moved ≡ false → collector.new ≡ collector.old) }
-{
-    let Some(directive) = entries(collector, list)[i] else {
-        return Ok(false);
-    };
-    let answer = resolve_import(collector, db, session, &directive.import);
-    if !is_ready(directive.recorded, &answer) {
-        return Ok(false);
-    }
-    let kept = still_indeterminate(directive, &answer);
-    let unresolved = &mut collector.unresolved_imports;
-    let indeterminate = &mut collector.indeterminate_imports;
-    retire(unresolved, indeterminate, list, i, kept)?;
-    record_resolved_import(collector, db, session, &directive.import, &answer)?;
-    Ok(true)
-}
-
-/// The entries of one of the two lists.
-fn entries<'b, 'a>(
-    collector: &'b DefCollector<'a>,
-    list: ImportList,
-) -> &'b [Option<ImportDirective<'a>>]
-    ensures { result.now ≡ entries_of list collector.now }
-{
-    match list {
-        ImportList::Unresolved => collector.unresolved_imports.as_slice(),
-        ImportList::Indeterminate => collector.indeterminate_imports.as_slice(),
-    }
-}
-
-/// What the path of an import gives now.
-fn resolve_import<D: SourceDatabase>(
-    collector: &DefCollector,
-    db: &D,
-    session: &Interner,
+/// What the path of an import gives in this world.
+pub fn resolve_import<D: SourceDatabase>(
+    world: &World<'_, D, Table>,
     import: &Import,
 ) -> ResolvePathResult
-    ensures { result ≡ answer_now (D.oracle db.now) (state_of collector.now session.now) (import_of import.now) }
+    ensures { result ≡ resolve (world_lent D.oracle bound_by world.now) for_import import.now.module_id import.now.written.now.path }
 {
-    let world = collector.world(db, session);
     let path = &import.written.path;
-    resolve_path_fp_with_macro(&world, Asked::for_import(), import.module_id, path)
-}
-
-/// Records an import with what its path gives, by its kind. On `Err` nothing but safety is promised.
-fn record_resolved_import<'a, D: SourceDatabase>(
-    collector: &mut DefCollector<'a>,
-    db: &D,
-    session: &Interner,
-    import: &Import,
-    answer: &ResolvePathResult,
-) -> Result<(), AllocError>
-    ensures performs { OnOk result (let s = state_of collector.old session.now in
-        let effect = record_effect (D.oracle db.now) s (import_of import.now) answer.now in
-        Performs (D.oracle db.now) effect.tasks effect.state (state_of collector.new session.now)) }
-    ensures frame { collector.new ≡ record collector.old { def_map = collector.new.def_map; table = collector.new.table; targets = collector.new.targets } }
-{
-    match import.written.kind {
-        ImportKind::Plain | ImportKind::TypeOnly => {
-            let at = import.module_id;
-            let vis = collector.resolve_visibility(db, session, at, import.vis);
-            let table = &mut collector.table;
-            record_named(
-                collector.alloc,
-                &collector.def_map,
-                table,
-                import,
-                vis,
-                answer,
-            )?;
-            Ok(())
-        }
-        ImportKind::Glob => match new_prelude(import, answer) {
-            Some(source) => {
-                collector.def_map.prelude = Some(source);
-                Ok(())
-            }
-            None => {
-                record_glob(collector, db, session, import, answer)?;
-                Ok(())
-            }
-        },
-    }
+    resolve_path_fp_with_macro(world, Asked::for_import(), import.module_id, path)
 }
 
 /// Puts what a named import gives at its name, as visible as is said. On `Err` nothing but safety
 /// is promised.
-fn record_named(
+pub fn record_named(
     alloc: Global,
     def_map: &MapData,
     table: &mut Globs<Table>,
@@ -195,12 +48,4 @@ fn record_named(
     let entries = named_entries(alloc, &def_map.tree, import, vis, answer)?;
     put(def_map, table, import.module_id, entries.as_slice())?;
     Ok(())
-}
-
-/// Drops the entries that imports left behind.
-fn drop_resolved<'a>(collector: &mut DefCollector<'a>)
-    ensures { (session : Interner) → state_of collector.new session ≡ state_of collector.old session }
-{
-    drop_left(&mut collector.unresolved_imports);
-    drop_left(&mut collector.indeterminate_imports);
 }

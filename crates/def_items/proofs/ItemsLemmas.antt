@@ -6,7 +6,7 @@ use Rattle.item_tree.specs.declared.items.CtorVisibility.{CtorVisibility}
 use Rattle.item_tree.specs.declared.items.ImportAlias.{ImportAlias}
 use Rattle.item_tree.specs.declared.items.ItemNode.{ItemNode}
 use Rattle.item_tree.specs.declared.items.ModContents.{ModContents}
-use Rattle.item_tree.specs.declared.items.ModItemKind.TheVariants.{Mod, Use, Struct, ExternCrate, ExternBlock, Impl, Const}
+use Rattle.item_tree.specs.declared.items.ModItemKind.TheVariants.{Mod, Use, Struct, ExternCrate, ExternBlock, Impl}
 use Rattle.item_tree.specs.declared.items.RawVisibility.{RawVisibility}
 use Rattle.item_tree.specs.declared.items.UseImport.{UseImport}
 use Rattle.item_tree.specs.declared.name.Name.{Name}
@@ -14,7 +14,7 @@ use Rattle.def_ids.specs.declared.ids.Def.{Def}
 use Rattle.def_ids.specs.declared.ids.Def.TheVariants.{Module}
 use Rattle.def_ids.specs.declared.ids.Def.TheVariants as def
 use Rattle.def_ids.specs.declared.ids.ModuleId.{ModuleId}
-use Rattle.def_ids.specs.Session.{Session, AddsLocations, StructItem, UseItem, in_module, ItemKind, ConstItem, ImplItem, ExternCrateItem, ExternBlockItem, in_container}
+use Rattle.def_ids.specs.Session.{Session, AddsLocations, StructItem, UseItem, in_module, ImplItem, ExternCrateItem, ExternBlockItem}
 use Rattle.def_ids.specs.SessionLaws.{adds_refl}
 use Rattle.def_bindings.specs.declared.bindings.Entry.{Entry}
 use Rattle.def_bindings.specs.declared.bindings.Namespace.TheVariants.{Types, Values}
@@ -24,13 +24,13 @@ use Rattle.def_modules.specs.declared.module_data.ModuleOrigin.{ModuleOrigin}
 use Rattle.def_modules.specs.Maps.{pushed, with_module}
 use Rattle.def_modules.specs.MapState.{MapState, ModuleState}
 use Rattle.def_map.specs.Oracle.{Oracle}
-use Rattle.def_modules.specs.Scopes.{declared_in, empty_module, with_child, with_extern_block, with_extern_crate, with_impl, with_unnamed_const}
+use Rattle.def_modules.specs.Scopes.{declared_in, empty_module, with_child, with_extern_block, with_extern_crate, with_impl}
 use Rattle.def_laws.specs.Performs.{Handled, IsDone, Performs, Updated}
-use Rattle.def_rules.specs.Items.{ctor_vis, declare, declared_entry, is_prelude_import, loc_of, new_imports, position_of, struct_effect, written_vis, container_of, declared_effect, noted_in, walk}
+use Rattle.def_rules.specs.Items.{ctor_vis, declare, declared_entry, is_prelude_import, loc_of, new_imports, position_of, struct_effect, written_vis, declared_effect, noted_in, walk}
 use Rattle.def_rules.specs.Imports.{no_namespaces}
 use Rattle.def_rules.specs.Modules.{add_module, module_item, next_module}
 use Rattle.def_rules.specs.ExternCrates.{crate_effect, crate_name, named_crate}
-use Rattle.def_rules.specs.Rules.{Handles, Follows, declares, rule_of}
+use Rattle.def_rules.specs.Rules.{Handles}
 use Rattle.def_parts.specs.Directories.{Directory}
 use Rattle.def_rules.specs.State.{State, Effect, ImportDirective, Rearranges, Site, Task, only, with_map, order, followed_by}
 use Rattle.item_tree.specs.declared.ids.ModItemId.{ModItemId}
@@ -140,43 +140,13 @@ handled_struct oracle s t session site item name raw written n position vis ctor
       done = record { puts = effect.tasks; tasks = sym (append-nil effect.tasks); performs = after };
     }
 
-module _ (oracle : Oracle) (s t : State) (session : Session) (site : Site) (item : ItemNode) (name : Name) (raw : RawVisibility) (n : ℕ) (position : InFile FileAstId) (vis : Visibility)
-    (adds : AddsLocations s.session session) (placed : position ≡ position_of site item) (seen : vis ≡ written_vis oracle (record s { session = session }) site.scope raw) where
-  -- the state in the session that has grown
-  abbrev grown : State
-  grown = record s { session = session }
-
-  -- an item that declares one definition
-  pub handled_declared : (kind : ItemKind) (d : ℕ → Def) (ns : Namespace) → rule_of item.kind ≡ declares kind d ns name raw
-      → session.item kind n ≡ Some (in_container (container_of site kind) position)
-      → Performs oracle (declared_effect grown site.scope name ns (d n) vis).tasks (declared_effect grown site.scope name ns (d n) vis).state t
-      → Handled oracle s t site item []
-  handled_declared kind d ns rule numbered after =
-      let effect : Effect = declared_effect grown site.scope name ns (d n) vis in
-      let number : session.item kind n ≡ Some (loc_of site kind item) = numbered ∙ ap (λ p. Some (in_container (container_of site kind) p)) placed in
-      record {
-        effect = effect;
-        handled = (session, adds, subst (λ r. Follows oracle grown site item r effect) (sym rule) (n, number, ap (declared_effect grown site.scope name ns (d n)) seen));
-        done = record { puts = effect.tasks; tasks = refl; performs = after };
-      }
-
 -- Something was recorded in the module, and nothing put
 
 module _ (oracle : Oracle) (s t : State) (session : Session) (site : Site) (item : ItemNode) (n : ℕ) (position : InFile FileAstId) (adds : AddsLocations s.session session) (placed : position ≡ position_of site item) where
   abbrev kept : State
   kept = record s { session = session }
 
-  -- a constant without a name
-  pub handled_unnamed_const : (raw : RawVisibility) → item.kind ≡ Const None raw → session.item ConstItem n ≡ Some (in_container site.container position)
-      → t ≡ noted_in kept site.scope (with_unnamed_const (record { 0 = n })) → Handled oracle s t site item []
-  handled_unnamed_const raw kind numbered after =
-      let effect : Effect = only (noted_in kept site.scope (with_unnamed_const (record { 0 = n }))) in
-      record {
-        effect = effect;
-        handled = (session, adds, subst (λ k. Handles oracle kept site item k effect) (sym kind) (n, numbered ∙ ap (λ p. Some (in_container site.container p)) placed, refl));
-        done = record { puts = []; tasks = refl; performs = subst (λ u. Performs oracle [] effect.state u) (sym after) (performs_none effect.state) };
-      }
-
+  -- an impl
   pub handled_impl : (of_trait : Bool) → item.kind ≡ Impl of_trait → session.item ImplItem n ≡ Some (in_module site.scope position)
       → t ≡ noted_in kept site.scope (with_impl (record { 0 = n }) of_trait) → Handled oracle s t site item []
   handled_impl of_trait kind numbered after =

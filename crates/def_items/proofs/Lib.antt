@@ -1,2 +1,3 @@
 pub mod ItemsLemmas
+pub mod NumberedLemmas
 pub mod OrderLemmas

@@ -1,8 +1,11 @@
 -- The order in which the items of a list are visited.
 use Rattle.std.specs.declared.alloc.Global.{Global}
-use Rattle.std.specs.Prelude.{List, drop, Option, Some, None, Vec}
+use Rattle.std.specs.Prelude.{◌≡◌, List, [], ◌∷◌, ◌++◌, drop, Option, Some, None, Vec}
 use Rattle.item_tree.specs.declared.ids.ModItemId.{ModItemId}
 use Rattle.def_items.specs.declared.lists.Frame.{Frame}
+use Rattle.def_items.specs.declared.lists.ItemList.{ItemList}
+use Rattle.def_items.specs.Parts.{tree_in}
+use Rattle.def_rules.specs.Items.{ordered}
 
 -- the items of a list in the order of their visits
 abbrev pub listed_in : Option (Vec ModItemId Global) → List ModItemId → List ModItemId
@@ -16,3 +19,10 @@ listed frame = listed_in frame.sorted frame.list.items.now
 -- the items that a frame has left
 abbrev pub left_of : Frame → List ModItemId
 left_of frame = drop frame.next (listed frame)
+
+-- a list begins to be walked: its frame stands last on the stack, and has all of its items left
+pub record IsBegun (below : List Frame) (list : ItemList) (frames : List Frame) : Type 0 where
+  pub frame : Frame
+  pub pushed : frames ≡ below ++ frame ∷ []
+  pub same : frame.list ≡ list
+  pub left : left_of frame ≡ ordered (tree_in list) list.module_id list.items.now

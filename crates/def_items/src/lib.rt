@@ -9,6 +9,7 @@ mod item_order;
 mod lists;
 mod mod_dirs;
 mod modules;
+mod numbered;
 mod reports;
 mod visibility;
 
@@ -16,8 +17,9 @@ pub use declarations::{Definition, define, define_struct, put};
 pub use extern_crates::name_crate;
 pub use impls::define_impl;
 pub use item_order::is_crate_root;
-pub use lists::{Frame, ItemList, Site, disabled_by, top_items};
+pub use lists::{Frame, ItemList, Site, disabled_by, push_list, push_opened, top_items};
 pub use mod_dirs::ModDirs;
 pub use modules::{ChildModule, push_child_module};
+pub use numbered::{Declaration, Declared, number_item};
 pub use reports::{report, report_disabled, report_disabled_item};
 pub use visibility::meant_or_public;

@@ -1,9 +1,9 @@
 //! Lists of items, and where their items stand.
-ghost use Rattle.std.specs.Prelude.{◌≡◌, ◌<◌, [], true, Some, is_some, option_and_then, option_map, slice_get, unwrap_or, IfOk, OnOk};
+ghost use Rattle.std.specs.Prelude.{◌≡◌, ◌<◌, ◌++◌, ◌∷◌, [], true, Some, is_some, option_and_then, option_map, slice_get, unwrap_or, IfOk, OnOk};
 ghost use Rattle.item_tree.specs.Attrs.{cfg_in};
 ghost use Rattle.def_ids.specs.Ids.{is_same_module};
 ghost use Rattle.def_modules.specs.Updates.{set_where};
-ghost use Rattle.def_items.specs.Lists.{left_of, listed};
+ghost use Rattle.def_items.specs.Lists.{IsBegun, left_of, listed};
 ghost use Rattle.def_items.specs.Parts.{directories_of, site_of, tree_in};
 ghost use Rattle.def_rules.specs.Items.{ordered, position_of};
 
@@ -76,6 +76,41 @@ impl<'a> Frame<'a> {
             None => self.list.items.get(self.next).copied(),
         }
     }
+}
+
+/// Begins to walk a list: its frame goes on a stack, as the last. On `Err` nothing but safety is
+/// promised.
+pub fn push_list<'a>(
+    alloc: Global,
+    mod_dirs: &mut ModDirs,
+    frames: &mut Vec<Frame<'a>>,
+    list: ItemList<'a>,
+) -> Result<(), AllocError>
+    ensures begun { OnOk result (IsBegun frames.old.items list.entry frames.new.items) }
+    ensures entered { OnOk result (directories_of mod_dirs.new
+        ≡ set_where (is_same_module list.entry.module_id) (Some list.entry.dir) (directories_of mod_dirs.old)) }
+{
+    let frame = Frame::open(alloc, mod_dirs, list)?;
+    frames.push(frame)?;
+    Ok(())
+}
+
+/// Begins to walk a list that an item of a frame opened: the frame goes back on the stack, and that
+/// of the list above it. On `Err` nothing but safety is promised.
+pub fn push_opened<'a>(
+    alloc: Global,
+    mod_dirs: &mut ModDirs,
+    frames: &mut Vec<Frame<'a>>,
+    frame: Frame<'a>,
+    list: ItemList<'a>,
+) -> Result<(), AllocError>
+    ensures begun { OnOk result (IsBegun (frames.old.items ++ frame.entry ∷ []) list.entry frames.new.items) }
+    ensures entered { OnOk result (directories_of mod_dirs.new
+        ≡ set_where (is_same_module list.entry.module_id) (Some list.entry.dir) (directories_of mod_dirs.old)) }
+{
+    frames.push(frame)?;
+    push_list(alloc, mod_dirs, frames, list)?;
+    Ok(())
 }
 
 /// Where the items of a list stand: their module, what contains them (the module, or an extern

@@ -1,7 +1,7 @@
 use Rattle.std.proofs.Common.{ap, refl, sym, ◌∙◌}
 use Rattle.def_modules.specs.Locals.{local_view}
 use Rattle.def_map.specs.Paths.{for_module, module_found, resolve}
-use Rattle.def_state.specs.Collector.{state_of}
+use Rattle.def_collector.specs.Collector.{state_of}
 use Rattle.def_rules.specs.State.{root, world}
 use Rattle.def_laws.proofs.StartLaws.{prelude_found}
 use Rattle.def_collector.proofs.prelude.prelude_module.Goals as goal

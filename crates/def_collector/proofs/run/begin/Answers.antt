@@ -2,7 +2,7 @@ use Rattle.std.proofs.Common.{ap, option_map, ◌∙◌}
 use Rattle.def_ids.specs.Session.{session_of}
 use Rattle.def_modules.specs.Locals.{local_view}
 use Rattle.def_modules.specs.Tables.{bound_by}
-use Rattle.def_collector.specs.Collector.{setting_of}
+use Rattle.def_collector.specs.Setting.{setting_of}
 use Rattle.def_rules.specs.Crates.{deps_by_name, is_proc_macro_crate}
 use Rattle.def_collector.proofs.CollectLemmas.{begins, no_imports}
 use Rattle.def_laws.proofs.GlobsLaws.{no_targets}

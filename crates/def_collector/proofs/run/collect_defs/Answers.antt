@@ -3,9 +3,9 @@ use Rattle.def_ids.specs.Session.{session_of}
 use Rattle.def_map.specs.DefMaps as whole
 use Rattle.def_modules.specs.Locals.{local_view}
 use Rattle.def_laws.specs.Finished.{shown}
-use Rattle.def_state.specs.Collector.{state_of}
-use Rattle.def_collector.specs.Collector.{setting_of}
-use Rattle.def_state.proofs.ResultLaws.{if_ok}
+use Rattle.def_collector.specs.Collector.{state_of}
+use Rattle.def_collector.specs.Setting.{setting_of}
+use Rattle.def_imports.proofs.ResultLaws.{if_ok}
 use Rattle.def_collector.proofs.CollectLemmas.{begun_sound, collected_answers}
 use Rattle.def_collector.proofs.run.collect_defs.Goals as goal
 

@@ -1,5 +1,5 @@
 use Rattle.std.proofs.Common.{[]}
-use Rattle.def_state.specs.Collector.{state_of}
+use Rattle.def_collector.specs.Collector.{state_of}
 use Rattle.def_laws.proofs.StepsLaws.{leads_refl, leads_sound, leads_trans}
 use Rattle.def_collector.proofs.run.resolution_loop.Goals as goal
 

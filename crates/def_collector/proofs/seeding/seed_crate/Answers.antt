@@ -1,4 +1,4 @@
-use Rattle.def_state.specs.Collector.{state_of}
+use Rattle.def_collector.specs.Collector.{state_of}
 use Rattle.def_laws.proofs.StartLaws.{crate_seeded}
 use Rattle.def_collector.proofs.seeding.seed_crate.Goals as goal
 

@@ -1,0 +1,16 @@
+use Rattle.def_items.proofs.ItemsLemmas.{handled_module}
+use Rattle.def_items.specs.Parts.{site_of}
+use Rattle.def_collector.specs.Collector.{state_of}
+use Rattle.def_collector.specs.Walk.{inner_of}
+use Rattle.def_rules.specs.State.{State}
+use Rattle.def_imports.proofs.ResultLaws.{if_ok}
+use Rattle.def_collector.proofs.items.collect_item.Goals as goal
+
+pub returns-in-Mod-clause-handled : goal.returns-in-Mod-clause-handled
+returns-in-Mod-clause-handled g c =
+    let before : State = state_of c.args.collector.now c.args.session.now in
+    if_ok c.collect_module.result c.collect_module.ensures.done (λ opened done.
+    handled_module (g.D.SourceDatabase.oracle c.args.db.now) before _ (site_of c.args.site) c.args.node.now _ _ _ c.resolve_visibility-vis.result (inner_of (g.D.SourceDatabase.oracle c.args.db.now) opened) c.in-Mod.is c.resolve_visibility-vis.ensures done)
+
+pub returns-in_ok-list-in-ExternBlock-clause-handled : goal.returns-in_ok-list-in-ExternBlock-clause-handled
+returns-in_ok-list-in-ExternBlock-clause-handled g c = c.in_ok-list-in-ExternBlock.ensures.handled c.in-ExternBlock.is

@@ -1,0 +1,153 @@
+//! Extern crates.
+ghost use Rattle.std.specs.Prelude.{◌≡◌, ◌∷◌, [], None, Some, OnOk};
+ghost use Rattle.item_tree.specs.declared.items.ModItemKind.TheVariants as kinds;
+ghost use Rattle.def_ids.specs.declared.interner.Interner.{Interner};
+ghost use Rattle.def_ids.specs.Session.{AddsLocations, session_of};
+ghost use Rattle.def_map.specs.Oracle.{Oracle};
+ghost use Rattle.def_items.specs.Parts.{site_of};
+ghost use Rattle.def_collector.specs.Collector.{state_of};
+ghost use Rattle.def_rules.specs.declared.diagnostics.DefDiagnosticKind.TheVariants.{UnresolvedExternCrate};
+ghost use Rattle.def_rules.specs.Items as items;
+ghost use Rattle.def_rules.specs.ExternCrates as crate_rules;
+ghost use Rattle.def_laws.specs.Performs.{Handled, Performs, Updated};
+ghost use Rattle.def_rules.specs.State.{reported, with_missing};
+
+use super::DefCollector;
+use def_bindings::{Entry, ImportOrExternCrate, Namespace, Visibility};
+use def_ids::{Def, ExternCrateId, ExternCrateLoc, Interner, Location, ModuleId};
+use def_items::{Site, name_crate, report};
+use def_map::SourceDatabase;
+use def_rules::DefDiagnosticKind;
+use def_steps::crate_name;
+use item_tree::{ImportAlias, ItemNode, Name, RawVisibility, sym};
+use std::alloc::AllocError;
+
+/// An extern crate: its item and where that stands, its number, the name that it binds, and its
+/// visibility.
+#[derive(Clone, Copy)]
+struct CrateItem<'a> {
+    site: Site<'a>,
+    node: &'a ItemNode,
+    id: ExternCrateId,
+    /// None is `_`.
+    name: Option<Name>,
+    vis: Visibility,
+}
+
+/// An extern crate as it is written.
+#[derive(Clone, Copy)]
+pub struct WrittenCrate<'a> {
+    pub name: Name,
+    pub visibility: &'a RawVisibility,
+    pub alias: Option<ImportAlias>,
+}
+
+impl<'a> DefCollector<'a> {
+    /// Records an extern crate, and puts it where it is found. On `Err` nothing but safety is
+    /// promised.
+    pub fn collect_crate<D: SourceDatabase>(
+        &mut self,
+        db: &D,
+        session: &mut Interner,
+        site: Site<'_>,
+        node: &ItemNode,
+        written: WrittenCrate<'_>,
+    ) -> Result<(), AllocError>
+        ensures handled { OnOk result (
+            node.now.kind ≡ kinds.ExternCrate written.entry.name written.entry.visibility.now written.entry.alias →
+            Handled (D.oracle db.now) (state_of self.old session.old) (state_of self.new session.new)
+            (site_of site.entry) node.now []) }
+        ensures session { AddsLocations (session_of session.old) (session_of session.new) }
+    {
+        let id = ExternCrateLoc {
+            container: site.module_id,
+            position: site.position(node),
+        }
+        .intern(session)?;
+        let vis = self.resolve_visibility(db, session, site.module_id, written.visibility);
+        let root = self.named_crate(written.name);
+        let module = site.module_id.index;
+        self.def_map.define_extern_crate_decl(module, id)?;
+        let item = CrateItem {
+            site,
+            node,
+            id,
+            name: crate_name(written.name, written.alias),
+            vis,
+        };
+        self.collect_extern_crate(item, root)?;
+        Ok(())
+    }
+
+    /// The root of a named crate, if it is found: `self` is this crate, and any other a dependency.
+    fn named_crate(&self, name: Name) -> Option<ModuleId>
+        ensures { (session : Interner) → result ≡ crate_rules.named_crate (state_of self.now session) name }
+    {
+        if name == sym::SELF {
+            return Some(ModuleId::crate_root(self.def_map.tree.map.krate));
+        }
+        match self.deps.extern_entry(name) {
+            Some(entry) => Some(entry.root),
+            None => None,
+        }
+    }
+
+    /// Puts an extern crate in types, if it is found. Any other is reported, and its name
+    /// remembered. On `Err` nothing but safety is promised.
+    fn collect_extern_crate(
+        &mut self,
+        item: CrateItem<'_>,
+        root: Option<ModuleId>,
+    ) -> Result<(), AllocError>
+        ensures { OnOk result ((oracle : Oracle) (session : Interner) →
+            let effect = crate_rules.crate_effect (state_of self.old session) (site_of item.entry.site) item.entry.node.now item.entry.id item.entry.name item.entry.vis root in
+            Performs oracle effect.tasks effect.state (state_of self.new session)) }
+    {
+        match root {
+            Some(root) => {
+                self.put_crate(item, root)?;
+                Ok(())
+            }
+            None => {
+                self.miss_crate(item)?;
+                Ok(())
+            }
+        }
+    }
+
+    /// Puts an extern crate in types. Paths may begin with one that stands at a crate's root.
+    fn put_crate(&mut self, item: CrateItem<'_>, root: ModuleId) -> Result<(), AllocError>
+        ensures { OnOk result ((session : Interner) →
+            let effect = crate_rules.crate_effect (state_of self.old session) (site_of item.entry.site) item.entry.node.now item.entry.id item.entry.name item.entry.vis (Some root) in
+            Updated item.entry.site.module_id (crate_rules.crate_entry item.entry.id item.entry.name root item.entry.vis ∷ []) effect.state (state_of self.new session)) }
+    {
+        let at = item.site.module_id;
+        name_crate(&mut self.local_def_map, at, item.name, root, item.id)?;
+        self.put(
+            at,
+            &[Entry {
+                name: item.name,
+                ns: Namespace::Types,
+                def: Def::Module(root),
+                vis: item.vis,
+                origin: Some(ImportOrExternCrate::ExternCrate(item.id)),
+            }],
+        )?;
+        Ok(())
+    }
+
+    /// Reports an extern crate that was not found, and remembers its name.
+    fn miss_crate(&mut self, item: CrateItem<'_>) -> Result<(), AllocError>
+        ensures { OnOk result ((session : Interner) →
+            state_of self.new session
+            ≡ reported (with_missing item.entry.name (state_of self.old session))
+            (items.diagnostic (site_of item.entry.site) item.entry.node.now UnresolvedExternCrate)) }
+    {
+        if let Some(name) = item.name {
+            self.missing_crates.insert(name)?;
+        }
+        let kind = DefDiagnosticKind::UnresolvedExternCrate;
+        report(&mut self.diagnostics, item.site, item.node, kind)?;
+        Ok(())
+    }
+}

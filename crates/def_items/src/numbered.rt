@@ -1,0 +1,165 @@
+//! Items that declare one name: each gets its number, and with it a definition.
+ghost use Rattle.std.specs.Prelude.{◌≡◌, false, IfOk};
+ghost use Rattle.def_ids.specs.Session.{AddsLocations, session_of};
+ghost use Rattle.def_items.specs.Numbered.{IsDeclared, is_type};
+ghost use Rattle.def_items.specs.Parts.{site_of};
+
+use crate::lists::Site;
+use def_bindings::Namespace;
+use def_ids::{
+    ConstId, ConstLoc, Def, EnumLoc, FunctionLoc, Interner, Location, StaticLoc, TraitLoc,
+    TypeAliasLoc, UnionLoc,
+};
+use item_tree::{ItemNode, ModItemKind, Name, RawVisibility};
+use std::alloc::AllocError;
+
+/// A definition that an item declares under a name in one namespace, and its visibility as it is
+/// written.
+#[derive(Clone, Copy)]
+pub struct Declaration<'a> {
+    pub name: Name,
+    pub ns: Namespace,
+    pub def: Def,
+    pub vis: &'a RawVisibility,
+}
+
+/// What an item declares, where it is of a kind that declares one name.
+#[derive(Clone, Copy)]
+pub enum Declared<'a> {
+    Name(Declaration<'a>),
+    /// A constant without a name declares none.
+    UnnamedConst(ConstId),
+    /// The item is of another kind.
+    Nothing,
+}
+
+/// Numbers an item of a kind that declares one name, and says what it declares.
+pub fn number_item<'a>(
+    session: &mut Interner,
+    site: Site<'_>,
+    node: &'a ItemNode,
+) -> Result<Declared<'a>, AllocError>
+    ensures declared { IfOk result (λ declared.
+        IsDeclared (session_of session.new) (site_of site.entry) node.now declared) }
+    ensures session { AddsLocations (session_of session.old) (session_of session.new) }
+{
+    match &node.kind {
+        ModItemKind::Union { name, visibility } => {
+            let id = UnionLoc {
+                container: site.module_id,
+                position: site.position(node),
+            }
+            .intern(session)?;
+            let declaration = Declaration {
+                name: *name,
+                ns: Namespace::Types,
+                def: Def::Union(id),
+                vis: visibility,
+            };
+            Ok(Declared::Name(declaration))
+        }
+        ModItemKind::Enum { name, visibility } => {
+            let id = EnumLoc {
+                container: site.module_id,
+                position: site.position(node),
+            }
+            .intern(session)?;
+            let declaration = Declaration {
+                name: *name,
+                ns: Namespace::Types,
+                def: Def::Enum(id),
+                vis: visibility,
+            };
+            Ok(Declared::Name(declaration))
+        }
+        ModItemKind::Trait { name, visibility } => {
+            let id = TraitLoc {
+                container: site.module_id,
+                position: site.position(node),
+            }
+            .intern(session)?;
+            let declaration = Declaration {
+                name: *name,
+                ns: Namespace::Types,
+                def: Def::Trait(id),
+                vis: visibility,
+            };
+            Ok(Declared::Name(declaration))
+        }
+        ModItemKind::TypeAlias { name, visibility } => {
+            let id = TypeAliasLoc {
+                container: site.container,
+                position: site.position(node),
+            }
+            .intern(session)?;
+            let declaration = Declaration {
+                name: *name,
+                ns: Namespace::Types,
+                def: Def::TypeAlias(id),
+                vis: visibility,
+            };
+            Ok(Declared::Name(declaration))
+        }
+        _ => number_value(session, site, node),
+    }
+}
+
+/// Numbers an item of a kind that declares one name in values.
+fn number_value<'a>(
+    session: &mut Interner,
+    site: Site<'_>,
+    node: &'a ItemNode,
+) -> Result<Declared<'a>, AllocError>
+    ensures declared { IfOk result (λ declared. is_type node.now.kind ≡ false →
+        IsDeclared (session_of session.new) (site_of site.entry) node.now declared) }
+    ensures session { AddsLocations (session_of session.old) (session_of session.new) }
+{
+    match &node.kind {
+        ModItemKind::Function { name, visibility } => {
+            let id = FunctionLoc {
+                container: site.container,
+                position: site.position(node),
+            }
+            .intern(session)?;
+            let declaration = Declaration {
+                name: *name,
+                ns: Namespace::Values,
+                def: Def::Function(id),
+                vis: visibility,
+            };
+            Ok(Declared::Name(declaration))
+        }
+        ModItemKind::Const { name, visibility } => {
+            let id = ConstLoc {
+                container: site.container,
+                position: site.position(node),
+            }
+            .intern(session)?;
+            let Some(name) = *name else {
+                return Ok(Declared::UnnamedConst(id));
+            };
+            let declaration = Declaration {
+                name,
+                ns: Namespace::Values,
+                def: Def::Const(id),
+                vis: visibility,
+            };
+            Ok(Declared::Name(declaration))
+        }
+        ModItemKind::Static { name, visibility } => {
+            let id = StaticLoc {
+                container: site.container,
+                position: site.position(node),
+            }
+            .intern(session)?;
+            let declaration = Declaration {
+                name: *name,
+                ns: Namespace::Values,
+                def: Def::Static(id),
+                vis: visibility,
+            };
+            Ok(Declared::Name(declaration))
+        }
+        _ => Ok(Declared::Nothing),
+    }
+}

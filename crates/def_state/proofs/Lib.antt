@@ -1,2 +1,0 @@
-pub mod FinishLemmas
-pub mod ResultLaws

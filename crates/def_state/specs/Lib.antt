@@ -1,2 +1,0 @@
-pub mod Collector
-pub mod Declarations

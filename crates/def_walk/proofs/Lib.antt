@@ -1,2 +1,0 @@
-pub mod VisitLemmas
-pub mod WalkLemmas
