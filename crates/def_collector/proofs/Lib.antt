@@ -1,6 +1,6 @@
-pub mod CollectLemmas
-pub mod FinishLemmas
-pub mod PassLemmas
-pub mod TriesLemmas
-pub mod VisitLemmas
-pub mod WalkLemmas
+mod CollectLemmas
+mod FinishLemmas
+mod PassLemmas
+mod TriesLemmas
+mod VisitLemmas
+mod WalkLemmas
