@@ -1,72 +1,53 @@
 //! What a derive declares, by the arguments of its attribute.
 
+use super::token_trees::{name_of, trees_of};
 use def_parts::parse_macro_name_and_helper_attrs;
-use item_tree::sym::ATTRIBUTES;
-use item_tree::{Leaf, Name, TopSubtree, TopSubtreeBuilder};
+use item_tree::Name;
 use std::alloc::{AllocError, Global};
 use std::test::Fail;
 
-const TRAIT: Name = Name(101);
+/// Arguments, in which a star is the word `attributes`, and what they declare: a name, and the
+/// names of the helpers.
+static ROWS: [(&str, Option<(char, &str)>); 3] = [
+    ("t", Some(('t', ""))),
+    ("t,*(f,g)", Some(('t', "fg"))),
+    ("t,", None),
+];
 
-const HELPERS: [Name; 2] = [Name(102), Name(103)];
-
-fn word(name: Name) -> Leaf {
-    Leaf::Ident(name)
-}
-
-fn comma() -> Leaf {
-    Leaf::Punct(',')
-}
-
-/// `(Trait)`
-fn name_alone(alloc: Global) -> Result<Option<TopSubtree>, AllocError> {
-    let mut tokens = TopSubtreeBuilder::new(alloc);
-    tokens.push(word(TRAIT))?;
-    Ok(tokens.build())
-}
-
-/// `(Trait,)`
-fn name_and_comma(alloc: Global) -> Result<Option<TopSubtree>, AllocError> {
-    let mut tokens = TopSubtreeBuilder::new(alloc);
-    tokens.push(word(TRAIT))?;
-    tokens.push(comma())?;
-    Ok(tokens.build())
-}
-
-/// `(Trait, attributes(helper1, helper2))`
-fn name_and_helpers(alloc: Global) -> Result<Option<TopSubtree>, AllocError> {
-    let [first, second] = HELPERS;
-    let mut tokens = TopSubtreeBuilder::new(alloc);
-    tokens.push(word(TRAIT))?;
-    tokens.push(comma())?;
-    tokens.push(word(ATTRIBUTES))?;
-    tokens.open()?;
-    tokens.push(word(first))?;
-    tokens.push(comma())?;
-    tokens.push(word(second))?;
-    let _ = tokens.close()?;
-    Ok(tokens.build())
-}
-
-/// What the arguments declare.
-fn read(
-    alloc: Global,
-    tokens: Option<TopSubtree>,
-) -> Result<Option<(Name, Vec<Name>)>, AllocError> {
-    match tokens {
+/// What arguments declare.
+fn read(alloc: Global, text: &str) -> Result<Option<(Name, Vec<Name>)>, AllocError> {
+    match trees_of(alloc, text)? {
         Some(tokens) => parse_macro_name_and_helper_attrs(alloc, &tokens),
         None => Ok(None),
     }
 }
 
+/// Whether names are those of these letters.
+fn are_names(names: &[Name], letters: &str) -> bool {
+    let mut names = names.iter();
+    for letter in letters.chars() {
+        if names.next() != Some(&name_of(letter)) {
+            return false;
+        }
+    }
+    names.next().is_none()
+}
+
+/// Whether this is declared.
+fn is_read_as(found: &Option<(Name, Vec<Name>)>, want: &Option<(char, &str)>) -> bool {
+    match (found, want) {
+        (Some((name, helpers)), Some((letter, letters))) => {
+            *name == name_of(*letter) && are_names(helpers.as_slice(), letters)
+        }
+        (None, None) => true,
+        _ => false,
+    }
+}
+
 #[test]
 fn derive_arguments_are_read(rt: HostRuntime) -> Result<(), Fail> {
-    let alloc = rt.alloc();
-    let alone = read(alloc, name_alone(alloc)?)?;
-    assert_eq!(rt; alone, Some((TRAIT, Vec::new(alloc))));
-    let with_helpers = read(alloc, name_and_helpers(alloc)?)?;
-    assert_eq!(rt; with_helpers, Some((TRAIT, HELPERS.to_vec(alloc)?)));
-    let with_comma = read(alloc, name_and_comma(alloc)?)?;
-    assert_eq!(rt; with_comma, None);
+    for (text, want) in &ROWS {
+        assert!(rt; is_read_as(&read(rt.alloc(), text)?, want), "{text}");
+    }
     Ok(())
 }

@@ -1,7 +1,7 @@
 //! Rows: scripted crates, and what is shown of them.
 #![tactic(auto)]
 
-use def_workspace::{Fault, Vector, show};
+use def_workspace::{Collected, CrateText, Fault, Vector, Workspace, show};
 use std::alloc::Global;
 use std::process::Abort;
 
@@ -17,4 +17,15 @@ pub fn expect_rows(rt: &impl Abort, alloc: Global, rows: &[Row]) -> Result<(), F
         assert_eq!(rt; lines.as_slice(), want.as_bytes(), "{name}");
     }
     Ok(())
+}
+
+/// Collects crates, each over those before it, and gives what is collected of the last one.
+pub fn collect_last(workspace: &mut Workspace, crates: &[CrateText]) -> Result<Collected, Fault> {
+    let Some((last, others)) = crates.split_last() else {
+        return Err(Fault::Memory);
+    };
+    for other in others {
+        workspace.collect_dependency(other)?;
+    }
+    Ok(workspace.collect(last)?)
 }
