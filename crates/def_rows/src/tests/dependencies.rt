@@ -7,6 +7,7 @@ use def_map::LangCrate;
 use def_workspace::{ALONE, CrateText, DependencyText, Fault, Vector, Workspace, print};
 use item_tree::Crate;
 use std::alloc::Global;
+use std::process::Abort;
 
 /// Crate 1 on its own, and crate 0 over it under the name `d`.
 const OVER_D: &[CrateText] = &[
@@ -290,13 +291,23 @@ left import 0 std::prelude
     ),
 ];
 
+/// Looks at the lines of the crate of these files over `std` and `core`.
+fn expect_files(
+    rt: &impl Abort,
+    alloc: Global,
+    files: &'static [&'static str],
+    want: &str,
+) -> Result<(), Fault> {
+    let mut lines: Vec<u8> = Vec::new(alloc);
+    print_files(alloc, files, &mut lines)?;
+    assert_eq!(rt; lines.as_slice(), want.as_bytes());
+    Ok(())
+}
+
 #[test]
 fn flags_leave_out_what_comes_with_the_compiler(rt: HostRuntime) -> Result<(), Fault> {
-    let alloc = rt.alloc();
     for (files, want) in &WITH_SYSROOT {
-        let mut lines: Vec<u8> = Vec::new(alloc);
-        print_files(alloc, files, &mut lines)?;
-        assert_eq!(rt; lines.as_slice(), want.as_bytes());
+        expect_files(&rt, rt.alloc(), files, want)?;
     }
     Ok(())
 }

@@ -93,11 +93,8 @@ fn found(
     declared: Declared,
 ) -> Result<ModDir, AllocError> {
     match resolve(&ModDir::root(alloc), Some(path), declared)? {
-        Ok((file, is_mod_rs, dir)) => {
-            assert!(rt; file == FOUND && !is_mod_rs, "{path}");
-            Ok(dir)
-        }
-        Err(files) => panic!(rt; "none of {files:?}"),
+        Ok((FOUND, false, dir)) => Ok(dir),
+        _ => panic!(rt; "{path} is not found"),
     }
 }
 
@@ -113,18 +110,22 @@ fn are_paths(files: &[String], paths: &[&str]) -> bool {
     files.next().is_none()
 }
 
-/// Asserts which files are looked for where there is none.
-fn assert_sought(rt: &impl Abort, dir: &ModDir, row: &Row) -> Result<(), AllocError> {
-    match resolve(dir, None, row.declared)? {
-        Ok(found) => panic!(rt; "{}: found {found:?}", row.rule),
-        Err(files) => {
-            assert!(rt;
-                are_paths(files.as_slice(), row.sought),
-                "{}: {files:?}",
-                row.rule
-            );
-        }
+/// Whether files with these paths are looked for where there is none.
+fn are_sought(dir: &ModDir, declared: Declared, paths: &[&str]) -> Result<bool, AllocError> {
+    match resolve(dir, None, declared)? {
+        Ok(_) => Ok(false),
+        Err(files) => Ok(are_paths(files.as_slice(), paths)),
     }
+}
+
+/// Asserts where a directory is, and which files are looked for in it.
+fn assert_sought(rt: &impl Abort, dir: &ModDir, row: &Row) -> Result<(), AllocError> {
+    let (path, depth, is_relative_above) = row.directory;
+    let is_there = dir.dir_path().as_str() == path
+        && dir.depth() == depth
+        && dir.root_non_dir_owner() == is_relative_above;
+    assert!(rt; is_there, "{}: {dir:?}", row.rule);
+    assert!(rt; are_sought(dir, row.declared, row.sought)?, "{}", row.rule);
     Ok(())
 }
 
@@ -154,25 +155,28 @@ fn directory(rt: &impl Abort, alloc: Global, row: &Row) -> Result<ModDir, AllocE
     inside(rt, dir, row.inside)
 }
 
+/// Looks at a row.
+fn look_at(rt: &impl Abort, alloc: Global, row: &Row) -> Result<(), AllocError> {
+    let dir = directory(rt, alloc, row)?;
+    assert_sought(rt, &dir, row)
+}
+
 #[test]
 fn files_are_looked_for_in_directories(rt: HostRuntime) -> Result<(), Fail> {
     for row in &ROWS {
-        let dir = directory(&rt, rt.alloc(), row)?;
-        let is = (
-            dir.dir_path().as_str(),
-            dir.depth(),
-            dir.root_non_dir_owner(),
-        );
-        assert_eq!(rt; is, row.directory, "{}", row.rule);
-        assert_sought(&rt, &dir, row)?;
+        look_at(&rt, rt.alloc(), row)?;
     }
     Ok(())
+}
+
+/// Whether a directory lies in so many modules, and no inline module in it has one.
+fn is_deepest(dir: &ModDir, depth: u32) -> Result<bool, AllocError> {
+    Ok(dir.depth() == depth && dir.descend_into_definition("foo", None)?.is_none())
 }
 
 #[test]
 fn inline_modules_descend_to_a_limit(rt: HostRuntime) -> Result<(), Fail> {
     let dir = inside(&rt, ModDir::root(rt.alloc()), &["foo"; 32])?;
-    assert_eq!(rt; dir.depth(), 32);
-    assert!(rt; dir.descend_into_definition("foo", None)?.is_none());
+    assert!(rt; is_deepest(&dir, 32)?);
     Ok(())
 }

@@ -6,6 +6,7 @@ use crate::tests::rows::collect_last;
 use def_ids::Edition;
 use def_workspace::{ALONE, CrateText, DependencyText, Fault, Vector, Workspace, print};
 use std::alloc::Global;
+use std::process::Abort;
 
 /// Crate 1 on its own, and crate 0 over it under the name `d`.
 static CRATES: [CrateText; 2] = [
@@ -46,7 +47,9 @@ fn print_files(
 }
 
 /// What a row shows, its files, the lines of crate 0, and of how many globs it has targets.
-static ROWS: [(&str, &[&str], &str, usize); 3] = [
+type Row = (&'static str, &'static [&'static str], &'static str, usize);
+
+static ROWS: [Row; 3] = [
     (
         "a glob takes what is public of another crate",
         &["use d::p::*;", "pub mod p { pub struct O; struct Q; }"],
@@ -86,13 +89,20 @@ binding 1 O values struct:0 pub decl
     ),
 ];
 
+/// Looks at a row.
+fn look_at(rt: &impl Abort, alloc: Global, row: &Row) -> Result<(), Fault> {
+    let (rule, files, want, count) = row;
+    let mut lines = Vec::new(alloc);
+    let targets = print_files(alloc, files, &mut lines)?;
+    assert_eq!(rt; lines.as_slice(), want.as_bytes(), "{rule}");
+    assert_eq!(rt; targets, *count, "{rule}");
+    Ok(())
+}
+
 #[test]
 fn globs_of_other_crates_and_prelude_imports_bring_names(rt: HostRuntime) -> Result<(), Fault> {
-    for (rule, files, want, count) in &ROWS {
-        let mut lines = Vec::new(rt.alloc());
-        let targets = print_files(rt.alloc(), files, &mut lines)?;
-        assert_eq!(rt; lines.as_slice(), want.as_bytes(), "{rule}");
-        assert_eq!(rt; targets, *count, "{rule}");
+    for row in &ROWS {
+        look_at(&rt, rt.alloc(), row)?;
     }
     Ok(())
 }

@@ -1,16 +1,23 @@
 //! What a derive declares, by the arguments of its attribute.
 
-use super::token_trees::{name_of, trees_of};
+use super::token_trees::trees_of;
 use def_parts::parse_macro_name_and_helper_attrs;
 use item_tree::Name;
 use std::alloc::{AllocError, Global};
 use std::test::Fail;
 
+/// The identifiers of the letters t, f and g.
+const T: Name = Name(116);
+
+const F: Name = Name(102);
+
+const G: Name = Name(103);
+
 /// Arguments, in which a star is the word `attributes`, and what they declare: a name, and the
 /// names of the helpers.
-static ROWS: [(&str, Option<(char, &str)>); 3] = [
-    ("t", Some(('t', ""))),
-    ("t,*(f,g)", Some(('t', "fg"))),
+static ROWS: [(&str, Option<(Name, &[Name])>); 3] = [
+    ("t", Some((T, &[]))),
+    ("t,*(f,g)", Some((T, &[F, G]))),
     ("t,", None),
 ];
 
@@ -22,22 +29,11 @@ fn read(alloc: Global, text: &str) -> Result<Option<(Name, Vec<Name>)>, AllocErr
     }
 }
 
-/// Whether names are those of these letters.
-fn are_names(names: &[Name], letters: &str) -> bool {
-    let mut names = names.iter();
-    for letter in letters.chars() {
-        if names.next() != Some(&name_of(letter)) {
-            return false;
-        }
-    }
-    names.next().is_none()
-}
-
 /// Whether this is declared.
-fn is_read_as(found: &Option<(Name, Vec<Name>)>, want: &Option<(char, &str)>) -> bool {
+fn is_read_as(found: &Option<(Name, Vec<Name>)>, want: &Option<(Name, &[Name])>) -> bool {
     match (found, want) {
-        (Some((name, helpers)), Some((letter, letters))) => {
-            *name == name_of(*letter) && are_names(helpers.as_slice(), letters)
+        (Some((name, helpers)), Some((trait_name, names))) => {
+            name == trait_name && helpers.as_slice() == *names
         }
         (None, None) => true,
         _ => false,

@@ -8,13 +8,19 @@ use std::process::Abort;
 /// A workspace, named for what it shows, and the lines of its last crate.
 pub type Row = (Vector, &'static str);
 
+/// Looks at the lines of a row.
+fn expect_row(rt: &impl Abort, alloc: Global, row: &Row) -> Result<(), Fault> {
+    let (vector, want) = row;
+    let mut lines: Vec<u8> = Vec::new(alloc);
+    show(alloc, vector, &mut lines)?;
+    assert_eq!(rt; lines.as_slice(), want.as_bytes(), "{}", vector.name);
+    Ok(())
+}
+
 /// Looks at the lines of rows.
 pub fn expect_rows(rt: &impl Abort, alloc: Global, rows: &[Row]) -> Result<(), Fault> {
-    for (vector, want) in rows {
-        let name = vector.name;
-        let mut lines: Vec<u8> = Vec::new(alloc);
-        show(alloc, vector, &mut lines)?;
-        assert_eq!(rt; lines.as_slice(), want.as_bytes(), "{name}");
+    for row in rows {
+        expect_row(rt, alloc, row)?;
     }
     Ok(())
 }

@@ -182,21 +182,24 @@ fn crate_has_at(map: &MapData, place: usize, key: usize) -> bool {
         && has_key(map.macro_use_prelude.get_index(place), Name(key))
 }
 
-/// Whether all maps of a crate and of its root have this key at a place.
-fn all_have_at(map: &MapData, place: usize, key: usize) -> bool {
-    match map.modules.as_slice().first() {
-        Some(root) => module_has_at(root, place, key) && crate_has_at(map, place, key),
-        None => false,
+/// Whether all maps of a crate and of its root have these keys in this order.
+fn all_have(map: &MapData, keys: &[usize]) -> bool {
+    let Some(root) = map.modules.as_slice().first() else {
+        return false;
+    };
+    for (place, key) in keys.iter().enumerate() {
+        if !module_has_at(root, place, *key) || !crate_has_at(map, place, *key) {
+            return false;
+        }
     }
+    true
 }
 
 #[test]
 fn a_key_that_is_set_again_keeps_its_place(rt: HostRuntime) -> Result<(), Fail> {
     let mut map = empty_map(rt.alloc())?;
     write(rt.alloc(), &mut map)?;
-    for (place, key) in [50, 30, 40].into_iter().enumerate() {
-        assert!(rt; all_have_at(&map, place, key), "{key}");
-    }
+    assert!(rt; all_have(&map, &[50, 30, 40]));
     Ok(())
 }
 
@@ -217,12 +220,17 @@ fn with_imported_macros(alloc: Global, map: &mut MapData) -> Result<(), AllocErr
     map.import_all_legacy_macros(alloc, 0, 1)
 }
 
-/// Whether the last module has this textual macro at a place.
-fn last_has_macro_at(map: &MapData, place: usize, key: usize) -> bool {
-    match map.modules.as_slice().last() {
-        Some(module) => has_key(module.scope.legacy_macros.get_index(place), Name(key)),
-        None => false,
+/// Whether the last module has these textual macros in this order.
+fn last_has_macros(map: &MapData, keys: &[usize]) -> bool {
+    let Some(module) = map.modules.as_slice().last() else {
+        return false;
+    };
+    for (place, key) in keys.iter().enumerate() {
+        if !has_key(module.scope.legacy_macros.get_index(place), Name(*key)) {
+            return false;
+        }
     }
+    true
 }
 
 #[test]
@@ -231,8 +239,6 @@ fn macros_that_are_taken_over_stand_behind_those_of_the_module(
 ) -> Result<(), Fail> {
     let mut map = empty_map(rt.alloc())?;
     with_imported_macros(rt.alloc(), &mut map)?;
-    for (place, key) in [40, 50, 30].into_iter().enumerate() {
-        assert!(rt; last_has_macro_at(&map, place, key), "{key}");
-    }
+    assert!(rt; last_has_macros(&map, &[40, 50, 30]));
     Ok(())
 }

@@ -7,7 +7,7 @@ use def_bindings::{
 };
 use def_ids::{Def, GlobId, ModuleId, StructId, TraitId, UseId};
 use item_tree::{Crate, Name};
-use std::alloc::AllocError;
+use std::alloc::{AllocError, Global};
 use std::process::Abort;
 use std::test::Fail;
 
@@ -113,47 +113,38 @@ pub fn are_alike<V: Copy + PartialEq, A: BindingTable<Vis = V>, B: BindingTable<
     true
 }
 
-/// Makes a call in two tables, and then asserts that they answer alike.
+/// Asserts that two tables answer alike after each of the calls, and that there is something in
+/// them in the end.
 fn assert_alike<A: BindingTable<Vis = usize>, B: BindingTable<Vis = usize>>(
     rt: &impl Abort,
     first: &mut A,
     second: &mut B,
-    k: usize,
 ) -> Result<(), AllocError> {
-    call(first, k)?;
-    call(second, k)?;
-    assert!(rt; are_alike(first, second), "after call {k}");
+    for k in 0..200 {
+        call(first, k)?;
+        call(second, k)?;
+        assert!(rt; are_alike(first, second), "after call {k}");
+    }
+    let root = module(0);
+    assert!(rt; first.name_at(root, 0).is_some() && first.edge_at(root, 0).is_some());
     Ok(())
 }
 
-/// Asserts that a table answers like a numbered one after each of the calls, and that there is
-/// something in both in the end.
+/// Compares an empty table with a numbered one.
 fn compare<T: BindingTable<Vis = usize>>(
     rt: &impl Abort,
-    numbers: &mut NumberedTable<usize>,
+    alloc: Global,
     table: &mut T,
 ) -> Result<(), AllocError> {
-    for k in 0..200 {
-        assert_alike(rt, numbers, table, k)?;
-    }
-    let root = module(0);
-    assert!(rt; table.name_at(root, 0).is_some() && table.edge_at(root, 0).is_some());
-    Ok(())
+    let mut numbers: NumberedTable<usize> = NumberedTable::new(alloc)?;
+    assert_alike(rt, &mut numbers, table)
 }
 
 #[test]
 fn tables_answer_alike(rt: HostRuntime) -> Result<(), Fail> {
     let alloc = rt.alloc();
-    compare(
-        &rt,
-        &mut NumberedTable::new(alloc)?,
-        &mut ScopeTable::new(alloc)?,
-    )?;
+    compare(&rt, alloc, &mut ScopeTable::new(alloc)?)?;
     let table = ScopeTable::new(alloc)?;
-    compare(
-        &rt,
-        &mut NumberedTable::new(alloc)?,
-        &mut PlainTable { table },
-    )?;
+    compare(&rt, alloc, &mut PlainTable { table })?;
     Ok(())
 }

@@ -3,11 +3,13 @@
 use item_tree::sym::ATTRIBUTES;
 use item_tree::{Leaf, Name, TopSubtree, TopSubtreeBuilder, TtIter};
 use std::alloc::{AllocError, Global};
-use std::process::Abort;
 use std::test::Fail;
 
 /// With a hundred bytes for each level, more than a stack of 8 MB holds.
 const DEPTH: usize = 100_000;
+
+/// What stands for elements that are no identifiers: the star.
+const STAR: Name = Name(42);
 
 /// The identifier of a letter. No known name has it.
 pub fn name_of(letter: char) -> Name {
@@ -83,14 +85,11 @@ fn are_names(trees: Option<TtIter<'_>>, letters: &str) -> bool {
         return false;
     };
     for letter in letters.chars() {
-        let want = if letter == '*' {
-            None
-        } else {
-            Some(name_of(letter))
+        let Some(element) = trees.next() else {
+            return false;
         };
-        match trees.next() {
-            Some(element) if element.ident() == want => {}
-            _ => return false,
+        if element.ident().unwrap_or(STAR) != name_of(letter) {
+            return false;
         }
     }
     trees.next().is_none()
@@ -115,12 +114,15 @@ fn has_levels(tree: &Option<TopSubtree>, names: &[&str]) -> bool {
     tree.is_some() != names.is_empty()
 }
 
+/// Whether a text closes a list so often where none is open, and has these names.
+fn is_read(alloc: Global, text: &str, refused: usize, names: &[&str]) -> Result<bool, AllocError> {
+    Ok(refused_in(alloc, text)? == refused && has_levels(&trees_of(alloc, text)?, names))
+}
+
 #[test]
 fn texts_are_trees_where_their_lists_are_closed(rt: HostRuntime) -> Result<(), Fail> {
-    let alloc = rt.alloc();
     for (text, refused, names) in &TEXTS {
-        assert_eq!(rt; refused_in(alloc, text)?, *refused, "{text}");
-        assert!(rt; has_levels(&trees_of(alloc, text)?, names), "{text}");
+        assert!(rt; is_read(rt.alloc(), text, *refused, names)?, "{text}");
     }
     Ok(())
 }
@@ -148,32 +150,31 @@ fn is_nested(
     Ok(*tree == nested(alloc, depth, letter)?)
 }
 
-/// How long a copy of a tree is when it is shown, where it is equal to the tree.
-fn copied_len(alloc: Global, tree: &Option<TopSubtree>) -> Result<Option<usize>, AllocError> {
-    let copy = tree.clone()?;
-    if copy != *tree {
-        return Ok(None);
-    }
-    Ok(Some(format!(in alloc; "{copy:?}")?.len()))
+/// Whether a copy of a tree is equal to it.
+fn is_copied(tree: &Option<TopSubtree>) -> Result<bool, AllocError> {
+    Ok(tree.clone()? == *tree)
 }
 
-/// Asserts that an identifier in so many lists is read, compared, copied and shown.
-fn assert_deep(
-    rt: &impl Abort,
-    alloc: Global,
-    tree: &Option<TopSubtree>,
-    depth: usize,
-) -> Result<(), AllocError> {
-    assert!(rt; are_names(level(tree, 0, depth), "a"));
-    assert!(rt; !is_nested(alloc, tree, depth, 'b')?);
-    assert!(rt; !is_nested(alloc, tree, depth.saturating_sub(1), 'a')?);
-    assert!(rt; copied_len(alloc, tree)? > Some(depth));
-    Ok(())
+/// How long a tree is when it is shown.
+fn shown_len(alloc: Global, tree: &Option<TopSubtree>) -> Result<usize, AllocError> {
+    let shown = format!(in alloc; "{tree:?}")?;
+    Ok(shown.len())
+}
+
+/// Whether a tree is the identifier a in so many lists, and is copied, compared and shown as one.
+fn is_deep(alloc: Global, tree: &Option<TopSubtree>, depth: usize) -> Result<bool, AllocError> {
+    Ok(
+        are_names(level(tree, 0, depth), "a")
+            && is_copied(tree)?
+            && !is_nested(alloc, tree, depth, 'b')?
+            && !is_nested(alloc, tree, depth.saturating_sub(1), 'a')?
+            && shown_len(alloc, tree)? > depth,
+    )
 }
 
 #[test]
 fn a_deep_tree_needs_no_stack(rt: HostRuntime) -> Result<(), Fail> {
     let tree = nested(rt.alloc(), DEPTH, 'a')?;
-    assert_deep(&rt, rt.alloc(), &tree, DEPTH)?;
+    assert!(rt; is_deep(rt.alloc(), &tree, DEPTH)?);
     Ok(())
 }

@@ -92,30 +92,18 @@ fn has_all_edges<T: BindingTable>(table: &T) -> bool {
     true
 }
 
-/// Makes a call in two tables, and then asserts that they have equal contents.
-fn assert_alike<A: BindingTable<Vis = Visibility>, B: BindingTable<Vis = Visibility>>(
-    rt: &impl Abort,
-    order: &ModuleTree,
-    first: &mut Globs<A>,
-    second: &mut Globs<B>,
-    k: usize,
-) -> Result<(), AllocError> {
-    call(first, order, k)?;
-    call(second, order, k)?;
-    assert!(rt; are_alike(first.table(), second.table()), "after call {k}");
-    Ok(())
-}
-
 /// Asserts that two tables have equal contents after each call of the list, and the edges of all
 /// calls in the end.
-fn assert_all_alike<A: BindingTable<Vis = Visibility>, B: BindingTable<Vis = Visibility>>(
+fn assert_alike<A: BindingTable<Vis = Visibility>, B: BindingTable<Vis = Visibility>>(
     rt: &impl Abort,
     order: &ModuleTree,
     first: &mut Globs<A>,
     second: &mut Globs<B>,
 ) -> Result<(), AllocError> {
     for k in 0..200 {
-        assert_alike(rt, order, first, second, k)?;
+        call(first, order, k)?;
+        call(second, order, k)?;
+        assert!(rt; are_alike(first.table(), second.table()), "after call {k}");
     }
     assert!(rt; has_all_edges(first.table()));
     Ok(())
@@ -128,7 +116,7 @@ fn compare<A: BindingTable<Vis = Visibility>, B: BindingTable<Vis = Visibility>>
     first: &mut Globs<A>,
     second: &mut Globs<B>,
 ) -> Result<(), AllocError> {
-    assert_all_alike(rt, order, first, second)?;
+    assert_alike(rt, order, first, second)?;
     assert_far(rt, first, order)?;
     assert_far(rt, second, order)
 }
