@@ -1,12 +1,13 @@
 //! Crates that others depend on, and preludes.
 #![tactic(auto)]
 
-use crate::tests::rows::{Row, expect_rows};
+use crate::tests::rows::{Row, collect_last, expect_rows};
 use def_ids::Edition;
 use def_map::LangCrate;
 use def_workspace::{ALONE, CrateText, DependencyText, Fault, Vector, Workspace, print};
 use item_tree::Crate;
 use std::alloc::Global;
+use std::process::Abort;
 
 /// Crate 1 on its own, and crate 0 over it under the name `d`.
 const OVER_D: &[CrateText] = &[
@@ -165,22 +166,6 @@ fn names_and_preludes_of_other_crates_are_seen(rt: HostRuntime) -> Result<(), Fa
     expect_rows(&rt, rt.alloc(), &ROWS)
 }
 
-/// The prelude of the second of two crates, the first of which it depends on.
-fn collected_prelude(
-    workspace: &mut Workspace,
-    crates: &'static [CrateText],
-) -> Result<Option<(usize, usize)>, Fault> {
-    let [dependency, krate] = crates else {
-        return Ok(None);
-    };
-    workspace.collect_dependency(dependency)?;
-    let collected = workspace.collect(krate)?;
-    match collected.def_map.prelude() {
-        Some(module) => Ok(Some((module.map.krate.0, module.index))),
-        None => Ok(None),
-    }
-}
-
 /// The module of the prelude of the last crate, with its crate.
 fn prelude_of(
     alloc: Global,
@@ -193,7 +178,11 @@ fn prelude_of(
         ..ALONE
     };
     let mut workspace = Workspace::new(alloc, &vector)?;
-    collected_prelude(&mut workspace, crates)
+    let collected = collect_last(&mut workspace, crates)?;
+    match collected.def_map.prelude() {
+        Some(module) => Ok(Some((module.map.krate.0, module.index))),
+        None => Ok(None),
+    }
 }
 
 /// Files, crates, and the prelude of the last one.
@@ -254,19 +243,7 @@ fn set_lang(workspace: &mut Workspace, krate: Crate, lang: LangCrate) {
     }
 }
 
-/// Collects the crate over `std` and `core`, and prints its lines.
-fn print_over_sysroot(
-    alloc: Global,
-    workspace: &mut Workspace,
-    lines: &mut Vec<u8>,
-) -> Result<(), Fault> {
-    workspace.collect_dependency(&OVER_SYSROOT[0])?;
-    workspace.collect_dependency(&OVER_SYSROOT[1])?;
-    let collected = workspace.collect(&OVER_SYSROOT[2])?;
-    print(alloc, &workspace.session, &collected, lines)
-}
-
-/// Prints the lines of the crate over `std` and `core` in a workspace of its own.
+/// Prints the lines of the crate over `std` and `core`.
 fn print_files(
     alloc: Global,
     files: &'static [&'static str],
@@ -280,7 +257,8 @@ fn print_files(
     let mut workspace = Workspace::new(alloc, &vector)?;
     set_lang(&mut workspace, Crate(1), LangCrate::Std);
     set_lang(&mut workspace, Crate(2), LangCrate::Core);
-    print_over_sysroot(alloc, &mut workspace, lines)
+    let collected = collect_last(&mut workspace, &OVER_SYSROOT)?;
+    print(alloc, &workspace.session, &collected, lines)
 }
 
 /// Files, and the lines of their crate over `std` and `core` of the compiler.
@@ -313,13 +291,23 @@ left import 0 std::prelude
     ),
 ];
 
+/// Looks at the lines of the crate of these files over `std` and `core`.
+fn expect_files(
+    rt: &impl Abort,
+    alloc: Global,
+    files: &'static [&'static str],
+    want: &str,
+) -> Result<(), Fault> {
+    let mut lines: Vec<u8> = Vec::new(alloc);
+    print_files(alloc, files, &mut lines)?;
+    assert_eq!(rt; lines.as_slice(), want.as_bytes());
+    Ok(())
+}
+
 #[test]
 fn flags_leave_out_what_comes_with_the_compiler(rt: HostRuntime) -> Result<(), Fault> {
-    let alloc = rt.alloc();
     for (files, want) in &WITH_SYSROOT {
-        let mut lines: Vec<u8> = Vec::new(alloc);
-        print_files(alloc, files, &mut lines)?;
-        assert_eq!(rt; lines.as_slice(), want.as_bytes());
+        expect_files(&rt, rt.alloc(), files, want)?;
     }
     Ok(())
 }

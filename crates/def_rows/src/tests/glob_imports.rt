@@ -3,6 +3,7 @@
 
 use crate::tests::rows::{Row, expect_rows};
 use def_workspace::{ALONE, Fault, Vector, run};
+use std::alloc::Global;
 use std::process::Abort;
 
 const GLOB: &str = "module 0 - crate
@@ -72,18 +73,19 @@ static VECTORS: [(&str, &str); 4] = [
     ("private", PRIVATE),
 ];
 
+/// Asserts which lines the command `show` prints of a vector.
+fn expect_shown(rt: &impl Abort, alloc: Global, name: &str, want: &str) {
+    let mut lines: Vec<u8> = Vec::new(alloc);
+    let mut said: Vec<u8> = Vec::new(alloc);
+    let status = run(alloc, &["show", name], &mut lines, &mut said);
+    assert_eq!(rt; status, 0, "{name}");
+    assert_eq!(rt; lines.as_slice(), want.as_bytes(), "{name}");
+}
+
 #[test]
 fn vectors_of_globs_are_shown(rt: HostRuntime) {
-    let alloc = rt.alloc();
     for (name, want) in &VECTORS {
-        let mut lines: Vec<u8> = Vec::new(alloc);
-        let mut said: Vec<u8> = Vec::new(alloc);
-        assert_eq!(rt;
-            run(alloc, &["show", name], &mut lines, &mut said),
-            0,
-            "{name}"
-        );
-        assert_eq!(rt; lines.as_slice(), want.as_bytes(), "{name}");
+        expect_shown(&rt, rt.alloc(), name, want);
     }
 }
 

@@ -2,9 +2,11 @@
 //! the prelude.
 #![tactic(auto)]
 
+use crate::tests::rows::collect_last;
 use def_ids::Edition;
 use def_workspace::{ALONE, CrateText, DependencyText, Fault, Vector, Workspace, print};
 use std::alloc::Global;
+use std::process::Abort;
 
 /// Crate 1 on its own, and crate 0 over it under the name `d`.
 static CRATES: [CrateText; 2] = [
@@ -27,23 +29,27 @@ static CRATES: [CrateText; 2] = [
     },
 ];
 
-/// The lines of crate 0, and of how many globs it has targets.
-fn collected(alloc: Global, files: &'static [&'static str]) -> Result<(Vec<u8>, usize), Fault> {
+/// Prints the lines of crate 0, and says of how many globs it has targets.
+fn print_files(
+    alloc: Global,
+    files: &'static [&'static str],
+    lines: &mut Vec<u8>,
+) -> Result<usize, Fault> {
     let vector = Vector {
         files,
         crates: &CRATES,
         ..ALONE
     };
     let mut workspace = Workspace::new(alloc, &vector)?;
-    workspace.collect_dependency(&CRATES[0])?;
-    let collected = workspace.collect(&CRATES[1])?;
-    let mut lines = Vec::new(alloc);
-    print(alloc, &workspace.session, &collected, &mut lines)?;
-    Ok((lines, collected.outcome.targets.len()))
+    let collected = collect_last(&mut workspace, &CRATES)?;
+    print(alloc, &workspace.session, &collected, lines)?;
+    Ok(collected.outcome.targets.len())
 }
 
 /// What a row shows, its files, the lines of crate 0, and of how many globs it has targets.
-static ROWS: [(&str, &[&str], &str, usize); 3] = [
+type Row = (&'static str, &'static [&'static str], &'static str, usize);
+
+static ROWS: [Row; 3] = [
     (
         "a glob takes what is public of another crate",
         &["use d::p::*;", "pub mod p { pub struct O; struct Q; }"],
@@ -83,12 +89,20 @@ binding 1 O values struct:0 pub decl
     ),
 ];
 
+/// Looks at a row.
+fn look_at(rt: &impl Abort, alloc: Global, row: &Row) -> Result<(), Fault> {
+    let (rule, files, want, count) = row;
+    let mut lines = Vec::new(alloc);
+    let targets = print_files(alloc, files, &mut lines)?;
+    assert_eq!(rt; lines.as_slice(), want.as_bytes(), "{rule}");
+    assert_eq!(rt; targets, *count, "{rule}");
+    Ok(())
+}
+
 #[test]
 fn globs_of_other_crates_and_prelude_imports_bring_names(rt: HostRuntime) -> Result<(), Fault> {
-    for (rule, files, want, count) in &ROWS {
-        let (lines, targets) = collected(rt.alloc(), files)?;
-        assert_eq!(rt; lines.as_slice(), want.as_bytes(), "{rule}");
-        assert_eq!(rt; targets, *count, "{rule}");
+    for row in &ROWS {
+        look_at(&rt, rt.alloc(), row)?;
     }
     Ok(())
 }

@@ -1,72 +1,49 @@
 //! What a derive declares, by the arguments of its attribute.
 
+use super::token_trees::trees_of;
 use def_parts::parse_macro_name_and_helper_attrs;
-use item_tree::sym::ATTRIBUTES;
-use item_tree::{Leaf, Name, TopSubtree, TopSubtreeBuilder};
+use item_tree::Name;
 use std::alloc::{AllocError, Global};
 use std::test::Fail;
 
-const TRAIT: Name = Name(101);
+/// The identifiers of the letters t, f and g.
+const T: Name = Name(116);
 
-const HELPERS: [Name; 2] = [Name(102), Name(103)];
+const F: Name = Name(102);
 
-fn word(name: Name) -> Leaf {
-    Leaf::Ident(name)
-}
+const G: Name = Name(103);
 
-fn comma() -> Leaf {
-    Leaf::Punct(',')
-}
+/// Arguments, in which a star is the word `attributes`, and what they declare: a name, and the
+/// names of the helpers.
+static ROWS: [(&str, Option<(Name, &[Name])>); 3] = [
+    ("t", Some((T, &[]))),
+    ("t,*(f,g)", Some((T, &[F, G]))),
+    ("t,", None),
+];
 
-/// `(Trait)`
-fn name_alone(alloc: Global) -> Result<Option<TopSubtree>, AllocError> {
-    let mut tokens = TopSubtreeBuilder::new(alloc);
-    tokens.push(word(TRAIT))?;
-    Ok(tokens.build())
-}
-
-/// `(Trait,)`
-fn name_and_comma(alloc: Global) -> Result<Option<TopSubtree>, AllocError> {
-    let mut tokens = TopSubtreeBuilder::new(alloc);
-    tokens.push(word(TRAIT))?;
-    tokens.push(comma())?;
-    Ok(tokens.build())
-}
-
-/// `(Trait, attributes(helper1, helper2))`
-fn name_and_helpers(alloc: Global) -> Result<Option<TopSubtree>, AllocError> {
-    let [first, second] = HELPERS;
-    let mut tokens = TopSubtreeBuilder::new(alloc);
-    tokens.push(word(TRAIT))?;
-    tokens.push(comma())?;
-    tokens.push(word(ATTRIBUTES))?;
-    tokens.open()?;
-    tokens.push(word(first))?;
-    tokens.push(comma())?;
-    tokens.push(word(second))?;
-    let _ = tokens.close()?;
-    Ok(tokens.build())
-}
-
-/// What the arguments declare.
-fn read(
-    alloc: Global,
-    tokens: Option<TopSubtree>,
-) -> Result<Option<(Name, Vec<Name>)>, AllocError> {
-    match tokens {
+/// What arguments declare.
+fn read(alloc: Global, text: &str) -> Result<Option<(Name, Vec<Name>)>, AllocError> {
+    match trees_of(alloc, text)? {
         Some(tokens) => parse_macro_name_and_helper_attrs(alloc, &tokens),
         None => Ok(None),
     }
 }
 
+/// Whether this is declared.
+fn is_read_as(found: &Option<(Name, Vec<Name>)>, want: &Option<(Name, &[Name])>) -> bool {
+    match (found, want) {
+        (Some((name, helpers)), Some((trait_name, names))) => {
+            name == trait_name && helpers.as_slice() == *names
+        }
+        (None, None) => true,
+        _ => false,
+    }
+}
+
 #[test]
 fn derive_arguments_are_read(rt: HostRuntime) -> Result<(), Fail> {
-    let alloc = rt.alloc();
-    let alone = read(alloc, name_alone(alloc)?)?;
-    assert_eq!(rt; alone, Some((TRAIT, Vec::new(alloc))));
-    let with_helpers = read(alloc, name_and_helpers(alloc)?)?;
-    assert_eq!(rt; with_helpers, Some((TRAIT, HELPERS.to_vec(alloc)?)));
-    let with_comma = read(alloc, name_and_comma(alloc)?)?;
-    assert_eq!(rt; with_comma, None);
+    for (text, want) in &ROWS {
+        assert!(rt; is_read_as(&read(rt.alloc(), text)?, want), "{text}");
+    }
     Ok(())
 }

@@ -1,11 +1,12 @@
 //! The order of the maps that are shown: that in which their keys were first given.
 
+use crate::tests::rows::collect_last;
 use def_ids::{Edition, MacroId, MacroRulesId};
 use def_map::{
     DefMap, DeriveKey, DeriveMacroInvocation, MapData, ModuleData, ModuleOrigin, Position,
     Visibility,
 };
-use def_workspace::{ALONE, CrateText, DependencyText, Fault, Vector, Workspace};
+use def_workspace::{ALONE, Collected, CrateText, DependencyText, Fault, Vector, Workspace};
 use item_tree::{AttrId, Crate, FileAstId, FileId, HirFileId, MacroCallId, Name, Seq};
 use std::alloc::{AllocError, Global};
 use std::test::Fail;
@@ -40,7 +41,7 @@ const HIDDEN_D: DependencyText = DependencyText {
 };
 
 /// A crate, and the names with which its paths may begin, in order.
-static PRELUDES: [(&[CrateText], &str); 4] = [
+static PRELUDES: [(&[CrateText], &[&str]); 4] = [
     (
         &[CrateText {
             krate: 0,
@@ -48,7 +49,7 @@ static PRELUDES: [(&[CrateText], &str); 4] = [
             root_file: 0,
             deps: &[STD, D, CORE],
         }],
-        "std d core ",
+        &["std", "d", "core"],
     ),
     (
         &[CrateText {
@@ -57,7 +58,7 @@ static PRELUDES: [(&[CrateText], &str); 4] = [
             root_file: 0,
             deps: &[HIDDEN_D, STD, CORE, D],
         }],
-        "d std core ",
+        &["d", "std", "core"],
     ),
     (
         &[CrateText {
@@ -66,7 +67,7 @@ static PRELUDES: [(&[CrateText], &str); 4] = [
             root_file: 0,
             deps: &[D, STD, CORE, D],
         }],
-        "d std core ",
+        &["d", "std", "core"],
     ),
     (
         &[CrateText {
@@ -75,23 +76,28 @@ static PRELUDES: [(&[CrateText], &str); 4] = [
             root_file: 0,
             deps: &[D, STD, CORE, HIDDEN_D],
         }],
-        "std core ",
+        &["std", "core"],
     ),
 ];
 
-/// The names with which the paths of the first of some crates may begin, in order.
-fn extern_names(alloc: Global, crates: &'static [CrateText]) -> Result<String, Fault> {
-    let vector = Vector { crates, ..ALONE };
-    let mut workspace = Workspace::new(alloc, &vector)?;
-    let mut names = String::new(alloc);
-    if let Some(text) = crates.first() {
-        let collected = workspace.collect(text)?;
-        for name in collected.local_def_map.extern_prelude.keys() {
-            names.push_str(workspace.session.text(*name).unwrap_or(""))?;
-            names.push(' ')?;
+/// Whether the paths of what was collected may begin with these names, in order.
+fn may_begin(workspace: &Workspace, collected: &Collected, names: &[&str]) -> bool {
+    let prelude = &collected.local_def_map.extern_prelude;
+    for (place, text) in names.iter().enumerate() {
+        match prelude.get_index(place) {
+            Some((name, _)) if workspace.session.text(*name) == Some(*text) => {}
+            _ => return false,
         }
     }
-    Ok(names)
+    prelude.len() == names.len()
+}
+
+/// Whether the paths of a crate may begin with these names, in order.
+fn is_prelude(alloc: Global, crates: &'static [CrateText], names: &[&str]) -> Result<bool, Fault> {
+    let vector = Vector { crates, ..ALONE };
+    let mut workspace = Workspace::new(alloc, &vector)?;
+    let collected = collect_last(&mut workspace, crates)?;
+    Ok(may_begin(&workspace, &collected, names))
 }
 
 #[test]
@@ -99,7 +105,7 @@ fn a_later_dependency_stands_where_the_first_of_its_name_stood(
     rt: HostRuntime,
 ) -> Result<(), Fault> {
     for (crates, names) in &PRELUDES {
-        assert_eq!(rt; extern_names(rt.alloc(), crates)?.as_str(), *names);
+        assert!(rt; is_prelude(rt.alloc(), crates, names)?, "{names:?}");
     }
     Ok(())
 }
@@ -124,21 +130,34 @@ fn derive_of(key: usize) -> DeriveKey {
     }
 }
 
-/// Writes this key into each map that is shown: for a name its number as a child, a macro of the
-/// name, and the name itself.
-fn write(alloc: Global, map: &mut MapData, key: usize) -> Result<(), AllocError> {
+/// Writes this key into each map that is shown by names: for a name its number as a child, a macro
+/// of the name, and the name itself.
+fn write_names(map: &mut MapData, key: usize) -> Result<(), AllocError> {
     map.set_child(0, Name(key), key)?;
     map.define_legacy_macro(0, Name(key), macro_of(key))?;
     map.krate.enable_feature(Name(key))?;
-    map.krate
-        .export_derive(macro_of(key), Seq::from_vec(Vec::new(alloc)))?;
-    map.add_macro_use(Name(key), macro_of(key))?;
+    map.add_macro_use(Name(key), macro_of(key))
+}
+
+/// Writes this key into each map that is shown of derives.
+fn write_derives(alloc: Global, map: &mut MapData, key: usize) -> Result<(), AllocError> {
+    let helpers = Seq::from_vec(Vec::new(alloc));
+    map.krate.export_derive(macro_of(key), helpers)?;
     let derive = DeriveMacroInvocation {
         call: MacroCallId(key),
         calls: Vec::new(alloc),
     };
     let DeriveKey { position, attr } = derive_of(key);
     map.set_derive(0, position, attr, derive)
+}
+
+/// Writes keys, some of them again.
+fn write(alloc: Global, map: &mut MapData) -> Result<(), AllocError> {
+    for key in [50, 30, 40, 50, 30] {
+        write_names(map, key)?;
+        write_derives(alloc, map, key)?;
+    }
+    Ok(())
 }
 
 /// Whether there is an entry, and it has this key.
@@ -163,17 +182,24 @@ fn crate_has_at(map: &MapData, place: usize, key: usize) -> bool {
         && has_key(map.macro_use_prelude.get_index(place), Name(key))
 }
 
+/// Whether all maps of a crate and of its root have these keys in this order.
+fn all_have(map: &MapData, keys: &[usize]) -> bool {
+    let Some(root) = map.modules.as_slice().first() else {
+        return false;
+    };
+    for (place, key) in keys.iter().enumerate() {
+        if !module_has_at(root, place, *key) || !crate_has_at(map, place, *key) {
+            return false;
+        }
+    }
+    true
+}
+
 #[test]
 fn a_key_that_is_set_again_keeps_its_place(rt: HostRuntime) -> Result<(), Fail> {
     let mut map = empty_map(rt.alloc())?;
-    for key in [50, 30, 40, 50, 30] {
-        write(rt.alloc(), &mut map, key)?;
-    }
-    let root = map.modules.as_slice().first().ok_or("no root")?;
-    for (place, key) in [50, 30, 40].into_iter().enumerate() {
-        assert!(rt; module_has_at(root, place, key), "{key} in the root");
-        assert!(rt; crate_has_at(&map, place, key), "{key} in the crate");
-    }
+    write(rt.alloc(), &mut map)?;
+    assert!(rt; all_have(&map, &[50, 30, 40]));
     Ok(())
 }
 
@@ -194,16 +220,25 @@ fn with_imported_macros(alloc: Global, map: &mut MapData) -> Result<(), AllocErr
     map.import_all_legacy_macros(alloc, 0, 1)
 }
 
+/// Whether the last module has these textual macros in this order.
+fn last_has_macros(map: &MapData, keys: &[usize]) -> bool {
+    let Some(module) = map.modules.as_slice().last() else {
+        return false;
+    };
+    for (place, key) in keys.iter().enumerate() {
+        if !has_key(module.scope.legacy_macros.get_index(place), Name(*key)) {
+            return false;
+        }
+    }
+    true
+}
+
 #[test]
 fn macros_that_are_taken_over_stand_behind_those_of_the_module(
     rt: HostRuntime,
 ) -> Result<(), Fail> {
     let mut map = empty_map(rt.alloc())?;
     with_imported_macros(rt.alloc(), &mut map)?;
-    let module = map.modules.as_slice().last().ok_or("no module")?;
-    for (place, key) in [40, 50, 30].into_iter().enumerate() {
-        let entry = module.scope.legacy_macros.get_index(place);
-        assert!(rt; has_key(entry, Name(key)), "{key}");
-    }
+    assert!(rt; last_has_macros(&map, &[40, 50, 30]));
     Ok(())
 }

@@ -7,9 +7,11 @@ use def_bindings::{
 };
 use def_ids::{Def, GlobId, ModuleId, StructId, TraitId, UseId};
 use item_tree::{Crate, Name};
-use std::alloc::AllocError;
+use std::alloc::{AllocError, Global};
+use std::process::Abort;
 use std::test::Fail;
 
+/// A module of a crate.
 fn module(index: usize) -> ModuleId {
     ModuleId {
         index,
@@ -17,7 +19,8 @@ fn module(index: usize) -> ModuleId {
     }
 }
 
-fn namespace(k: usize) -> Namespace {
+/// A namespace, by its number.
+pub fn namespace(k: usize) -> Namespace {
     match k % 3 {
         0 => Namespace::Types,
         1 => Namespace::Values,
@@ -62,21 +65,31 @@ fn call<T: BindingTable<Vis = usize>>(table: &mut T, k: usize) -> Result<(), All
     }
 }
 
-/// Whether both tables answer alike at one place of one module.
-fn are_alike_at<A: BindingTable<Vis = usize>, B: BindingTable<Vis = usize>>(
+/// Whether both tables bind a name alike.
+fn bind_alike<V: Copy + PartialEq, A: BindingTable<Vis = V>, B: BindingTable<Vis = V>>(
+    a: &A,
+    b: &B,
+    place: ModuleId,
+    name: Name,
+) -> bool {
+    for k in 0..3 {
+        let ns = namespace(k);
+        if a.binding(place, name, ns) != b.binding(place, name, ns)
+            || a.bindings(place, name).get(ns) != b.bindings(place, name).get(ns)
+        {
+            return false;
+        }
+    }
+    true
+}
+
+/// Whether both tables have the same at one place of the lists of a module.
+fn are_alike_at<V: Copy + PartialEq, A: BindingTable<Vis = V>, B: BindingTable<Vis = V>>(
     a: &A,
     b: &B,
     place: ModuleId,
     i: usize,
 ) -> bool {
-    for k in 0..3 {
-        let ns = namespace(k);
-        if a.binding(place, Name(i), ns) != b.binding(place, Name(i), ns)
-            || a.bindings(place, Name(i)).get(ns) != b.bindings(place, Name(i)).get(ns)
-        {
-            return false;
-        }
-    }
     a.name_at(place, i) == b.name_at(place, i)
         && a.unnamed_at(place, i) == b.unnamed_at(place, i)
         && a.unnamed_vis(place, TraitId(i)) == b.unnamed_vis(place, TraitId(i))
@@ -85,10 +98,14 @@ fn are_alike_at<A: BindingTable<Vis = usize>, B: BindingTable<Vis = usize>>(
 }
 
 /// Whether both tables answer alike at the first places of the first modules.
-fn are_alike<A: BindingTable<Vis = usize>, B: BindingTable<Vis = usize>>(a: &A, b: &B) -> bool {
+pub fn are_alike<V: Copy + PartialEq, A: BindingTable<Vis = V>, B: BindingTable<Vis = V>>(
+    a: &A,
+    b: &B,
+) -> bool {
     for m in 0..6 {
         for i in 0..8 {
-            if !are_alike_at(a, b, module(m), i) {
+            let place = module(m);
+            if !bind_alike(a, b, place, Name(i)) || !are_alike_at(a, b, place, i) {
                 return false;
             }
         }
@@ -96,21 +113,38 @@ fn are_alike<A: BindingTable<Vis = usize>, B: BindingTable<Vis = usize>>(a: &A, 
     true
 }
 
+/// Asserts that two tables answer alike after each of the calls, and that there is something in
+/// them in the end.
+fn assert_alike<A: BindingTable<Vis = usize>, B: BindingTable<Vis = usize>>(
+    rt: &impl Abort,
+    first: &mut A,
+    second: &mut B,
+) -> Result<(), AllocError> {
+    for k in 0..200 {
+        call(first, k)?;
+        call(second, k)?;
+        assert!(rt; are_alike(first, second), "after call {k}");
+    }
+    let root = module(0);
+    assert!(rt; first.name_at(root, 0).is_some() && first.edge_at(root, 0).is_some());
+    Ok(())
+}
+
+/// Compares an empty table with a numbered one.
+fn compare<T: BindingTable<Vis = usize>>(
+    rt: &impl Abort,
+    alloc: Global,
+    table: &mut T,
+) -> Result<(), AllocError> {
+    let mut numbers: NumberedTable<usize> = NumberedTable::new(alloc)?;
+    assert_alike(rt, &mut numbers, table)
+}
+
 #[test]
 fn tables_answer_alike(rt: HostRuntime) -> Result<(), Fail> {
-    let mut scopes: ScopeTable<usize> = ScopeTable::new(rt.alloc())?;
-    let mut numbers: NumberedTable<usize> = NumberedTable::new(rt.alloc())?;
-    let mut plain = PlainTable {
-        table: ScopeTable::new(rt.alloc())?,
-    };
-    for k in 0..200 {
-        call(&mut scopes, k)?;
-        call(&mut numbers, k)?;
-        call(&mut plain, k)?;
-        assert!(rt; are_alike(&scopes, &numbers), "after call {k}");
-        assert!(rt; are_alike(&plain, &numbers), "after call {k}");
-    }
-    assert!(rt; numbers.name_at(module(0), 0).is_some());
-    assert!(rt; numbers.edge_at(module(0), 0).is_some());
+    let alloc = rt.alloc();
+    compare(&rt, alloc, &mut ScopeTable::new(alloc)?)?;
+    let table = ScopeTable::new(alloc)?;
+    compare(&rt, alloc, &mut PlainTable { table })?;
     Ok(())
 }

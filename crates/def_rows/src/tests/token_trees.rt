@@ -1,34 +1,56 @@
 //! Token trees: lists in lists, a tree that is deeper than a stack, and what is no tree.
 
+use item_tree::sym::ATTRIBUTES;
 use item_tree::{Leaf, Name, TopSubtree, TopSubtreeBuilder, TtIter};
 use std::alloc::{AllocError, Global};
-use std::process::Abort;
 use std::test::Fail;
 
 /// With a hundred bytes for each level, more than a stack of 8 MB holds.
 const DEPTH: usize = 100_000;
 
-const A: Name = Name(101);
+/// What stands for elements that are no identifiers: the star.
+const STAR: Name = Name(42);
 
-const B: Name = Name(102);
+/// The identifier of a letter. No known name has it.
+pub fn name_of(letter: char) -> Name {
+    Name(letter as usize)
+}
 
-const C: Name = Name(103);
+/// Does what a letter of a text says: a bracket opens or closes a list, a comma is one, a star is
+/// the name `attributes`, and another letter is an identifier. False where no list is open that
+/// could be closed.
+fn add(trees: &mut TopSubtreeBuilder, letter: char) -> Result<bool, AllocError> {
+    match letter {
+        '(' => trees.open()?,
+        ')' => return trees.close(),
+        ',' => trees.push(Leaf::Punct(','))?,
+        '*' => trees.push(Leaf::Ident(ATTRIBUTES))?,
+        _ => trees.push(Leaf::Ident(name_of(letter)))?,
+    }
+    Ok(true)
+}
 
-const D: Name = Name(104);
+/// Does what all letters of a text say, and counts where no list is open that could be closed.
+fn add_all(trees: &mut TopSubtreeBuilder, text: &str) -> Result<usize, AllocError> {
+    let mut refused = 0_usize;
+    for letter in text.chars() {
+        if !add(trees, letter)? {
+            refused = refused.wrapping_add(1);
+        }
+    }
+    Ok(refused)
+}
 
-const E: Name = Name(105);
-
-/// An identifier in so many lists, each in the other.
-fn nested(alloc: Global, depth: usize, name: Name) -> Result<Option<TopSubtree>, AllocError> {
+/// The trees of a text, if it is whole.
+pub fn trees_of(alloc: Global, text: &str) -> Result<Option<TopSubtree>, AllocError> {
     let mut trees = TopSubtreeBuilder::new(alloc);
-    for _ in 0..depth {
-        trees.open()?;
-    }
-    trees.push(Leaf::Ident(name))?;
-    for _ in 0..depth {
-        let _ = trees.close()?;
-    }
+    let _ = add_all(&mut trees, text)?;
     Ok(trees.build())
+}
+
+/// How often a text closes a list where none is open.
+fn refused_in(alloc: Global, text: &str) -> Result<usize, AllocError> {
+    add_all(&mut TopSubtreeBuilder::new(alloc), text)
 }
 
 /// The elements of a tree.
@@ -39,117 +61,120 @@ fn elements(tree: &Option<TopSubtree>) -> Option<TtIter<'_>> {
     }
 }
 
-/// The list that trees begin with.
-fn first_list(trees: Option<TtIter<'_>>) -> Option<TtIter<'_>> {
-    trees?.next()?.subtree()
-}
-
-/// What stands in the second element, if that is a list.
-fn inside_second(trees: Option<TtIter<'_>>) -> Option<TtIter<'_>> {
+/// What stands in the element at a place, if that is a list.
+fn inside(trees: Option<TtIter<'_>>, place: usize) -> Option<TtIter<'_>> {
     let mut trees = trees?;
-    let _ = trees.next();
+    for _ in 0..place {
+        let _ = trees.next();
+    }
     trees.next()?.subtree()
 }
 
-/// The identifier that trees are.
-fn only_ident(trees: Option<TtIter<'_>>) -> Option<Name> {
-    let mut trees = trees?;
-    match (trees.next(), trees.next()) {
-        (Some(element), None) => element.ident(),
-        _ => None,
+/// What stands so many lists deep, each of which is the element at this place.
+fn level(tree: &Option<TopSubtree>, place: usize, depth: usize) -> Option<TtIter<'_>> {
+    let mut level = elements(tree);
+    for _ in 0..depth {
+        level = inside(level, place);
     }
+    level
 }
 
-/// The names of the elements; a list and a mark have none.
-fn names(alloc: Global, trees: TtIter<'_>) -> Result<Vec<Option<Name>>, AllocError> {
-    let mut names = Vec::new(alloc);
-    for element in trees {
-        names.push(element.ident())?;
+/// Whether elements are the identifiers of these letters, and other elements where a star is.
+fn are_names(trees: Option<TtIter<'_>>, letters: &str) -> bool {
+    let Some(mut trees) = trees else {
+        return false;
+    };
+    for letter in letters.chars() {
+        let Some(element) = trees.next() else {
+            return false;
+        };
+        if element.ident().unwrap_or(STAR) != name_of(letter) {
+            return false;
+        }
     }
-    Ok(names)
+    trees.next().is_none()
+}
+
+/// A text, how often it closes a list where none is open, and its names: those of the text, of the
+/// list that is its second element, of the list that is the second in that, and so on. No list
+/// where it is no tree.
+static TEXTS: [(&str, usize, &[&str]); 3] = [
+    ("a(b(c)d),e", 0, &["a**e", "b*d", "c"]),
+    (")a)", 2, &["a"]),
+    ("(()", 0, &[]),
+];
+
+/// Whether there is a tree with these names, or none where there are none.
+fn has_levels(tree: &Option<TopSubtree>, names: &[&str]) -> bool {
+    for (depth, letters) in names.iter().enumerate() {
+        if !are_names(level(tree, 1, depth), letters) {
+            return false;
+        }
+    }
+    tree.is_some() != names.is_empty()
+}
+
+/// Whether a text closes a list so often where none is open, and has these names.
+fn is_read(alloc: Global, text: &str, refused: usize, names: &[&str]) -> Result<bool, AllocError> {
+    Ok(refused_in(alloc, text)? == refused && has_levels(&trees_of(alloc, text)?, names))
+}
+
+#[test]
+fn texts_are_trees_where_their_lists_are_closed(rt: HostRuntime) -> Result<(), Fail> {
+    for (text, refused, names) in &TEXTS {
+        assert!(rt; is_read(rt.alloc(), text, *refused, names)?, "{text}");
+    }
+    Ok(())
+}
+
+/// An identifier in so many lists, each in the other.
+fn nested(alloc: Global, depth: usize, letter: char) -> Result<Option<TopSubtree>, AllocError> {
+    let mut trees = TopSubtreeBuilder::new(alloc);
+    for _ in 0..depth {
+        trees.open()?;
+    }
+    let _ = add(&mut trees, letter)?;
+    for _ in 0..depth {
+        let _ = trees.close()?;
+    }
+    Ok(trees.build())
+}
+
+/// Whether a tree is this identifier in so many lists.
+fn is_nested(
+    alloc: Global,
+    tree: &Option<TopSubtree>,
+    depth: usize,
+    letter: char,
+) -> Result<bool, AllocError> {
+    Ok(*tree == nested(alloc, depth, letter)?)
+}
+
+/// Whether a copy of a tree is equal to it.
+fn is_copied(tree: &Option<TopSubtree>) -> Result<bool, AllocError> {
+    Ok(tree.clone()? == *tree)
+}
+
+/// How long a tree is when it is shown.
+fn shown_len(alloc: Global, tree: &Option<TopSubtree>) -> Result<usize, AllocError> {
+    let shown = format!(in alloc; "{tree:?}")?;
+    Ok(shown.len())
+}
+
+/// Whether a tree is the identifier a in so many lists, and is copied, compared and shown as one.
+fn is_deep(alloc: Global, tree: &Option<TopSubtree>, depth: usize) -> Result<bool, AllocError> {
+    Ok(
+        are_names(level(tree, 0, depth), "a")
+            && is_copied(tree)?
+            && !is_nested(alloc, tree, depth, 'b')?
+            && !is_nested(alloc, tree, depth.saturating_sub(1), 'a')?
+            && shown_len(alloc, tree)? > depth,
+    )
 }
 
 #[test]
 fn a_deep_tree_needs_no_stack(rt: HostRuntime) -> Result<(), Fail> {
-    let alloc = rt.alloc();
-    let tree = nested(alloc, DEPTH, A)?;
-    let copy = tree.clone()?;
-    assert!(rt; tree == copy);
-    assert!(rt; tree != nested(alloc, DEPTH, B)?);
-    assert!(rt; tree != nested(alloc, DEPTH - 1, A)?);
-    let mut level = elements(&tree);
-    for _ in 0..DEPTH {
-        level = first_list(level);
-    }
-    assert_eq!(rt; only_ident(level), Some(A));
-    let shown = format!(in alloc; "{copy:?}")?;
-    assert!(rt; shown.len() > DEPTH);
-    Ok(())
-}
-
-/// `a (b (c) d), e`
-fn row(alloc: Global) -> Result<Option<TopSubtree>, AllocError> {
-    let mut trees = TopSubtreeBuilder::new(alloc);
-    trees.push(Leaf::Ident(A))?;
-    trees.open()?;
-    trees.push(Leaf::Ident(B))?;
-    trees.open()?;
-    trees.push(Leaf::Ident(C))?;
-    let _ = trees.close()?;
-    trees.push(Leaf::Ident(D))?;
-    let _ = trees.close()?;
-    trees.push(Leaf::Punct(','))?;
-    trees.push(Leaf::Ident(E))?;
-    Ok(trees.build())
-}
-
-/// Asserts which names the elements of a list have.
-fn assert_names(
-    rt: &impl Abort,
-    alloc: Global,
-    trees: Option<TtIter<'_>>,
-    want: &[Option<Name>],
-) -> Result<(), AllocError> {
-    match trees {
-        Some(trees) => {
-            let found = names(alloc, trees)?;
-            assert_eq!(rt; found.as_slice(), want);
-        }
-        None => panic!(rt; "no list with {want:?}"),
-    }
-    Ok(())
-}
-
-#[test]
-fn levels_are_read_one_by_one(rt: HostRuntime) -> Result<(), Fail> {
-    let alloc = rt.alloc();
-    let tree = row(alloc)?;
-    let top = elements(&tree);
-    assert_names(&rt, alloc, top, &[Some(A), None, None, Some(E)])?;
-    let second = inside_second(elements(&tree));
-    assert_names(&rt, alloc, second, &[Some(B), None, Some(D)])?;
-    let third = inside_second(inside_second(elements(&tree)));
-    assert_names(&rt, alloc, third, &[Some(C)])?;
-    Ok(())
-}
-
-#[test]
-fn no_list_is_closed_that_is_not_open(rt: HostRuntime) -> Result<(), Fail> {
-    let mut trees = TopSubtreeBuilder::new(rt.alloc());
-    assert!(rt; !trees.close()?);
-    trees.push(Leaf::Ident(A))?;
-    assert!(rt; !trees.close()?);
-    let tree = trees.build();
-    assert_eq!(rt; only_ident(elements(&tree)), Some(A));
-    Ok(())
-}
-
-#[test]
-fn no_list_of_a_tree_stays_open(rt: HostRuntime) -> Result<(), Fail> {
-    let mut trees = TopSubtreeBuilder::new(rt.alloc());
-    trees.open()?;
-    trees.open()?;
-    assert!(rt; trees.close()?);
-    assert_eq!(rt; trees.build(), None);
+    let tree = nested(rt.alloc(), DEPTH, 'a')?;
+    assert!(rt; is_deep(rt.alloc(), &tree, DEPTH)?);
     Ok(())
 }

@@ -1,11 +1,12 @@
-//! One list of calls over both tables.
+//! One list of calls over both tables, and then names that travel far in each.
 
-use super::{definition, glob, module, module_tree};
+use super::far::assert_far;
+use super::{glob, module, module_tree};
+use crate::tests::tables::{are_alike, namespace};
 use def_bindings::{
-    BindingTable, Entry, ImportOrExternCrate, ModuleTree, Namespace, NumberedTable, ScopeTable,
-    Visibility,
+    BindingTable, Entry, ImportOrExternCrate, ModuleTree, NumberedTable, ScopeTable, Visibility,
 };
-use def_ids::{Def, ImportId, ModuleId, TraitId, UseId};
+use def_ids::{Def, ImportId, StructId, TraitId, UseId};
 use def_parts::Globs;
 use item_tree::Name;
 use std::alloc::{AllocError, Global};
@@ -21,14 +22,6 @@ const NAMES: usize = 8;
 /// A number below 257, by that of a call: each factor gives another order of these numbers.
 fn scattered(k: usize, factor: usize) -> usize {
     k.wrapping_mul(factor) % 257
-}
-
-fn namespace(k: usize) -> Namespace {
-    match k % 3 {
-        0 => Namespace::Types,
-        1 => Namespace::Values,
-        _ => Namespace::Macros,
-    }
 }
 
 fn visibility(k: usize) -> Visibility {
@@ -54,7 +47,10 @@ fn origin(k: usize) -> Option<ImportOrExternCrate> {
 fn entry(k: usize) -> Entry<Visibility> {
     let (name, def) = match scattered(k, 59) % 7 {
         0 => (None, Def::Trait(TraitId(k % 3))),
-        kind => (Some(Name(scattered(k, 97) % NAMES)), definition(kind)),
+        kind => (
+            Some(Name(scattered(k, 97) % NAMES)),
+            Def::Struct(StructId(kind)),
+        ),
     };
     Entry {
         name,
@@ -83,65 +79,6 @@ fn call<T: BindingTable<Vis = Visibility>>(
     }
 }
 
-/// Whether two tables bind a name alike in a module.
-fn agree_on<A: BindingTable<Vis = Visibility>, B: BindingTable<Vis = Visibility>>(
-    a: &A,
-    b: &B,
-    place: ModuleId,
-    name: Name,
-) -> bool {
-    for k in 0..3 {
-        let ns = namespace(k);
-        if a.binding(place, name, ns) != b.binding(place, name, ns) {
-            return false;
-        }
-    }
-    true
-}
-
-/// Whether two tables have the same at a place of the lists of a module.
-fn agree_at<A: BindingTable<Vis = Visibility>, B: BindingTable<Vis = Visibility>>(
-    a: &A,
-    b: &B,
-    place: ModuleId,
-    index: usize,
-) -> bool {
-    a.name_at(place, index) == b.name_at(place, index)
-        && a.unnamed_at(place, index) == b.unnamed_at(place, index)
-        && a.edge_at(place, index) == b.edge_at(place, index)
-}
-
-/// Whether two tables have equal contents.
-fn agree<A: BindingTable<Vis = Visibility>, B: BindingTable<Vis = Visibility>>(
-    a: &A,
-    b: &B,
-) -> bool {
-    for index in 0..MODULES {
-        let place = module(index);
-        for k in 0..NAMES {
-            if !agree_on(a, b, place, Name(k)) || !agree_at(a, b, place, k) {
-                return false;
-            }
-        }
-    }
-    true
-}
-
-/// Asserts that two tables have equal contents after each call of the list.
-fn assert_agree<A: BindingTable<Vis = Visibility>, B: BindingTable<Vis = Visibility>>(
-    rt: &impl Abort,
-    order: &ModuleTree,
-    first: &mut Globs<A>,
-    second: &mut Globs<B>,
-) -> Result<(), AllocError> {
-    for k in 0..200 {
-        call(first, order, k)?;
-        call(second, order, k)?;
-        assert!(rt; agree(first.table(), second.table()), "after call {k}");
-    }
-    Ok(())
-}
-
 /// Whether each module has an edge to each other one, and no further one.
 fn has_all_edges<T: BindingTable>(table: &T) -> bool {
     for index in 0..MODULES {
@@ -155,21 +92,60 @@ fn has_all_edges<T: BindingTable>(table: &T) -> bool {
     true
 }
 
-/// Compares a table with a numbered one.
-fn compare_with_numbered<T: BindingTable<Vis = Visibility>>(
+/// Asserts that two tables have equal contents after each call of the list, and the edges of all
+/// calls in the end.
+fn assert_alike<A: BindingTable<Vis = Visibility>, B: BindingTable<Vis = Visibility>>(
+    rt: &impl Abort,
+    order: &ModuleTree,
+    first: &mut Globs<A>,
+    second: &mut Globs<B>,
+) -> Result<(), AllocError> {
+    for k in 0..200 {
+        call(first, order, k)?;
+        call(second, order, k)?;
+        assert!(rt; are_alike(first.table(), second.table()), "after call {k}");
+    }
+    assert!(rt; has_all_edges(first.table()));
+    Ok(())
+}
+
+/// Compares two tables, and then lets names travel far in each.
+fn compare<A: BindingTable<Vis = Visibility>, B: BindingTable<Vis = Visibility>>(
+    rt: &impl Abort,
+    order: &ModuleTree,
+    first: &mut Globs<A>,
+    second: &mut Globs<B>,
+) -> Result<(), AllocError> {
+    assert_alike(rt, order, first, second)?;
+    assert_far(rt, first, order)?;
+    assert_far(rt, second, order)
+}
+
+/// Compares two tables that are empty.
+fn compare_empty<
+    A: BindingTable<Vis = Visibility> + Drop,
+    B: BindingTable<Vis = Visibility> + Drop,
+>(
     rt: &impl Abort,
     alloc: Global,
-    globs: &mut Globs<T>,
+    order: &ModuleTree,
+    first: A,
+    second: B,
 ) -> Result<(), AllocError> {
-    let order = module_tree(rt, alloc)?;
-    let mut numbered = Globs::new(alloc, NumberedTable::new(alloc)?);
-    assert_agree(rt, &order, globs, &mut numbered)
+    let mut first = Globs::new(alloc, first);
+    let mut second = Globs::new(alloc, second);
+    compare(rt, order, &mut first, &mut second)
+}
+
+/// Compares both tables.
+fn compare_both(rt: &impl Abort, alloc: Global, order: &ModuleTree) -> Result<(), AllocError> {
+    let scopes = ScopeTable::new(alloc)?;
+    compare_empty(rt, alloc, order, scopes, NumberedTable::new(alloc)?)
 }
 
 #[test]
-fn tables_agree(rt: HostRuntime) -> Result<(), Fail> {
-    let mut globs = Globs::new(rt.alloc(), ScopeTable::new(rt.alloc())?);
-    compare_with_numbered(&rt, rt.alloc(), &mut globs)?;
-    assert!(rt; has_all_edges(globs.table()));
+fn tables_agree_and_names_travel_far(rt: HostRuntime) -> Result<(), Fail> {
+    let order = module_tree(&rt, rt.alloc())?;
+    compare_both(&rt, rt.alloc(), &order)?;
     Ok(())
 }

@@ -4,7 +4,7 @@ use def_bindings::VisOrder;
 use def_ids::ModuleId;
 
 /// Levels, each greater than those before it.
-#[derive(Clone, Copy, PartialEq, Eq, Debug)]
+#[derive(Clone, Copy, PartialEq)]
 pub enum Level {
     Low,
     Middle,
