@@ -1,11 +1,11 @@
 //! Attributes.
 
 use crate::fault::Stop;
-use crate::paths::{Rest, behind_comma, behind_mark, last, stop};
+use crate::reader::Reader;
 use crate::tokens::{Keyword, Token};
 use item_tree::{
     Attr, AttrInput, Attrs, AttrsOrCfg, CfgExpr, Leaf, ModPath, Name, PathKind, Seq, SyntaxContext,
-    Text, TopSubtreeBuilder,
+    TopSubtreeBuilder,
 };
 use std::alloc::{AllocError, Global};
 
@@ -44,33 +44,17 @@ fn word(alloc: Global, name: Name) -> Result<ModPath, AllocError> {
     })
 }
 
-/// An attribute of this name.
-fn attribute(
-    alloc: Global,
-    name: Name,
-    input: Option<AttrInput>,
-    paths: Option<Seq<(ModPath, SyntaxContext)>>,
-) -> Result<Attr, AllocError> {
-    Ok(Attr {
-        path: word(alloc, name)?,
-        input,
-        ctxt: SyntaxContext(0),
-        paths,
-    })
-}
-
-/// The names in parentheses, with commas between them: what stands before the closing one.
-fn names<'a>(alloc: Global, rest: Rest<'a>) -> Result<(Seq<Name>, Rest<'a>), Stop> {
-    let mut names = Seq::from_vec(Vec::new(alloc));
-    let mut left = rest.len();
-    for _ in rest {
-        let [Token::Name(name), behind @ ..] = last(rest, left) else {
+/// Adds the names that stand in parentheses with commas between them, and takes the closing one.
+fn add_names(reader: &mut Reader, names: &mut Seq<Name>) -> Result<(), Stop> {
+    for _ in 0..reader.left() {
+        let Token::Name(name) = reader.peek(0) else {
             break;
         };
-        names.push(*name)?;
-        left = behind_comma(behind)?.len();
+        reader.skip(1);
+        names.push(name)?;
+        reader.comma()?;
     }
-    Ok((names, behind_mark(last(rest, left), ')')?))
+    reader.expect(')')
 }
 
 /// Names as token trees, with commas between them.
@@ -99,68 +83,74 @@ fn name_paths(alloc: Global, names: &[Name]) -> Result<Seq<(ModPath, SyntaxConte
     Ok(paths)
 }
 
-/// An attribute whose arguments are names: as token trees, and as the paths that they are.
-fn list_attr(alloc: Global, name: Name, names: &[Name]) -> Result<Attr, AllocError> {
-    let input = name_tokens(alloc, names)?;
-    let paths = name_paths(alloc, names)?;
-    attribute(alloc, name, input, Some(paths))
+/// Gives an attribute names as its arguments: as token trees, and as the paths that they are.
+fn set_names(alloc: Global, names: &[Name], attr: &mut Attr) -> Result<(), AllocError> {
+    attr.input = name_tokens(alloc, names)?;
+    attr.paths = Some(name_paths(alloc, names)?);
+    Ok(())
 }
 
-/// An attribute that is no condition, from its name on.
-fn named<'a>(alloc: Global, name: Name, rest: Rest<'a>) -> Result<(Attr, Rest<'a>), Stop> {
-    match rest {
-        [Token::Mark('='), Token::Text(text), behind @ ..] => {
-            let text = Text::from_str(alloc, text)?;
-            let attr = attribute(alloc, name, Some(AttrInput::Str(text)), None)?;
-            Ok((attr, behind))
+/// Gives an attribute what stands behind its name.
+fn set_arguments(reader: &mut Reader, attr: &mut Attr) -> Result<(), Stop> {
+    match (reader.peek(0), reader.peek(1)) {
+        (Token::Mark('='), Token::Text(number)) => {
+            reader.skip(2);
+            attr.input = Some(AttrInput::Str(reader.text(number)?));
+            Ok(())
         }
-        [Token::Mark('('), arguments @ ..] => {
-            let (names, behind) = names(alloc, arguments)?;
-            Ok((list_attr(alloc, name, names.as_slice())?, behind))
+        (Token::Mark('('), _) => {
+            reader.skip(1);
+            let mut names = Seq::from_vec(Vec::new(reader.alloc));
+            add_names(reader, &mut names)?;
+            Ok(set_names(reader.alloc, names.as_slice(), attr)?)
         }
-        _ => Ok((attribute(alloc, name, None, None)?, rest)),
+        _ => Ok(()),
     }
 }
 
+/// An attribute that is no condition, from behind its name on.
+fn named(reader: &mut Reader, name: Name) -> Result<Attr, Stop> {
+    let mut attr = Attr {
+        path: word(reader.alloc, name)?,
+        input: None,
+        ctxt: SyntaxContext(0),
+        paths: None,
+    };
+    set_arguments(reader, &mut attr)?;
+    Ok(attr)
+}
+
 /// Adds the condition in parentheses behind `cfg`, of which there is one at most.
-fn add_cfg<'a>(rest: Rest<'a>, written: &mut Written) -> Result<Rest<'a>, Stop> {
-    match rest {
-        [Token::Mark('('), Token::Number(cfg), behind @ ..] if written.cfg.is_none() => {
-            written.cfg = Some(CfgExpr(*cfg));
-            behind_mark(behind, ')')
+fn add_cfg(reader: &mut Reader, written: &mut Written) -> Result<(), Stop> {
+    match (reader.peek(0), reader.peek(1)) {
+        (Token::Mark('('), Token::Number(cfg)) if written.cfg.is_none() => {
+            reader.skip(2);
+            written.cfg = Some(CfgExpr(cfg));
+            reader.expect(')')
         }
-        _ => Err(stop(rest)),
+        _ => Err(Stop::Here),
     }
 }
 
 /// Adds what stands in the brackets of an attribute: `cfg(7)`, that the condition of this number is
 /// not met, or any other attribute.
-pub fn add_attribute<'a>(
-    alloc: Global,
-    rest: Rest<'a>,
-    written: &mut Written,
-) -> Result<Rest<'a>, Stop> {
-    let behind = match rest {
-        [Token::Word(Keyword::Cfg), behind @ ..] => add_cfg(behind, written)?,
-        [Token::Name(name), behind @ ..] => {
-            let (attr, behind) = named(alloc, *name, behind)?;
-            written.list.push(attr)?;
-            behind
-        }
-        _ => return Err(stop(rest)),
-    };
-    behind_mark(behind, ']')
+pub fn add_attribute(reader: &mut Reader, written: &mut Written) -> Result<(), Stop> {
+    if reader.takes(Token::Word(Keyword::Cfg)) {
+        add_cfg(reader, written)?;
+    } else {
+        let name = reader.name()?;
+        written.list.push(named(reader, name)?)?;
+    }
+    reader.expect(']')
 }
 
-/// The attributes before an item.
-pub fn attributes<'a>(alloc: Global, rest: Rest<'a>) -> Result<(Written, Rest<'a>), Stop> {
-    let mut written = Written::new(alloc);
-    let mut left = rest.len();
-    for _ in rest {
-        let [Token::Mark('#'), Token::Mark('['), behind @ ..] = last(rest, left) else {
+/// Adds the attributes before an item.
+pub fn add_attributes(reader: &mut Reader, written: &mut Written) -> Result<(), Stop> {
+    for _ in 0..reader.left() {
+        if !reader.takes_both(Token::Mark('#'), Token::Mark('[')) {
             break;
-        };
-        left = add_attribute(alloc, behind, &mut written)?.len();
+        }
+        add_attribute(reader, written)?;
     }
-    Ok((written, last(rest, left)))
+    Ok(())
 }

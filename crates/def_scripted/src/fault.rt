@@ -30,7 +30,7 @@ impl From<io::Error> for Fault {
 }
 
 /// Why a text is not read: memory was refused, or the text cannot be read from this byte on.
-#[derive(Debug, PartialEq, Eq, Drop)]
+#[derive(Drop)]
 pub enum ReadFault {
     Memory,
     Byte(usize),
@@ -42,12 +42,11 @@ impl From<AllocError> for ReadFault {
     }
 }
 
-/// Why reading stops: memory was refused, or the first of the tokens that are left does not fit,
-/// where so many are left.
-#[derive(Debug, Drop)]
+/// Why reading stops: memory was refused, or the token that comes does not fit.
+#[derive(Drop)]
 pub(crate) enum Stop {
     Memory,
-    At(usize),
+    Here,
 }
 
 impl From<AllocError> for Stop {

@@ -2,208 +2,141 @@
 
 use crate::fault::Stop;
 use crate::imports::imports;
-use crate::paths::{Rest, alias, behind_comma, behind_mark, is_closed, last, stop, visibility};
+use crate::items::Items;
+use crate::paths::{alias, visibility};
+use crate::pieces::{End, skip_piece};
+use crate::reader::Reader;
 use crate::tokens::{Keyword, Token};
+use crate::variants::add_enum;
 use item_tree::{CtorVisibility, ModContents, ModItemKind, Name, RawVisibility, Seq, sym};
-use std::alloc::Global;
 
-/// An item, and what stands behind it: of a module in braces and an extern block, its items.
-pub type Read<'a> = Result<(ModItemKind, Rest<'a>), Stop>;
+/// An item: of a module in braces and an extern block, with no items in it yet.
+type Read = Result<ModItemKind, Stop>;
 
-/// Where a piece of a text ends, outside of all brackets that are opened in it.
-#[derive(Clone, Copy)]
-pub enum End {
-    /// With the bracket that closes the first one.
-    Bracket,
-    Semicolon,
-    /// With a semicolon or the brace that closes a body.
-    SemicolonOrBody,
-}
-
-/// How many brackets are open behind a token; none where it closes one that is not open. Which kind
-/// closes which is not looked at.
-fn depth_behind(depth: usize, token: Token<'_>) -> Option<usize> {
-    match token {
-        Token::Mark('(' | '[' | '{') => depth.checked_add(1),
-        Token::Mark(')' | ']' | '}') => depth.checked_sub(1),
-        _ => Some(depth),
-    }
-}
-
-fn is_end(end: End, token: Token<'_>) -> bool {
-    match end {
-        End::Bracket => true,
-        End::Semicolon => matches!(token, Token::Mark(';')),
-        End::SemicolonOrBody => matches!(token, Token::Mark(';' | '}')),
-    }
-}
-
-/// What stands behind a piece that is not read.
-pub fn behind<'a>(rest: Rest<'a>, end: End) -> Result<Rest<'a>, Stop> {
-    let mut depth = 0;
-    let mut left = rest;
-    for _ in rest {
-        let [token, behind @ ..] = left else {
-            break;
-        };
-        let Some(new_depth) = depth_behind(depth, *token) else {
-            break;
-        };
-        if new_depth == 0 && is_end(end, *token) {
-            return Ok(behind);
-        }
-        depth = new_depth;
-        left = behind;
-    }
-    Err(stop(left))
-}
-
-/// The name that has to come.
-fn name<'a>(rest: Rest<'a>) -> Result<(Name, Rest<'a>), Stop> {
-    match rest {
-        [Token::Name(name), behind @ ..] => Ok((*name, behind)),
-        _ => Err(stop(rest)),
-    }
-}
-
-/// A module, in a file of its own or in braces, with no items in it yet.
-fn module<'a>(alloc: Global, visibility: RawVisibility, rest: Rest<'a>) -> Read<'a> {
-    let (name, behind) = name(rest)?;
-    let (contents, behind) = match behind {
-        [Token::Mark(';'), behind @ ..] => (ModContents::Outline, behind),
-        [Token::Mark('{'), behind @ ..] => (
-            ModContents::Inline(Seq::from_vec(Vec::new(alloc))),
-            behind,
-        ),
-        _ => return Err(stop(behind)),
+/// A module, in a file of its own or in braces.
+fn module(reader: &mut Reader, items: &mut Items) -> Read {
+    let name = reader.name()?;
+    let contents = match reader.peek(0) {
+        Token::Mark(';') => ModContents::Outline,
+        Token::Mark('{') => ModContents::Inline(Seq::from_vec(Vec::new(reader.alloc))),
+        _ => return Err(Stop::Here),
     };
-    let kind = ModItemKind::Mod {
+    reader.skip(1);
+    Ok(ModItemKind::Mod {
         name,
-        visibility,
+        visibility: items.take_visibility(),
         contents,
-    };
-    Ok((kind, behind))
+    })
 }
 
-fn use_item<'a>(alloc: Global, visibility: RawVisibility, rest: Rest<'a>) -> Read<'a> {
-    let (imports, behind) = imports(alloc, rest)?;
-    let kind = ModItemKind::Use {
-        visibility,
+fn use_item(reader: &mut Reader, items: &mut Items) -> Read {
+    let imports = imports(reader)?;
+    Ok(ModItemKind::Use {
+        visibility: items.take_visibility(),
         imports,
-    };
-    Ok((kind, behind))
+    })
 }
 
-/// An extern crate, from its name on.
-fn extern_crate<'a>(visibility: RawVisibility, name: Name, rest: Rest<'a>) -> Read<'a> {
-    let (alias, behind) = alias(rest)?;
-    let behind = behind_mark(behind, ';')?;
-    let kind = ModItemKind::ExternCrate {
+/// An extern crate, from behind its name on.
+fn extern_crate(reader: &mut Reader, items: &mut Items, name: Name) -> Read {
+    let alias = alias(reader)?;
+    reader.expect(';')?;
+    Ok(ModItemKind::ExternCrate {
         name,
-        visibility,
+        visibility: items.take_visibility(),
         alias,
-    };
-    Ok((kind, behind))
+    })
 }
 
-/// An extern crate, or an extern block with no items in it yet.
-fn extern_item<'a>(alloc: Global, visibility: RawVisibility, rest: Rest<'a>) -> Read<'a> {
-    match rest {
-        [
-            Token::Word(Keyword::Crate),
-            Token::Word(Keyword::SelfWord),
-            behind @ ..,
-        ] => { extern_crate(visibility, sym::SELF, behind) }
-        [Token::Word(Keyword::Crate), Token::Name(name), behind @ ..] => {
-            extern_crate(visibility, *name, behind)
-        }
-        [Token::Mark('{'), behind @ ..] => {
-            let children = Seq::from_vec(Vec::new(alloc));
-            Ok((ModItemKind::ExternBlock { children }, behind))
-        }
-        _ => Err(stop(rest)),
+/// An extern crate or an extern block.
+fn extern_item(reader: &mut Reader, items: &mut Items) -> Read {
+    if reader.takes(Token::Mark('{')) {
+        let children = Seq::from_vec(Vec::new(reader.alloc));
+        return Ok(ModItemKind::ExternBlock { children });
     }
+    let name = match (reader.peek(0), reader.peek(1)) {
+        (Token::Word(Keyword::Crate), Token::Word(Keyword::SelfWord)) => sym::SELF,
+        (Token::Word(Keyword::Crate), Token::Name(name)) => name,
+        _ => return Err(Stop::Here),
+    };
+    reader.skip(2);
+    extern_crate(reader, items, name)
 }
 
 /// An impl, of a trait where the word `for` stands before its braces.
-fn impl_item<'a>(rest: Rest<'a>) -> Read<'a> {
+fn impl_item(reader: &mut Reader) -> Read {
     let mut is_trait_impl = false;
-    let mut left = rest;
-    for _ in rest {
-        match left {
-            [Token::Mark('{'), ..] => break,
-            [Token::Word(Keyword::For), behind @ ..] => {
-                is_trait_impl = true;
-                left = behind;
-            }
-            [_, behind @ ..] => left = behind,
-            [] => break,
+    for _ in 0..reader.left() {
+        match reader.peek(0) {
+            Token::Mark('{') => break,
+            Token::Word(Keyword::For) => is_trait_impl = true,
+            _ => {}
         }
+        reader.skip(1);
     }
-    let behind = behind(left, End::Bracket)?;
-    Ok((ModItemKind::Impl { is_trait_impl }, behind))
+    skip_piece(reader, End::Bracket)?;
+    Ok(ModItemKind::Impl { is_trait_impl })
 }
 
-/// The visibilities of the fields in parentheses, each of whose types is one name.
-fn fields<'a>(alloc: Global, rest: Rest<'a>) -> Result<(Seq<RawVisibility>, Rest<'a>), Stop> {
-    let mut fields = Seq::from_vec(Vec::new(alloc));
-    let mut left = rest.len();
-    for _ in rest {
-        if is_closed(last(rest, left)) {
+/// Adds the visibilities of the fields in parentheses, each of whose types is one name, and takes
+/// what closes the struct.
+fn add_fields(reader: &mut Reader, fields: &mut Seq<RawVisibility>) -> Result<(), Stop> {
+    for _ in 0..reader.left() {
+        if reader.is_closed() {
             break;
         }
-        let (visibility, behind) = visibility(alloc, last(rest, left))?;
-        fields.push(visibility)?;
-        let (_, behind) = name(behind)?;
-        left = behind_comma(behind)?.len();
+        fields.push(visibility(reader)?)?;
+        reader.name()?;
+        reader.comma()?;
     }
-    Ok((fields, behind_mark(last(rest, left), ')')?))
+    reader.expect(')')?;
+    reader.expect(';')
+}
+
+/// The constructor of a struct with fields in parentheses.
+fn tuple_constructor(reader: &mut Reader) -> Result<CtorVisibility, Stop> {
+    let mut fields = Seq::from_vec(Vec::new(reader.alloc));
+    add_fields(reader, &mut fields)?;
+    Ok(CtorVisibility::ValueNsCtorWithMinVis(fields))
 }
 
 /// The constructor of a struct: as visible as it without fields, as the least visible of its fields
 /// where these have no names, and else none.
-fn constructor<'a>(
-    alloc: Global,
-    visibility: &RawVisibility,
-    rest: Rest<'a>,
-) -> Result<(CtorVisibility, Rest<'a>), Stop> {
-    match rest {
-        [Token::Mark(';'), behind @ ..] => Ok((
-            CtorVisibility::ValueNsCtorWithVis(visibility.clone()?),
-            behind,
-        )),
-        [Token::Mark('('), behind @ ..] => {
-            let (fields, behind) = fields(alloc, behind)?;
-            Ok((
-                CtorVisibility::ValueNsCtorWithMinVis(fields),
-                behind_mark(behind, ';')?,
-            ))
-        }
-        [Token::Mark('{'), ..] => Ok((CtorVisibility::NoValueNsCtor, behind(rest, End::Bracket)?)),
-        _ => Err(stop(rest)),
+fn constructor(reader: &mut Reader, visibility: &RawVisibility) -> Result<CtorVisibility, Stop> {
+    if reader.takes(Token::Mark(';')) {
+        return Ok(CtorVisibility::ValueNsCtorWithVis(visibility.clone()?));
     }
+    if reader.takes(Token::Mark('(')) {
+        return tuple_constructor(reader);
+    }
+    if reader.peek(0) != Token::Mark('{') {
+        return Err(Stop::Here);
+    }
+    skip_piece(reader, End::Bracket)?;
+    Ok(CtorVisibility::NoValueNsCtor)
 }
 
-fn struct_item<'a>(alloc: Global, visibility: RawVisibility, rest: Rest<'a>) -> Read<'a> {
-    let (name, behind) = name(rest)?;
-    let (ctor, behind) = constructor(alloc, &visibility, behind)?;
-    let kind = ModItemKind::Struct {
+fn struct_item(reader: &mut Reader, items: &mut Items) -> Read {
+    let name = reader.name()?;
+    let ctor = constructor(reader, &items.visibility)?;
+    Ok(ModItemKind::Struct {
         name,
-        visibility,
+        visibility: items.take_visibility(),
         ctor,
-    };
-    Ok((kind, behind))
+    })
 }
 
 /// A constant; one without a name is `const _`.
-fn const_item<'a>(visibility: RawVisibility, rest: Rest<'a>) -> Read<'a> {
-    let (name, left) = match rest {
-        [Token::Word(Keyword::Underscore), left @ ..] => (None, left),
-        [Token::Name(name), left @ ..] => (Some(*name), left),
-        _ => return Err(stop(rest)),
+fn const_item(reader: &mut Reader, items: &mut Items) -> Read {
+    let name = match reader.peek(0) {
+        Token::Word(Keyword::Underscore) => None,
+        Token::Name(name) => Some(name),
+        _ => return Err(Stop::Here),
     };
-    let behind = behind(left, End::Semicolon)?;
-    Ok((ModItemKind::Const { name, visibility }, behind))
+    reader.skip(1);
+    skip_piece(reader, End::Semicolon)?;
+    let visibility = items.take_visibility();
+    Ok(ModItemKind::Const { name, visibility })
 }
 
 /// An item that is no more than a visibility and a name.
@@ -219,34 +152,42 @@ fn plain_kind(keyword: Keyword, name: Name, visibility: RawVisibility) -> Option
     }
 }
 
-/// Where such an item ends.
-fn plain_end(keyword: Keyword) -> End {
+/// Takes what stands behind the name of such an item: of an enum, its variants.
+fn skip_body(reader: &mut Reader, keyword: Keyword, items: &mut Items) -> Result<(), Stop> {
     match keyword {
-        Keyword::Static | Keyword::Type => End::Semicolon,
-        _ => End::SemicolonOrBody,
+        Keyword::Enum if reader.takes(Token::Mark('{')) => add_enum(reader, items),
+        Keyword::Static | Keyword::Type => skip_piece(reader, End::Semicolon),
+        _ => skip_piece(reader, End::SemicolonOrBody),
     }
 }
 
 /// An item that is no more than a visibility and a name, from its name on.
-fn plain_item<'a>(keyword: Keyword, visibility: RawVisibility, rest: Rest<'a>) -> Read<'a> {
-    let (name, left) = name(rest)?;
-    let behind = behind(left, plain_end(keyword))?;
-    match plain_kind(keyword, name, visibility) {
-        Some(kind) => Ok((kind, behind)),
-        None => Err(stop(rest)),
+fn plain_item(reader: &mut Reader, keyword: Keyword, items: &mut Items) -> Read {
+    let begin = reader.read;
+    let name = reader.name()?;
+    skip_body(reader, keyword, items)?;
+    match plain_kind(keyword, name, items.take_visibility()) {
+        Some(kind) => Ok(kind),
+        None => {
+            reader.read = begin;
+            Err(Stop::Here)
+        }
     }
 }
 
-/// An item behind its visibility.
-pub fn item_kind<'a>(alloc: Global, visibility: RawVisibility, rest: Rest<'a>) -> Read<'a> {
-    match rest {
-        [Token::Word(Keyword::Mod), behind @ ..] => module(alloc, visibility, behind),
-        [Token::Word(Keyword::Use), behind @ ..] => use_item(alloc, visibility, behind),
-        [Token::Word(Keyword::Extern), behind @ ..] => extern_item(alloc, visibility, behind),
-        [Token::Word(Keyword::Impl), behind @ ..] => impl_item(behind),
-        [Token::Word(Keyword::Struct), behind @ ..] => struct_item(alloc, visibility, behind),
-        [Token::Word(Keyword::Const), behind @ ..] => const_item(visibility, behind),
-        [Token::Word(keyword), behind @ ..] => plain_item(*keyword, visibility, behind),
-        _ => Err(stop(rest)),
+/// The item behind a visibility.
+pub fn item_kind(reader: &mut Reader, items: &mut Items) -> Read {
+    let Token::Word(keyword) = reader.peek(0) else {
+        return Err(Stop::Here);
+    };
+    reader.skip(1);
+    match keyword {
+        Keyword::Mod => module(reader, items),
+        Keyword::Use => use_item(reader, items),
+        Keyword::Extern => extern_item(reader, items),
+        Keyword::Impl => impl_item(reader),
+        Keyword::Struct => struct_item(reader, items),
+        Keyword::Const => const_item(reader, items),
+        _ => plain_item(reader, keyword, items),
     }
 }

@@ -5,16 +5,20 @@
 mod attributes;
 mod fault;
 mod imports;
+mod items;
 mod kinds;
 mod lines;
 mod paths;
+mod pieces;
+mod reader;
 mod script;
 mod tokens;
 mod trees;
 mod variants;
 
 pub use fault::{Fault, ReadFault};
+pub use items::{ReadEnum, ReadFile};
 pub use lines::print;
 pub use script::{ALONE, BuiltinText, CrateText, DependencyText, Vector};
-pub use trees::{ReadEnum, ReadFile, read};
+pub use trees::read;
 pub use variants::ReadVariant;

@@ -1,12 +1,13 @@
 //! The tokens of a text.
 
 use crate::fault::ReadFault;
+use crate::reader::Reader;
 use def_ids::Interner;
 use item_tree::Name;
-use std::alloc::{AllocError, Global};
+use std::alloc::AllocError;
 
 /// A word that the reader knows.
-#[derive(Clone, Copy, PartialEq, Eq, Debug)]
+#[derive(Clone, Copy, PartialEq)]
 pub enum Keyword {
     As,
     Cfg,
@@ -31,74 +32,95 @@ pub enum Keyword {
     Use,
 }
 
-/// A piece of a text: a word, a name, a number, a text in quotes without them, the two colons
-/// between segments, or any other character but a space.
-#[derive(Clone, Copy, PartialEq, Eq, Debug)]
-pub enum Token<'a> {
+/// A piece of a text: a word, a name, a number, a text in quotes by its number, the two colons
+/// between segments, or any other character but a space. Behind the last one comes the end.
+#[derive(Clone, Copy, PartialEq)]
+pub enum Token {
     Word(Keyword),
     Name(Name),
     Number(usize),
-    Text(&'a str),
+    Text(usize),
     Colons,
     Mark(char),
+    End,
 }
 
-/// The tokens of a text, and the bytes at which they begin.
-#[derive(Drop)]
-pub struct Tokens<'a> {
-    pub list: Vec<Token<'a>>,
-    pub begins: Vec<usize>,
+/// The words that the reader knows, as they are written.
+static WORDS: [(&str, Keyword); 21] = [
+    ("as", Keyword::As),
+    ("cfg", Keyword::Cfg),
+    ("const", Keyword::Const),
+    ("crate", Keyword::Crate),
+    ("enum", Keyword::Enum),
+    ("extern", Keyword::Extern),
+    ("fn", Keyword::Fn),
+    ("for", Keyword::For),
+    ("impl", Keyword::Impl),
+    ("in", Keyword::In),
+    ("mod", Keyword::Mod),
+    ("pub", Keyword::Pub),
+    ("self", Keyword::SelfWord),
+    ("static", Keyword::Static),
+    ("struct", Keyword::Struct),
+    ("super", Keyword::Super),
+    ("trait", Keyword::Trait),
+    ("type", Keyword::Type),
+    ("_", Keyword::Underscore),
+    ("union", Keyword::Union),
+    ("use", Keyword::Use),
+];
+
+/// What a piece of a text is, by its first character.
+#[derive(Clone, Copy)]
+enum Piece {
+    Space,
+    Word,
+    Colons,
+    /// A text in quotes, without the closing one.
+    Text,
+    Mark,
 }
 
-impl<'a> Tokens<'a> {
-    fn push(&mut self, token: Token<'a>, begin: usize) -> Result<(), AllocError> {
-        self.list.push(token)?;
-        self.begins.push(begin)?;
-        Ok(())
+fn is_in_word(character: char) -> bool {
+    character == '_' || character.is_ascii_alphanumeric()
+}
+
+/// What begins with a character.
+fn piece_of(character: char) -> Piece {
+    match character {
+        '"' => Piece::Text,
+        ':' => Piece::Colons,
+        _ if is_in_word(character) => Piece::Word,
+        _ if character.is_ascii_whitespace() => Piece::Space,
+        _ => Piece::Mark,
     }
 }
 
-/// What a character may go on with: a word, colons or a text in quotes, from the byte where it
-/// begins.
-#[derive(Clone, Copy)]
-enum Open {
-    Nothing,
-    Word(usize),
-    Colons(usize),
-    Text(usize),
+/// Whether a character goes on with a piece.
+fn goes_on(piece: Piece, character: char) -> bool {
+    match piece {
+        Piece::Space | Piece::Mark => false,
+        Piece::Word => is_in_word(character),
+        Piece::Colons => character == ':',
+        Piece::Text => character != '"',
+    }
 }
 
-fn known_word(word: &str) -> Option<Keyword> {
-    match word {
-        "as" => Some(Keyword::As),
-        "cfg" => Some(Keyword::Cfg),
-        "const" => Some(Keyword::Const),
-        "crate" => Some(Keyword::Crate),
-        "enum" => Some(Keyword::Enum),
-        "extern" => Some(Keyword::Extern),
-        "fn" => Some(Keyword::Fn),
-        "for" => Some(Keyword::For),
-        "impl" => Some(Keyword::Impl),
-        "in" => Some(Keyword::In),
-        "mod" => Some(Keyword::Mod),
-        "pub" => Some(Keyword::Pub),
-        "self" => Some(Keyword::SelfWord),
-        "static" => Some(Keyword::Static),
-        "struct" => Some(Keyword::Struct),
-        "super" => Some(Keyword::Super),
-        "trait" => Some(Keyword::Trait),
-        "type" => Some(Keyword::Type),
-        "_" => Some(Keyword::Underscore),
-        "union" => Some(Keyword::Union),
-        "use" => Some(Keyword::Use),
-        _ => None,
+/// The piece that begins with the character behind another one. The quote that closes a text is
+/// read as a space.
+fn piece_behind(piece: Piece, character: char) -> Piece {
+    match piece {
+        Piece::Text => Piece::Space,
+        _ => piece_of(character),
     }
 }
 
 /// The token that a word is.
-fn word_token<'a>(session: &mut Interner, word: &str) -> Result<Token<'a>, AllocError> {
-    if let Some(keyword) = known_word(word) {
-        return Ok(Token::Word(keyword));
+fn word_token(session: &mut Interner, word: &str) -> Result<Token, AllocError> {
+    for (text, keyword) in &WORDS {
+        if *text == word {
+            return Ok(Token::Word(*keyword));
+        }
     }
     match word.parse::<usize>() {
         Ok(number) => Ok(Token::Number(number)),
@@ -106,107 +128,44 @@ fn word_token<'a>(session: &mut Interner, word: &str) -> Result<Token<'a>, Alloc
     }
 }
 
-/// The token that colons are: but for two of them a mark, which fits nowhere.
-fn colons_token<'a>(colons: &str) -> Token<'a> {
-    if colons == "::" {
-        Token::Colons
-    } else {
-        Token::Mark(':')
-    }
-}
-
-fn is_in_word(character: char) -> bool {
-    character == '_' || character.is_ascii_alphanumeric()
-}
-
-/// Begins with a character for which nothing is open.
-fn begin(tokens: &mut Tokens<'_>, at: usize, character: char) -> Result<Open, AllocError> {
-    if character == '"' {
-        return Ok(Open::Text(at));
-    }
-    if character == ':' {
-        return Ok(Open::Colons(at));
-    }
-    if is_in_word(character) {
-        return Ok(Open::Word(at));
-    }
-    if !character.is_ascii_whitespace() {
-        tokens.push(Token::Mark(character), at)?;
-    }
-    Ok(Open::Nothing)
-}
-
-/// Ends what is open before this byte.
-fn end<'a>(
+/// Adds the token that a piece is, if it is one. Colons but two of them are a mark, which fits
+/// nowhere.
+fn add_piece(
     session: &mut Interner,
-    text: &'a str,
-    open: Open,
-    at: usize,
-    tokens: &mut Tokens<'a>,
+    piece: Piece,
+    text: &str,
+    begin: usize,
+    reader: &mut Reader,
 ) -> Result<(), AllocError> {
-    match open {
-        Open::Nothing => Ok(()),
-        Open::Word(from) => {
-            let word = text.get(from..at).unwrap_or("");
-            tokens.push(word_token(session, word)?, from)
-        }
-        Open::Colons(from) => {
-            let colons = text.get(from..at).unwrap_or("");
-            tokens.push(colons_token(colons), from)
-        }
-        Open::Text(from) => {
-            let quoted = text.get(from..at).unwrap_or("");
-            tokens.push(Token::Text(quoted.strip_prefix('"').unwrap_or("")), from)
-        }
-    }
-}
-
-/// Whether a character goes on with what is open.
-fn goes_on(open: Open, character: char) -> bool {
-    match open {
-        Open::Nothing => false,
-        Open::Word(_) => is_in_word(character),
-        Open::Colons(_) => character == ':',
-        Open::Text(_) => character != '"',
-    }
-}
-
-/// Takes a character, and answers what is open behind it.
-fn take<'a>(
-    session: &mut Interner,
-    text: &'a str,
-    open: Open,
-    at: usize,
-    character: char,
-    tokens: &mut Tokens<'a>,
-) -> Result<Open, AllocError> {
-    if goes_on(open, character) {
-        return Ok(open);
-    }
-    end(session, text, open, at, tokens)?;
-    match open {
-        Open::Text(_) => Ok(Open::Nothing),
-        _ => begin(tokens, at, character),
-    }
-}
-
-/// The tokens of a text, whose quotes are all closed.
-pub fn tokens_of<'a>(
-    alloc: Global,
-    session: &mut Interner,
-    text: &'a str,
-) -> Result<Tokens<'a>, ReadFault> {
-    let mut tokens = Tokens {
-        list: Vec::new(alloc),
-        begins: Vec::new(alloc),
+    let token = match piece {
+        Piece::Space => return Ok(()),
+        Piece::Word => word_token(session, text)?,
+        Piece::Colons if text == "::" => Token::Colons,
+        Piece::Colons | Piece::Mark => Token::Mark(text.chars().next().unwrap_or(' ')),
+        Piece::Text => reader.add_text(text.strip_prefix('"').unwrap_or(""))?,
     };
-    let mut open = Open::Nothing;
+    reader.push(token, begin)
+}
+
+/// Adds the tokens of a text, whose quotes are all closed.
+pub fn add_tokens(
+    session: &mut Interner,
+    text: &str,
+    reader: &mut Reader,
+) -> Result<(), ReadFault> {
+    let mut piece = Piece::Space;
+    let mut begin = 0;
     for (at, character) in text.char_indices() {
-        open = take(session, text, open, at, character, &mut tokens)?;
+        if !goes_on(piece, character) {
+            let passed = text.get(begin..at).unwrap_or("");
+            add_piece(session, piece, passed, begin, reader)?;
+            piece = piece_behind(piece, character);
+            begin = at;
+        }
     }
-    if let Open::Text(from) = open {
-        return Err(ReadFault::Byte(from));
+    if matches!(piece, Piece::Text) {
+        return Err(ReadFault::Byte(begin));
     }
-    end(session, text, open, text.len(), &mut tokens)?;
-    Ok(tokens)
+    let passed = text.get(begin..).unwrap_or("");
+    Ok(add_piece(session, piece, passed, begin, reader)?)
 }

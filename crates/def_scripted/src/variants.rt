@@ -1,11 +1,11 @@
 //! The variants of enums.
 
 use crate::fault::Stop;
-use crate::kinds::{End, behind};
-use crate::paths::{Rest, behind_comma, behind_mark, last};
-use crate::tokens::{Keyword, Token};
-use item_tree::{Name, Seq};
-use std::alloc::Global;
+use crate::items::{Items, ReadEnum};
+use crate::pieces::{End, skip_piece};
+use crate::reader::Reader;
+use crate::tokens::Token;
+use item_tree::{FileAstId, Name, Seq};
 
 /// A variant of an enum, and whether it has a constructor in values.
 #[derive(Drop)]
@@ -14,41 +14,33 @@ pub struct ReadVariant {
     pub value_ctor: bool,
 }
 
-/// What stands behind a variant's name, its fields and the comma behind them.
-fn behind_variant<'a>(rest: Rest<'a>) -> Result<Rest<'a>, Stop> {
-    match rest {
-        [Token::Mark('(' | '{'), ..] => behind_comma(behind(rest, End::Bracket)?),
-        _ => behind_comma(rest),
+/// Takes a variant's fields and the comma behind them.
+fn skip_fields(reader: &mut Reader) -> Result<(), Stop> {
+    if matches!(reader.peek(0), Token::Mark('(' | '{')) {
+        skip_piece(reader, End::Bracket)?;
     }
+    reader.comma()
 }
 
-/// The variants in the braces of an enum. One with named fields has no constructor in values.
-fn variants<'a>(alloc: Global, rest: Rest<'a>) -> Result<Seq<ReadVariant>, Stop> {
-    let mut variants = Seq::from_vec(Vec::new(alloc));
-    let mut left = rest.len();
-    for _ in rest {
-        let [Token::Name(name), behind @ ..] = last(rest, left) else {
+/// Adds the variants in the braces of an enum. One with named fields has no constructor in values.
+fn add_variants(reader: &mut Reader, variants: &mut Seq<ReadVariant>) -> Result<(), Stop> {
+    for _ in 0..reader.left() {
+        let Token::Name(name) = reader.peek(0) else {
             break;
         };
-        variants.push(ReadVariant {
-            name: *name,
-            value_ctor: !matches!(behind, [Token::Mark('{'), ..]),
-        })?;
-        left = behind_variant(behind)?.len();
+        reader.skip(1);
+        let value_ctor = reader.peek(0) != Token::Mark('{');
+        variants.push(ReadVariant { name, value_ctor })?;
+        skip_fields(reader)?;
     }
-    behind_mark(last(rest, left), '}')?;
-    Ok(variants)
+    reader.expect('}')
 }
 
-/// The variants of an item behind its visibility, if it is an enum.
-pub fn variants_of<'a>(alloc: Global, rest: Rest<'a>) -> Result<Option<Seq<ReadVariant>>, Stop> {
-    match rest {
-        [
-            Token::Word(Keyword::Enum),
-            Token::Name(_),
-            Token::Mark('{'),
-            behind @ ..,
-        ] => { Ok(Some(variants(alloc, behind)?)) }
-        _ => Ok(None),
-    }
+/// Adds the variants of the enum that is the next item, from behind its opening brace on.
+pub fn add_enum(reader: &mut Reader, items: &mut Items) -> Result<(), Stop> {
+    let item = FileAstId(items.nodes.len());
+    let mut variants = Seq::from_vec(Vec::new(reader.alloc));
+    add_variants(reader, &mut variants)?;
+    items.enums.push(ReadEnum { item, variants })?;
+    Ok(())
 }
