@@ -1,12 +1,12 @@
 -- What an item leads to that declares at most one name.
-use Rattle.std.proofs.Common.{◌≡◌, [], append-nil, refl, subst, sym}
+use Rattle.std.proofs.Common.{◌≡◌, [], ap, append-nil, refl, subst, sym, true}
 use Rattle.item_tree.specs.declared.items.ItemNode.{ItemNode}
 use Rattle.def_ids.specs.declared.ids.ConstId.{ConstId}
 use Rattle.def_ids.specs.declared.ids.Def.{Def}
 use Rattle.def_ids.specs.Session.{AddsLocations, Session}
 use Rattle.def_items.specs.declared.numbered.Declaration.{Declaration}
 use Rattle.def_items.specs.declared.numbered.Declared.TheVariants.{Name, UnnamedConst}
-use Rattle.def_items.specs.Numbered.{IsDeclared}
+use Rattle.def_items.specs.Numbered.{IsDeclared, declares_one, is_declaring}
 use Rattle.def_laws.proofs.StepsLaws.{performs_none}
 use Rattle.def_laws.specs.Performs.{Handled, Performs}
 use Rattle.def_map.specs.Oracle.{Oracle}
@@ -14,6 +14,15 @@ use Rattle.def_modules.specs.Scopes.{with_unnamed_const}
 use Rattle.def_rules.specs.Items.{declared_effect, noted_in, written_vis}
 use Rattle.def_rules.specs.Rules.{Follows}
 use Rattle.def_rules.specs.State.{Effect, Site, State, only}
+
+module _ (session : Session) (site : Site) (item : ItemNode) where
+  -- an item that declares a name is of a kind that does
+  pub name_declares : (d : Declaration) → IsDeclared session site item (Name d) → is_declaring item.kind ≡ true
+  name_declares d declared = ap declares_one declared.5
+
+  -- so is a constant without one
+  pub unnamed_declares : (id : ConstId) → IsDeclared session site item (UnnamedConst id) → is_declaring item.kind ≡ true
+  unnamed_declares id declared = ap declares_one declared.1
 
 module _ (oracle : Oracle) (s t : State) (session : Session) (site : Site) (item : ItemNode) (adds : AddsLocations s.session session) where
   -- the state in the session that has grown

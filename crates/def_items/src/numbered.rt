@@ -1,7 +1,7 @@
 //! Items that declare one name: each gets its number, and with it a definition.
-ghost use Rattle.std.specs.Prelude.{◌≡◌, false, IfOk};
+ghost use Rattle.std.specs.Prelude.{◌≡◌, false, IfOk, OnOk};
 ghost use Rattle.def_ids.specs.Session.{AddsLocations, session_of};
-ghost use Rattle.def_items.specs.Numbered.{IsDeclared, is_type};
+ghost use Rattle.def_items.specs.Numbered.{IsDeclared, is_declaring, is_type};
 ghost use Rattle.def_items.specs.Parts.{site_of};
 
 use crate::lists::Site;
@@ -41,6 +41,7 @@ pub fn number_item<'a>(
 ) -> Result<Declared<'a>, AllocError>
     ensures declared { IfOk result (λ declared.
         IsDeclared (session_of session.new) (site_of site.entry) node.now declared) }
+    ensures same { OnOk result (is_declaring node.now.kind ≡ false → session.new ≡ session.old) }
     ensures session { AddsLocations (session_of session.old) (session_of session.new) }
 {
     match &node.kind {
@@ -112,6 +113,7 @@ fn number_value<'a>(
 ) -> Result<Declared<'a>, AllocError>
     ensures declared { IfOk result (λ declared. is_type node.now.kind ≡ false →
         IsDeclared (session_of session.new) (site_of site.entry) node.now declared) }
+    ensures same { OnOk result (is_declaring node.now.kind ≡ false → session.new ≡ session.old) }
     ensures session { AddsLocations (session_of session.old) (session_of session.new) }
 {
     match &node.kind {

@@ -1,5 +1,5 @@
 //! Names that items declare.
-ghost use Rattle.std.specs.Prelude.{◌≡◌, [], true, OnOk};
+ghost use Rattle.std.specs.Prelude.{◌≡◌, [], false, true, OnOk};
 ghost use Rattle.item_tree.specs.declared.items.ModItemKind.TheVariants as kinds;
 ghost use Rattle.def_ids.specs.declared.interner.Interner.{Interner};
 ghost use Rattle.def_ids.specs.Session.{AddsLocations, session_of};
@@ -38,6 +38,8 @@ impl DefCollector<'_> {
         ensures handled { OnOk result (is_declaring node.now.kind ≡ true →
             Handled (D.oracle db.now) (state_of self.old session.old) (state_of self.new session.new)
             (site_of site.entry) node.now []) }
+        ensures others { OnOk result (is_declaring node.now.kind ≡ false →
+            state_of self.new session.new ≡ state_of self.old session.old) }
         ensures session { AddsLocations (session_of session.old) (session_of session.new) }
     {
         let declared = number_item(session, site, node)?;

@@ -4,7 +4,7 @@ use Rattle.def_items.specs.Numbered.{IsDeclared, is_declaring}
 use Rattle.def_items.specs.Parts.{site_of}
 use Rattle.def_collector.specs.Collector.{state_of}
 use Rattle.def_rules.specs.State.{State, with_map}
-use Rattle.def_items.proofs.NumberedLemmas.{handled_name, handled_unnamed}
+use Rattle.def_items.proofs.NumberedLemmas.{handled_name, handled_unnamed, name_declares, unnamed_declares}
 use Rattle.def_collector.proofs.collector.DefCollector.collect_declaration.Goals as goal
 
 pub returns-in_ok-declare-in-Name-clause-handled : goal.returns-in_ok-declare-in-Name-clause-handled
@@ -28,3 +28,20 @@ returns-in-Nothing-clause-handled g c = λ declares.
     let none : is_declaring c.args.node.now.kind ≡ false = subst (IsDeclared (session_of c.number_item.new.session) (site_of c.args.site) c.args.node.now) c.in-Nothing.is c.in_ok-declared.ensures.declared in
     let both : false ≡ true = sym none ∙ declares in
     absurd cc
+
+pub returns-in_ok-declare-in-Name-clause-others : goal.returns-in_ok-declare-in-Name-clause-others
+returns-in_ok-declare-in-Name-clause-others g c = λ other.
+    let session = session_of c.number_item.new.session in
+    let site = site_of c.args.site in
+    let both : false ≡ true = sym other ∙ name_declares session site c.args.node.now c.in-Name.declaration (subst (IsDeclared session site c.args.node.now) c.in-Name.is c.in_ok-declared.ensures.declared) in
+    absurd cc
+
+pub returns-in_ok-define_unnamed_const-in-UnnamedConst-clause-others : goal.returns-in_ok-define_unnamed_const-in-UnnamedConst-clause-others
+returns-in_ok-define_unnamed_const-in-UnnamedConst-clause-others g c = λ other.
+    let session = session_of c.number_item.new.session in
+    let site = site_of c.args.site in
+    let both : false ≡ true = sym other ∙ unnamed_declares session site c.args.node.now c.in-UnnamedConst.id (subst (IsDeclared session site c.args.node.now) c.in-UnnamedConst.is c.in_ok-declared.ensures.declared) in
+    absurd cc
+
+pub returns-in-Nothing-clause-others : goal.returns-in-Nothing-clause-others
+returns-in-Nothing-clause-others g c = λ other. ap (λ s. state_of c.args.self.now s) (c.in_ok-declared.ensures.same other)
