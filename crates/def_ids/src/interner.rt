@@ -57,6 +57,7 @@ impl Drop for Interner {
 
 impl Interner {
     ghost use Rattle.std.specs.Prelude.{OnOk, slice_get};
+    ghost use Rattle.item_tree.specs.Names.{IsNameOf};
     ghost use Rattle.item_tree.specs.Numbering.{IsGrownBy};
     ghost use Rattle.def_ids.specs.Interner.{first_tables};
     ghost use Rattle.def_ids.specs.Session.{Grows, IsInjective, session_of};
@@ -101,6 +102,13 @@ impl Interner {
         ensures unchanged { OnErr result (self.new ≡ self.old) }
     {
         self.names.intern(text)
+    }
+
+    /// The name of this text, if the session knows one.
+    pub fn find_name(&self, text: &str) -> Option<Name>
+        ensures { IsNameOf (session_of self.now).text text.now result }
+    {
+        self.names.find(text)
     }
 
     /// The text of a name, if the session knows it.

@@ -1,5 +1,5 @@
 //! Attributes.
-ghost use Rattle.std.specs.Prelude.{◌≡◌, ◌==◌, length, slice_get, option_map};
+ghost use Rattle.std.specs.Prelude.{◌≡◌, ◌==◌, [], length, slice_get, option_map};
 ghost use Rattle.std.specs.List.{filter_map};
 ghost use Rattle.std.specs.Option.{option_copied};
 ghost use Rattle.std.specs.Iterator.{YieldsFirstBy, at_most};
@@ -175,6 +175,13 @@ impl<'a> Model for AttrQuery<'a> {
 }
 
 impl<'a> AttrQuery<'a> {
+    /// No attribute.
+    pub(crate) fn none(key: Name) -> AttrQuery<'a>
+        ensures { result ≡ [] }
+    {
+        AttrQuery { attrs: &[], key }
+    }
+
     /// Whether there is one.
     pub fn exists(&self) -> bool
         ensures { result ≡ is_there self.now }

@@ -1,9 +1,9 @@
 //! Items.
 ghost use Rattle.std.specs.Prelude.{◌≡◌, option_map};
 ghost use Rattle.item_tree.specs.Trees.{children_of};
-ghost use Rattle.item_tree.specs.Attrs.{disabled_by, path_attr};
+ghost use Rattle.item_tree.specs.Attrs.{attrs_of, by_key, disabled_by, path_attr};
 
-use crate::attrs::AttrsOrCfg;
+use crate::attrs::{AttrQuery, AttrsOrCfg};
 use crate::ids::{CfgExpr, FileAstId, ModItemId};
 use crate::list::Seq;
 use crate::mod_path::ModPath;
@@ -91,6 +91,15 @@ pub enum ModItemKind {
     ExternBlock {
         children: Seq<ModItemId>,
     },
+    /// `macro_rules! NAME { .. }`.
+    MacroRules {
+        name: Name,
+    },
+    /// `macro NAME { .. }`.
+    Macro2 {
+        name: Name,
+        visibility: RawVisibility,
+    },
     Impl {
         is_trait_impl: bool,
     },
@@ -160,6 +169,16 @@ impl ItemNode {
         match &self.attrs {
             Some(attrs) => attrs.disabled_by(),
             None => None,
+        }
+    }
+
+    /// The attributes of the item whose path is this name alone.
+    pub fn by_key(&self, key: Name) -> AttrQuery<'_>
+        ensures { result ≡ by_key key (attrs_of self.now.attrs) }
+    {
+        match &self.attrs {
+            Some(attrs) => attrs.attrs().by_key(key),
+            None => AttrQuery::none(key),
         }
     }
 
