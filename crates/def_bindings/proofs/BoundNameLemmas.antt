@@ -1,6 +1,5 @@
 -- Names that are kept small.
 use Rattle.std.proofs.Common.{◌≡◌, Bool, true, false, cond, Option, Some, None, refl, sym, ap, ◌∙◌, inl, inr}
-use Rattle.std.specs.Prelude.{Box, option_and_then, is_some}
 use Rattle.std.proofs.lemmas.Bool.{cases_Bool}
 use Rattle.def_bindings.specs.declared.bindings.Namespace.{Namespace}
 use Rattle.def_bindings.specs.declared.bindings.Namespace.TheVariants.{Types, Values, Macros}
@@ -8,7 +7,7 @@ use Rattle.def_bindings.specs.declared.bindings.Binding.{Binding}
 use Rattle.def_bindings.specs.declared.name_bindings.NameBindings.{NameBindings}
 use Rattle.def_bindings.specs.declared.bound_name.BoundName.{BoundName}
 use Rattle.def_bindings.specs.Content.{is_namespace}
-use Rattle.def_bindings.specs.NameBindings.{bound_in, with_bound, unbound, or_unbound}
+use Rattle.def_bindings.specs.NameBindings.{bound_in, with_bound, unbound}
 use Rattle.def_bindings.specs.BoundName.{beside, stands_for, with_namespace}
 use Rattle.def_bindings.specs.IdLaws.{namespace-eq, namespace-refl}
 
@@ -35,11 +34,6 @@ module _ {V : Type 0} where
       at Types = refl
       at Values = refl
       at Macros = refl
-
-  -- those that are there or none, in each namespace
-  pub bound_in-or_unbound : (o : Option (NameBindings V)) → bound_in (or_unbound o) ≡ (λ n. option_and_then (λ s. bound_in s n) o)
-  bound_in-or_unbound None = bound_in-unbound
-  bound_in-or_unbound (Some s) = refl
 
   -- each namespace by itself
   pub bound_in-each : (s : NameBindings V) (f : Namespace → Option (Binding V)) → s.types ≡ f Types → s.values ≡ f Values → s.macros ≡ f Macros → bound_in s ≡ f

@@ -1,11 +1,8 @@
-pub mod ContentLemmas
 pub mod BoundNameLemmas
 pub mod SearchLemmas
 pub mod ByModuleLemmas
 pub mod ResultLemmas
 pub mod LinkLemmas
-pub mod RowEntriesLemmas
-pub mod ScopeTableLemmas
 pub mod NumbersLemmas
 pub mod NumberedTableLemmas
 pub mod TreeLemmas
@@ -15,4 +12,3 @@ pub mod ContentFacts
 pub mod EmptyLemmas
 pub mod BoundNameFacts
 pub mod NumbersFacts
-pub mod RowEntriesFacts

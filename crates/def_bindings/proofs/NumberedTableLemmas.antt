@@ -8,7 +8,7 @@ use Rattle.def_bindings.specs.declared.place.Placed.{Placed}
 use Rattle.std.specs.Map.{keys_of}
 use Rattle.indexmap.specs.IndexMap.{insert_entry}
 use Rattle.def_bindings.specs.Link.{edge_of, link_of}
-use Rattle.def_bindings.proofs.RowEntriesLemmas.{edges-insert_entry}
+use Rattle.def_bindings.proofs.LinkLemmas.{edges-insert_entry}
 use Rattle.std.specs.List.{IsDistinct}
 use Rattle.std.specs.HashMap.{HashMap, get}
 use Rattle.std.proofs.lemmas.Bool.{cases_Bool}
@@ -28,7 +28,7 @@ use Rattle.def_bindings.specs.Numbers.{is_placed, placed_at}
 use Rattle.def_bindings.specs.Places.{name_of, bindings_of}
 use Rattle.def_bindings.proofs.BoundNameLemmas.{stands-there}
 use Rattle.def_bindings.proofs.ByModuleLemmas.{listed_as-same}
-use Rattle.def_bindings.specs.IdLaws.{both, cases_module, cases_name, module-refl, name-refl, name-sym, name-eq, namespace-eq, same_module_equal}
+use Rattle.def_bindings.specs.IdLaws.{cases_module, cases_name, module-refl, name-refl, name-sym}
 
 -- the names are the old ones but for one
 abbrev pub ChangesName : {B S : Type 0} → HashMap (Placed Name) B S → HashMap (Placed Name) B S → ModuleId → Name → Option B → Type 0

@@ -14,10 +14,6 @@ pub mod Puts
 pub mod Closure
 pub mod NameBindings
 pub mod Link
-pub mod RowEntries
-pub mod Row
-pub mod ScopeTable
-pub mod ScopeTableLaws
 pub mod Lists
 pub mod Numbers
 pub mod Places

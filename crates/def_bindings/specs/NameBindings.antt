@@ -1,5 +1,5 @@
 -- The bindings of one name.
-use Rattle.std.specs.Prelude.{Bool, ◌&&◌, Option, None, is_none, unwrap_or}
+use Rattle.std.specs.Prelude.{Bool, ◌&&◌, Option, None, is_none}
 use Rattle.def_bindings.specs.declared.bindings.Namespace.{Namespace}
 use Rattle.def_bindings.specs.declared.bindings.Namespace.TheVariants.{Types, Values, Macros}
 use Rattle.def_bindings.specs.declared.bindings.Binding.{Binding}
@@ -20,10 +20,6 @@ abbrev pub with_bound : {V : Type 0} → NameBindings V → Namespace → Option
 with_bound s Types b = record s { types = b }
 with_bound s Values b = record s { values = b }
 with_bound s Macros b = record s { macros = b }
-
--- those that are there, or none
-abbrev pub or_unbound : {V : Type 0} → Option (NameBindings V) → NameBindings V
-or_unbound o = unwrap_or o unbound
 
 -- whether there is no binding in any namespace
 abbrev pub is_unbound : {V : Type 0} → NameBindings V → Bool

@@ -12,15 +12,13 @@ mod name_bindings;
 mod numbered_table;
 mod place;
 mod puts;
-mod row;
-mod scope_table;
 mod visibility;
 
 pub use binding_table::BindingTable;
 pub use bindings::{Binding, EdgeTo, Entry, ImportOrExternCrate, Namespace, Slot};
+pub use link::Link;
 pub use module_tree::ModuleTree;
 pub use name_bindings::NameBindings;
 pub use numbered_table::NumberedTable;
 pub use puts::{copy_along, fit, held_at, put_at, put_entry, settle, slot_of_entry, write};
-pub use scope_table::ScopeTable;
 pub use visibility::{VisOrder, Visibility, is_raised, lesser_or_import};

@@ -36,7 +36,7 @@ pub use def_paths::{
 // The ids, visibilities and bindings that maps are made of.
 pub use def_bindings::{
     Binding, BindingTable, EdgeTo, Entry, ImportOrExternCrate, ModuleTree, NameBindings, Namespace,
-    NumberedTable, ScopeTable, Slot, VisOrder, Visibility,
+    NumberedTable, Slot, VisOrder, Visibility,
 };
 pub use def_ids::{
     Adt, BuiltinAttr, BuiltinDeriveImplId, BuiltinDeriveImplLoc, ConstId, ConstLoc,
@@ -47,3 +47,4 @@ pub use def_ids::{
     ProcMacroLoc, ProcMacroUse, StaticId, StaticLoc, StructId, StructLoc, TraitId, TraitLoc,
     TypeAliasId, TypeAliasLoc, UnionId, UnionLoc, UseId, UseLoc, VariantId,
 };
+pub use scope_table::ScopeTable;

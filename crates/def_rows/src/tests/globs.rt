@@ -6,12 +6,12 @@ mod levels;
 
 use def_bindings::{
     Binding, BindingTable, Entry, ImportOrExternCrate, ModuleTree, Namespace, NumberedTable,
-    ScopeTable,
 };
 use def_ids::{Def, GlobId, MapId, ModuleId, StructId, UseId};
 use def_parts::Globs;
 use item_tree::{Crate, Name, Seq};
 use levels::{Level, Levels};
+use scope_table::ScopeTable;
 use std::alloc::{AllocError, Global};
 use std::process::Abort;
 use std::test::Fail;

@@ -3,11 +3,12 @@
 
 ghost use Rattle.std.specs.Prelude.{◌≡◌, OnErr, OnOk};
 ghost use Rattle.def_bindings.specs.Content.{with_binding, with_edge, with_unnamed};
-ghost use Rattle.def_bindings.specs.ScopeTable.{content_of};
+ghost use Rattle.scope_table.specs.ScopeTable.{content_of};
 
-use def_bindings::{Binding, BindingTable, EdgeTo, Namespace, ScopeTable};
+use def_bindings::{Binding, BindingTable, EdgeTo, Namespace};
 use def_ids::{ModuleId, TraitId};
 use item_tree::Name;
+use scope_table::ScopeTable;
 use std::alloc::AllocError;
 
 /// A table whose `bindings`, `unnamed_vis` and `edge_to` are those that every table has.
@@ -18,8 +19,8 @@ pub struct PlainTable {
 
 impl BindingTable for PlainTable {
     ghost use Rattle.indexmap.specs.IndexMap.{keys};
-    ghost use Rattle.def_bindings.specs.ScopeTable.{content_of};
-    ghost use Rattle.def_bindings.specs.ScopeTableLaws.{are_sources, are_tied};
+    ghost use Rattle.scope_table.specs.ScopeTable.{content_of};
+    ghost use Rattle.scope_table.specs.ScopeTableLaws.{are_sources, are_tied};
 
     type Vis = usize;
 

@@ -4,11 +4,12 @@ use super::far::assert_far;
 use super::{glob, module, module_tree};
 use crate::tests::tables::{are_alike, namespace};
 use def_bindings::{
-    BindingTable, Entry, ImportOrExternCrate, ModuleTree, NumberedTable, ScopeTable, Visibility,
+    BindingTable, Entry, ImportOrExternCrate, ModuleTree, NumberedTable, Visibility,
 };
 use def_ids::{Def, ImportId, StructId, TraitId, UseId};
 use def_parts::Globs;
 use item_tree::Name;
+use scope_table::ScopeTable;
 use std::alloc::{AllocError, Global};
 use std::process::Abort;
 use std::test::Fail;

@@ -1,0 +1,4 @@
+pub mod ContentLemmas
+pub mod RowEntriesLemmas
+pub mod ScopeTableLemmas
+pub mod RowEntriesFacts

@@ -1,0 +1,4 @@
+pub mod RowEntries
+pub mod Row
+pub mod ScopeTable
+pub mod ScopeTableLaws
