@@ -1,5 +1,5 @@
 -- One turn of the walk, from what the code found.
-use Rattle.std.proofs.Common.{◌≡◌, ◌<◌, ◌≤◌, ◌+◌, ◌^◌, ℕ, List, [], ◌∷◌, ◌++◌, length, All, Option, inl, inr, Some, None, true, false, Bor, option_map, slice_get, option_and_then, arith, refl, sym, ap, subst, ◌∙◌}
+use Rattle.std.proofs.Common.{◌≡◌, ◌<◌, ◌≤◌, ◌+◌, ◌^◌, ℕ, List, [], ◌∷◌, ◌++◌, length, length-append, All, Option, inl, inr, Some, None, true, false, Bor, option_map, slice_get, option_and_then, arith, refl, sym, ap, subst, ◌∙◌}
 use Rattle.std.proofs.lemmas.List.{drop_all}
 use Rattle.std.proofs.lemmas.List.Sums.{sum_by-cons}
 use Rattle.std.proofs.lemmas.List.Elements.{All-append, All-cons, All-head, All-nil, All-same, All-tail}
@@ -10,14 +10,15 @@ use Rattle.item_tree.specs.declared.tree.ItemTree.{ItemTree}
 use Rattle.item_tree.specs.Trees.{item_at}
 use Rattle.std.specs.declared.alloc.Global.{Global}
 use Rattle.std.specs.Prelude.{IfSome, is_some, Vec}
+use Rattle.def_ids.specs.declared.ids.ModuleId.{ModuleId}
 use Rattle.def_ids.specs.Session.{AddsLocations}
 use Rattle.def_ids.specs.SessionLaws.{adds_refl, adds_trans}
 use Rattle.def_map.specs.Oracle.{Oracle}
 use Rattle.def_items.specs.declared.lists.Frame.{Frame}
 use Rattle.def_items.specs.declared.lists.ItemList.{ItemList}
 use Rattle.def_items.specs.Parts.{list_site, tree_in}
-use Rattle.def_collector.specs.Walk.{AreKnown, agenda_of, frame_tasks, inner_of, is_frame_known, is_known, walk_measure}
-use Rattle.def_items.specs.Lists.{IsBegun, left_of, listed}
+use Rattle.def_collector.specs.Walk.{AreKnown, agenda_of, frame_tasks, inner_of, is_frame_known, is_known, list_tasks, walk_measure}
+use Rattle.def_items.specs.Lists.{IsBegun, behind, brought_into, left_of, listed}
 use Rattle.def_laws.specs.Work.{task_work, work}
 use Rattle.def_rules.specs.Items.{diagnostic, node_at, ordered, visits, walk}
 use Rattle.def_rules.specs.declared.diagnostics.DefDiagnostic.{DefDiagnostic}
@@ -25,9 +26,9 @@ use Rattle.def_rules.specs.declared.diagnostics.DefDiagnosticKind.TheVariants.{U
 use Rattle.item_tree.specs.declared.ids.CfgExpr.{CfgExpr}
 use Rattle.item_tree.specs.Attrs.{disabled_by}
 use Rattle.def_collector.specs.declared.collector.DefCollector.{DefCollector}
-use Rattle.def_rules.specs.State.{Site, State, Task, Enter, Visit, entered}
+use Rattle.def_rules.specs.State.{Site, State, Task, Enter, Visit, entered, with_map}
 use Rattle.def_laws.specs.Runs.{Leads}
-use Rattle.def_laws.proofs.StepsLaws.{leads_disabled, leads_enter, leads_trans}
+use Rattle.def_laws.proofs.StepsLaws.{leads_bring, leads_disabled, leads_enter, leads_refl, leads_trans}
 use Rattle.def_laws.proofs.WorkLaws.{walk_length}
 use Rattle.def_collector.proofs.WalkLemmas.{after_turn, agenda_of-one, agenda_of-push, frame_tasks-next, left_of-cons, measure_pushed, work_next}
 
@@ -81,10 +82,15 @@ ordered_known oracle list known = ap (λ t. ordered t list.module_id list.items.
 
 -- what a frame has left, where it was opened for a list
 pub opened_tasks : (oracle : Oracle) (list : ItemList) (frame : Frame) → is_known oracle list → frame.list ≡ list → left_of frame ≡ ordered (tree_in list) list.module_id list.items.now
-    → walk oracle (list_site list) list.items.now ≡ Enter list.module_id list.dir ∷ frame_tasks frame
+    → list_tasks oracle list ≡ Enter list.module_id list.dir ∷ frame_tasks frame
 opened_tasks oracle list frame known same left =
-    ap (λ ids. Enter list.module_id list.dir ∷ visits (list_site list) ids) (sym (left ∙ ordered_known oracle list known))
-    ∙ ap (λ l. Enter list.module_id list.dir ∷ visits (list_site l) (left_of frame)) (sym same)
+    ap (λ ids. Enter list.module_id list.dir ∷ (visits (list_site list) ids ++ behind list.module_id list.into)) (sym (left ∙ ordered_known oracle list known))
+    ∙ ap (λ (l : ItemList). Enter list.module_id list.dir ∷ (visits (list_site l) (left_of frame) ++ behind l.module_id l.into)) (sym same)
+
+-- what is done behind a list
+leads_behind : (oracle : Oracle) (from : ModuleId) (into : Option ModuleId) (rest : List Task) (s : State) → Leads oracle (behind from into ++ rest) s rest (with_map s (brought_into from into s.map))
+leads_behind oracle from None rest s = leads_refl rest s
+leads_behind oracle from (Some into) rest s = leads_bring from into rest s
 
 -- an item of a frame is visited
 module _ (oracle : Oracle) (frame : Frame) (id : ModItemId) (found : Some id ≡ slice_get (listed frame) frame.next) where
@@ -122,11 +128,11 @@ pub record IsWalked (oracle : Oracle) (tasks : List Task) (s : State) (frames : 
   pub adds : AddsLocations s.session t.session
 
 -- a walk begins: the directory of its list is stored
-pub walk_begins : (oracle : Oracle) (list : ItemList) (below frames : List Frame) (s t : State) → is_known oracle list → below ≡ [] → IsBegun below list frames → t ≡ entered s list.module_id list.dir → IsWalked oracle (walk oracle (list_site list) list.items.now) s frames t
+pub walk_begins : (oracle : Oracle) (list : ItemList) (below frames : List Frame) (s t : State) → is_known oracle list → below ≡ [] → IsBegun below list frames → t ≡ entered s list.module_id list.dir → IsWalked oracle (list_tasks oracle list) s frames t
 walk_begins oracle list below frames s t known none begun stored =
     let first = begun.frame in
     let one : frames ≡ first ∷ [] = begun.pushed ∙ ap (λ fs. fs ++ first ∷ []) none in
-    let tasks : List Task = walk oracle (list_site list) list.items.now in
+    let tasks : List Task = list_tasks oracle list in
     let agenda : Enter list.module_id list.dir ∷ agenda_of frames ≡ tasks =
     ap (λ rest. Enter list.module_id list.dir ∷ rest) (ap agenda_of one ∙ agenda_of-one first) ∙ sym (opened_tasks oracle list first known begun.same begun.left) in
     subst (IsWalked oracle tasks s frames) (sym stored)
@@ -147,14 +153,19 @@ module _ {oracle : Oracle} {tasks : List Task} {start s t : State} {all : List F
   added : AddsLocations start.session t.session
   added = adds_trans start.session s.session t.session so_far.adds adds
 
-  -- at its end it goes
-  pub turn_ends : opened ≡ None → (is_some opened ≡ false → left_of after ≡ []) → IsWalked oracle tasks start frames t
-  turn_ends none ends = record {
-    run = subst (λ left. Leads oracle tasks start (visits (list_site after.list) left ++ agenda_of frames) t) (ends (ap is_some none))
-        (subst (λ o. Leads oracle tasks start (inner_of oracle o ++ (frame_tasks after ++ agenda_of frames)) t) none reached);
-    known = all_below (is_frame_known oracle) frames all frame popped so_far.known;
-    adds = added;
-  }
+  -- at its end it goes, once what is behind it is done
+  pub turn_ends : (u : State) → u ≡ with_map t (brought_into after.list.module_id after.list.into t.map) → opened ≡ None → (is_some opened ≡ false → left_of after ≡ []) → IsWalked oracle tasks start frames u
+  turn_ends u brought none ends =
+      let last : List Task = behind after.list.module_id after.list.into in
+      let come : Leads oracle tasks start (last ++ agenda_of frames) t =
+      subst (λ left. Leads oracle tasks start ((visits (list_site after.list) left ++ last) ++ agenda_of frames) t) (ends (ap is_some none))
+      (subst (λ o. Leads oracle tasks start (inner_of oracle o ++ (frame_tasks after ++ agenda_of frames)) t) none reached) in
+      subst (IsWalked oracle tasks start frames) (sym brought)
+      (record {
+        run = leads_trans come (leads_behind oracle after.list.module_id after.list.into (agenda_of frames) t);
+        known = all_below (is_frame_known oracle) frames all frame popped so_far.known;
+        adds = added;
+      })
 
   module _ (list : ItemList) (some : opened ≡ Some list) (known : AreKnown oracle opened × is_frame_known oracle after) {last : List Frame} (begun : IsBegun (frames ++ after ∷ []) list last) where
     -- the stack with the frame of the item that opened the list
@@ -197,10 +208,19 @@ module _ {oracle : Oracle} {tasks : List Task} {start s t : State} {all : List F
 pub done_fewer : (all frames : List Frame) (frame : Frame) → all ≡ frames ++ frame ∷ [] → walk_measure frames < walk_measure all
 done_fewer all frames frame popped = let more : walk_measure all ≡ _ = ap walk_measure popped ∙ measure_pushed frames frame in omega (arith, more)
 
--- the walk of the list that an item opened is its beginning and one visit for each item
-pub inner_few : (oracle : Oracle) (opened : Option ItemList) → AreKnown oracle opened → length (inner_of oracle opened) ≤ 2 ^ 64
+-- what the list that an item opened leads to is its beginning, one visit for each item, and perhaps one task behind them
+pub inner_few : (oracle : Oracle) (opened : Option ItemList) → AreKnown oracle opened → length (inner_of oracle opened) ≤ 2 ^ 64 + 1
 inner_few oracle None known = omega arith
-inner_few oracle (Some list) known = let few = known.1 in let long = walk_length oracle (list_site list) list.items.now in omega (arith, few, long)
+inner_few oracle (Some list) known =
+    let few = known.1 in
+    let long = walk_length oracle (list_site list) list.items.now in
+    let both = length-append (walk oracle (list_site list) list.items.now) (behind list.module_id list.into) in
+    let one = one_behind list.module_id list.into in
+    omega (arith, few, long, both, one)
+  where
+    one_behind : (from : ModuleId) (into : Option ModuleId) → length (behind from into) ≤ 1
+    one_behind from None = omega arith
+    one_behind from (Some into) = omega arith
 
 -- an item that cfg disables was reported
 pub visited_disabled : (oracle : Oracle) (s : State) (told : List DefDiagnostic) (site : Site) (id : ModItemId) (item : ItemNode) (disabled : Option CfgExpr) (cfg : CfgExpr)

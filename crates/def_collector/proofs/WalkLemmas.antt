@@ -8,7 +8,7 @@ use Rattle.item_tree.specs.declared.ids.ModItemId.{ModItemId}
 use Rattle.def_items.specs.declared.lists.Frame.{Frame}
 use Rattle.def_items.specs.Parts.{list_site}
 use Rattle.def_collector.specs.Walk.{agenda_of, frame_tasks, walk_measure}
-use Rattle.def_items.specs.Lists.{listed, left_of}
+use Rattle.def_items.specs.Lists.{behind, listed, left_of}
 use Rattle.def_laws.specs.Work.{task_work, work}
 use Rattle.def_rules.specs.Items.{visits}
 use Rattle.def_rules.specs.State.{Visit}
@@ -43,7 +43,7 @@ left_of-cons frame id found =
 
 -- the next item is visited first
 pub frame_tasks-next : (frame : Frame) (id : ModItemId) → Some id ≡ slice_get (listed frame) frame.next → frame_tasks frame ≡ Visit (list_site frame.list) id ∷ frame_tasks (after_turn frame)
-frame_tasks-next frame id found = ap (λ left. visits (list_site frame.list) left) (left_of-cons frame id found)
+frame_tasks-next frame id found = ap (λ left. visits (list_site frame.list) left ++ behind frame.list.module_id frame.list.into) (left_of-cons frame id found)
 
 -- one frame more
 pub measure_pushed : (frames : List Frame) (frame : Frame) → walk_measure (frames ++ frame ∷ []) ≡ suc (work (frame_tasks frame) + walk_measure frames)

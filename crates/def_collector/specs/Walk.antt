@@ -11,7 +11,7 @@ use Rattle.def_items.specs.declared.lists.ItemList.{ItemList}
 use Rattle.def_items.specs.Parts.{list_site, tree_in}
 use Rattle.def_collector.specs.declared.modules.FoundFile.{FoundFile as FoundInCode}
 use Rattle.def_items.specs.declared.lists.Frame.{Frame}
-use Rattle.def_items.specs.Lists.{left_of}
+use Rattle.def_items.specs.Lists.{behind, left_of}
 
 -- a file that was found, as it is shown
 abbrev pub found_in : FoundInCode → FoundFile
@@ -23,14 +23,18 @@ opens_list (Mod name raw contents) = true
 opens_list (ExternBlock children) = true
 opens_list _ = false
 
--- the visits that a frame has left
+-- the visits that a frame has left, and what is done behind them
 abbrev pub frame_tasks : Frame → List Task
-frame_tasks frame = visits (list_site frame.list) (left_of frame)
+frame_tasks frame = visits (list_site frame.list) (left_of frame) ++ behind frame.list.module_id frame.list.into
 
--- the walk of the list that an item opened, if it opened one
+-- the walk of a list, and what is done behind it
+abbrev pub list_tasks : Oracle → ItemList → List Task
+list_tasks oracle list = walk oracle (list_site list) list.items.now ++ behind list.module_id list.into
+
+-- that of the list that an item opened, if it opened one
 abbrev pub inner_of : Oracle → Option ItemList → List Task
 inner_of oracle None = []
-inner_of oracle (Some list) = walk oracle (list_site list) list.items.now
+inner_of oracle (Some list) = list_tasks oracle list
 
 -- what is to be visited, where the last frame comes first
 unfoldable pub agenda_of : List Frame → List Task

@@ -8,6 +8,7 @@ ghost use Rattle.def_collector.specs.Walk.{AreKnown, inner_of, is_known, opens_l
 ghost use Rattle.def_laws.specs.Performs.{Handled};
 
 use crate::collector::{DefCollector, WrittenCrate, WrittenStruct};
+use crate::macros::{WrittenMacro, collect_macro, collect_macro_rules};
 use crate::modules::{ModuleItem, collect_module};
 use def_ids::{ExternBlockLoc, Interner, ItemContainerId, Location};
 use def_items::{ItemList, Site, define_impl};
@@ -102,6 +103,16 @@ fn collect_leaf<'a, D: SourceDatabase>(
             };
             collector.collect_struct(db, session, site, node, written)
         }
+        ModItemKind::MacroRules { name } => {
+            collect_macro_rules(collector, db, session, site, node, *name)
+        }
+        ModItemKind::Macro2 { name, visibility } => {
+            let written = WrittenMacro {
+                name: *name,
+                visibility,
+            };
+            collect_macro(collector, db, session, site, node, written)
+        }
         _ => collector.collect_declaration(db, session, site, node),
     }
 }
@@ -137,6 +148,7 @@ fn collect_extern_block<'a, D: SourceDatabase>(
         tree: db.item_tree(site.tree_id),
         items: children.as_slice(),
         depth: site.depth,
+        into: None,
         dir: site.dir.clone()?,
     })
 }

@@ -5,6 +5,7 @@ mod collector;
 mod globs;
 mod imports;
 mod items;
+mod macros;
 mod modules;
 mod prelude;
 mod run;

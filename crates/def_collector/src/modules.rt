@@ -17,7 +17,10 @@ ghost use Rattle.def_rules.specs.Modules.{module_item, outline_item};
 use crate::collector::DefCollector;
 use def_bindings::Visibility;
 use def_ids::{Interner, ItemContainerId, ModuleId};
-use def_items::{ChildModule, ItemList, Site, disabled_by, push_child_module, report, top_items};
+use def_items::{
+    ChildModule, ItemList, Site, disabled_by, hands_on, into_if, is_macro_use, push_child_module,
+    report, top_items,
+};
 use def_map::{ModuleOrigin, SourceDatabase};
 use def_parts::ModDir;
 use def_rules::DefDiagnosticKind;
@@ -102,6 +105,7 @@ fn collect_inline_module<'a, D: SourceDatabase>(
         tree: db.item_tree(site.tree_id),
         items: children,
         depth: site.depth,
+        into: into_if(is_macro_use(item.node), site.module_id),
         dir,
     }))
 }
@@ -173,6 +177,7 @@ fn collect_file_module<'a, D: SourceDatabase>(
         is_mod_rs: found.is_mod_rs,
     };
     let child = push_module(collector, item, origin)?;
+    let handed_on = hands_on(item.node, tree);
     Ok(Some(ItemList {
         module_id: child,
         container: ItemContainerId::Module(child),
@@ -180,6 +185,7 @@ fn collect_file_module<'a, D: SourceDatabase>(
         tree,
         items: top_items(tree),
         depth: item.site.depth,
+        into: into_if(handed_on, item.site.module_id),
         dir: found.dir,
     }))
 }

@@ -153,6 +153,7 @@ fn seed_with_top_level<'a, D: SourceDatabase>(
             tree,
             items: top_items(tree),
             depth: first_depth(db, map, tree_id),
+            into: None,
             dir: ModDir::root(collector.alloc),
         },
     )

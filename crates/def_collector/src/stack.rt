@@ -7,16 +7,17 @@ ghost use Rattle.def_ids.specs.Session.{AddsLocations, session_of};
 ghost use Rattle.def_items.specs.Lists.{left_of};
 ghost use Rattle.def_items.specs.Parts.{list_site};
 ghost use Rattle.def_collector.specs.Collector.{state_of};
-ghost use Rattle.def_collector.specs.Walk.{AreKnown, frame_tasks, inner_of, is_frame_known, is_known};
+ghost use Rattle.def_collector.specs.Walk.{AreKnown, frame_tasks, inner_of, is_frame_known, is_known, list_tasks};
 ghost use Rattle.def_laws.specs.Work.{task_work, work};
-ghost use Rattle.def_rules.specs.Items.{walk};
 ghost use Rattle.def_rules.specs.State.{Task, Visit};
 ghost use Rattle.def_laws.specs.Runs.{Leads};
 
 use crate::collector::DefCollector;
 use crate::items::collect_item;
 use def_ids::Interner;
-use def_items::{Frame, ItemList, Site, push_list, push_opened, report_disabled_item};
+use def_items::{
+    Frame, ItemList, Site, bring_macros, push_list, push_opened, report_disabled_item,
+};
 use def_map::SourceDatabase;
 use item_tree::{ItemNode, ItemTree, ModItemId};
 use std::alloc::AllocError;
@@ -31,7 +32,7 @@ pub fn walk<'a, D: SourceDatabase>(
     first: ItemList<'a>,
 ) -> Result<(), AllocError>
     requires { is_known (D.oracle db.now) first }
-    ensures run { OnOk result (Leads (D.oracle db.now) (walk (D.oracle db.now) (list_site first.entry) first.entry.items.now)
+    ensures run { OnOk result (Leads (D.oracle db.now) (list_tasks (D.oracle db.now) first.entry)
         (state_of collector.old session.old) [] (state_of collector.new session.new)) }
     ensures session { AddsLocations (session_of session.old) (session_of session.new) }
 {
@@ -39,9 +40,12 @@ pub fn walk<'a, D: SourceDatabase>(
     push_list(collector.alloc, &mut collector.mod_dirs, &mut frames, first)?;
     'frames: while let Some(mut frame) = frames.pop() {
         let opened = walk_list(collector, db, session, &mut frame)?;
-        if let Some(list) = opened {
-            let mod_dirs = &mut collector.mod_dirs;
-            push_opened(collector.alloc, mod_dirs, &mut frames, frame, list)?;
+        match opened {
+            Some(list) => {
+                let mod_dirs = &mut collector.mod_dirs;
+                push_opened(collector.alloc, mod_dirs, &mut frames, frame, list)?;
+            }
+            None => bring_macros(collector.alloc, &mut collector.def_map, &frame.list)?,
         }
     }
     Ok(())

@@ -66,9 +66,9 @@ answers_of s =
       assoc_items = λ owner. None;
       rule_styles = λ position krate. record { 0 = 1 };
       proc_macros = λ krate. [];
-      find_builtin_macro = λ name. None;
-      find_builtin_derive = λ name. None;
-      find_builtin_attr = λ name. None;
+      find_builtin_macro = λ name. get is_name s.builtins.macros name;
+      find_builtin_derive = λ name. get is_name s.builtins.derives name;
+      find_builtin_attr = λ name. get is_name s.builtins.attrs name;
       builtin_type = λ name. get is_name s.types.builtin name;
       is_builtin_attr = λ name. false;
       has_builtin_derive_impl = λ derive. false;

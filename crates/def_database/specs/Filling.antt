@@ -1,11 +1,13 @@
 -- What a database answers once something more is written down: what is given, and all else as before.
 use Rattle.std.specs.Prelude.{ℕ, ◌&&◌, cond, List, Option, Some, bytes_eq}
+use Rattle.either.specs.declared.Either.{Either}
 use Rattle.item_tree.specs.declared.ids.BlockId.{BlockId}
 use Rattle.item_tree.specs.declared.ids.Crate.{Crate}
 use Rattle.item_tree.specs.declared.ids.FileId.{FileId}
 use Rattle.item_tree.specs.declared.ids.TreeId.{TreeId}
 use Rattle.item_tree.specs.declared.name.Name.{Name}
 use Rattle.item_tree.specs.declared.tree.ItemTree.{ItemTree}
+use Rattle.def_ids.specs.declared.macro_def.BuiltinAttr.{BuiltinAttr}
 use Rattle.def_bindings.specs.Content.{is_name}
 use Rattle.def_map.specs.DefMaps.{view_of}
 use Rattle.def_map.specs.declared.def_map.DefMap.{DefMap}
@@ -50,6 +52,18 @@ with_outer_map o block m = record o { outer_map = set_where (block_eq block) (So
 -- the variants of the enum at a position
 abbrev pub with_variants : Oracle → Position → List EnumVariant → Oracle
 with_variants o position variants = record o { enum_variants = λ loc. cond (position_eq position loc.position) (Some variants) (o.enum_variants loc) }
+
+-- the builtin macro of a name
+abbrev pub with_builtin_macro : Oracle → Name → Either ℕ ℕ → Oracle
+with_builtin_macro o name found = record o { find_builtin_macro = set_where (is_name name) (Some found) o.find_builtin_macro }
+
+-- the builtin derive of a name
+abbrev pub with_builtin_derive : Oracle → Name → ℕ → Oracle
+with_builtin_derive o name number = record o { find_builtin_derive = set_where (is_name name) (Some number) o.find_builtin_derive }
+
+-- the builtin attribute of a name
+abbrev pub with_builtin_attr : Oracle → Name → BuiltinAttr → Oracle
+with_builtin_attr o name attr = record o { find_builtin_attr = set_where (is_name name) (Some attr) o.find_builtin_attr }
 
 -- the builtin type of a name
 abbrev pub with_builtin : Oracle → Name → ℕ → Oracle

@@ -37,12 +37,22 @@ pub struct Types {
     pub builtin: IndexMap<Name, u32>,
 }
 
-/// A database whose answers were written down. It has no macros so far: each call is one of a macro
-/// that is not found, and no name is that of a builtin macro, derive or attribute.
+/// The builtin macros, derives and attributes, by their names. Of the macros those on the left are
+/// expanded as they stand, those on the right are eager.
+#[derive(Drop)]
+pub struct Builtins {
+    pub macros: IndexMap<Name, Either<u32, u32>>,
+    pub derives: IndexMap<Name, u32>,
+    pub attrs: IndexMap<Name, BuiltinAttr>,
+}
+
+/// A database whose answers were written down. No macro call is expanded so far: each is one of a
+/// macro that is not found.
 pub struct Database {
     pub files: Files,
     pub crates: Crates,
     pub types: Types,
+    pub builtins: Builtins,
 }
 
 impl Drop for Database {
@@ -51,6 +61,7 @@ impl Drop for Database {
             files: _,
             crates: _,
             types: _,
+            builtins: _,
         } = self;
     }
 }
@@ -72,6 +83,11 @@ impl Database {
             types: Types {
                 variants: IndexMap::new(alloc),
                 builtin: IndexMap::new(alloc),
+            },
+            builtins: Builtins {
+                macros: IndexMap::new(alloc),
+                derives: IndexMap::new(alloc),
+                attrs: IndexMap::new(alloc),
             },
         }
     }
@@ -160,16 +176,16 @@ impl SourceDatabase for Database {
         &[]
     }
 
-    fn find_builtin_macro(&self, _name: Name) -> Option<Either<u32, u32>> {
-        None
+    fn find_builtin_macro(&self, name: Name) -> Option<Either<u32, u32>> {
+        self.builtins.macros.get(&name).copied()
     }
 
-    fn find_builtin_derive(&self, _name: Name) -> Option<u32> {
-        None
+    fn find_builtin_derive(&self, name: Name) -> Option<u32> {
+        self.builtins.derives.get(&name).copied()
     }
 
-    fn find_builtin_attr(&self, _name: Name) -> Option<BuiltinAttr> {
-        None
+    fn find_builtin_attr(&self, name: Name) -> Option<BuiltinAttr> {
+        self.builtins.attrs.get(&name).copied()
     }
 
     fn builtin_type(&self, name: Name) -> Option<u32> {

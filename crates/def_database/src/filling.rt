@@ -3,10 +3,12 @@ ghost use Rattle.std.specs.Prelude.{◌≡◌, Some, bytes_eq, OnOk, OnErr};
 ghost use Rattle.indexmap.specs.IndexMap.{get_by_text};
 ghost use Rattle.def_modules.specs.Updates.{set_where};
 ghost use Rattle.def_database.specs.Database.{answers_of, leads};
-ghost use Rattle.def_database.specs.Filling.{with_tree, with_path, with_crate, with_maps, with_outer_map, with_variants, with_builtin, with_lead};
+ghost use Rattle.def_database.specs.Filling.{with_tree, with_path, with_crate, with_maps, with_outer_map, with_variants, with_builtin, with_builtin_attr, with_builtin_derive, with_builtin_macro, with_lead};
 
 use crate::database::Database;
+use def_ids::BuiltinAttr;
 use def_map::{CrateData, DefMap, EnumVariant, LocalDefMap};
+use either::Either;
 use indexmap::IndexMap;
 use item_tree::{BlockId, Crate, FileAstId, FileId, InFile, ItemTree, Name, TreeId};
 use std::alloc::AllocError;
@@ -80,6 +82,38 @@ impl Database {
         ensures err { OnErr result (answers_of self.new ≡ answers_of self.old) }
     {
         self.types.builtin.insert(name, number)?;
+        Ok(())
+    }
+
+    /// Makes a name that of a builtin macro, by its number: on the left one that is expanded as it
+    /// stands, on the right an eager one.
+    pub fn add_builtin_macro(
+        &mut self,
+        name: Name,
+        number: Either<u32, u32>,
+    ) -> Result<(), AllocError>
+        ensures ok { OnOk result (answers_of self.new ≡ with_builtin_macro (answers_of self.old) name number) }
+        ensures err { OnErr result (answers_of self.new ≡ answers_of self.old) }
+    {
+        self.builtins.macros.insert(name, number)?;
+        Ok(())
+    }
+
+    /// Makes a name that of a builtin derive, by its number.
+    pub fn add_builtin_derive(&mut self, name: Name, number: u32) -> Result<(), AllocError>
+        ensures ok { OnOk result (answers_of self.new ≡ with_builtin_derive (answers_of self.old) name number) }
+        ensures err { OnErr result (answers_of self.new ≡ answers_of self.old) }
+    {
+        self.builtins.derives.insert(name, number)?;
+        Ok(())
+    }
+
+    /// Makes a name that of a builtin attribute.
+    pub fn add_builtin_attr(&mut self, name: Name, attr: BuiltinAttr) -> Result<(), AllocError>
+        ensures ok { OnOk result (answers_of self.new ≡ with_builtin_attr (answers_of self.old) name attr) }
+        ensures err { OnErr result (answers_of self.new ≡ answers_of self.old) }
+    {
+        self.builtins.attrs.insert(name, attr)?;
         Ok(())
     }
 }

@@ -4,4 +4,4 @@
 mod database;
 mod filling;
 
-pub use database::{Crates, Database, Files, Types};
+pub use database::{Builtins, Crates, Database, Files, Types};

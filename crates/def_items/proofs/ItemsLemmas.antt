@@ -13,6 +13,7 @@ use Rattle.item_tree.specs.declared.name.Name.{Name}
 use Rattle.def_ids.specs.declared.ids.Def.{Def}
 use Rattle.def_ids.specs.declared.ids.Def.TheVariants.{Module}
 use Rattle.def_ids.specs.declared.ids.Def.TheVariants as def
+use Rattle.def_ids.specs.declared.ids.MacroId.{MacroId}
 use Rattle.def_ids.specs.declared.ids.ModuleId.{ModuleId}
 use Rattle.def_ids.specs.Session.{Session, AddsLocations, StructItem, UseItem, in_module, ImplItem, ExternCrateItem, ExternBlockItem}
 use Rattle.def_ids.specs.SessionLaws.{adds_refl}
@@ -24,11 +25,12 @@ use Rattle.def_modules.specs.declared.module_data.ModuleOrigin.{ModuleOrigin}
 use Rattle.def_modules.specs.Maps.{pushed, with_module}
 use Rattle.def_modules.specs.MapState.{MapState, ModuleState}
 use Rattle.def_map.specs.Oracle.{Oracle}
-use Rattle.def_modules.specs.Scopes.{declared_in, empty_module, with_child, with_extern_block, with_extern_crate, with_impl}
+use Rattle.def_modules.specs.Scopes.{declared_in, with_child, with_extern_block, with_extern_crate, with_impl}
 use Rattle.def_laws.specs.Performs.{Handled, IsDone, Performs, Updated}
 use Rattle.def_rules.specs.Items.{ctor_vis, declare, declared_entry, is_prelude_import, loc_of, new_imports, position_of, struct_effect, written_vis, declared_effect, noted_in, walk}
 use Rattle.def_rules.specs.Imports.{no_namespaces}
-use Rattle.def_rules.specs.Modules.{add_module, module_item, next_module}
+use Rattle.def_rules.specs.Macros.{macros_brought}
+use Rattle.def_rules.specs.Modules.{add_module, fresh_module, module_item, next_module}
 use Rattle.def_rules.specs.ExternCrates.{crate_effect, crate_name, named_crate}
 use Rattle.def_rules.specs.Rules.{Handles}
 use Rattle.def_parts.specs.Directories.{Directory}
@@ -69,18 +71,18 @@ declared_put oracle s s1 t at name ns d vis declared put =
 
 -- a module as a child
 pub module_put : (s t u : State) (at : ModuleId) (name : Name) (vis : Visibility) (o : ModuleOrigin) (m : ModuleState) (index : ℕ) (pushed_map led declared : MapState)
-    → m ≡ empty_module (Some name) o vis → index ≡ length s.map.modules → pushed_map ≡ pushed s.map at.index m → led ≡ with_module pushed_map at.index (with_child name index)
+    → m ≡ fresh_module s.map at.index name vis o → index ≡ length s.map.modules → pushed_map ≡ pushed s.map at.index m → led ≡ with_module pushed_map at.index (with_child name index)
     → declared ≡ with_module led at.index (declared_in (Module (record { map = s.map.id; index = index })))
     → t ≡ with_map s declared
     → Updated at (declared_entry name Types (Module (record { map = s.map.id; index = index })) vis ∷ []) t u
     → Updated at (declared_entry name Types (Module (next_module s)) vis ∷ []) (add_module s at name vis o) u
 module_put s t u at name vis o m index pushed_map led declared fresh numbered added child recorded became put =
-    let a : pushed_map ≡ pushed s.map at.index (empty_module (Some name) o vis) = added ∙ ap (pushed s.map at.index) fresh in
-    let b : led ≡ with_module (pushed s.map at.index (empty_module (Some name) o vis)) at.index (with_child name (length s.map.modules)) =
-    child ∙ ap (λ x. with_module x at.index (with_child name index)) a ∙ ap (λ i. with_module (pushed s.map at.index (empty_module (Some name) o vis)) at.index (with_child name i)) numbered in
-    let c : declared ≡ with_module (with_module (pushed s.map at.index (empty_module (Some name) o vis)) at.index (with_child name (length s.map.modules))) at.index (declared_in (Module (next_module s))) =
+    let a : pushed_map ≡ pushed s.map at.index (fresh_module s.map at.index name vis o) = added ∙ ap (pushed s.map at.index) fresh in
+    let b : led ≡ with_module (pushed s.map at.index (fresh_module s.map at.index name vis o)) at.index (with_child name (length s.map.modules)) =
+    child ∙ ap (λ x. with_module x at.index (with_child name index)) a ∙ ap (λ i. with_module (pushed s.map at.index (fresh_module s.map at.index name vis o)) at.index (with_child name i)) numbered in
+    let c : declared ≡ with_module (with_module (pushed s.map at.index (fresh_module s.map at.index name vis o)) at.index (with_child name (length s.map.modules))) at.index (declared_in (Module (next_module s))) =
     recorded ∙ ap (λ x. with_module x at.index (declared_in (Module (record { map = s.map.id; index = index })))) b
-    ∙ ap (λ i. with_module (with_module (pushed s.map at.index (empty_module (Some name) o vis)) at.index (with_child name (length s.map.modules))) at.index (declared_in (Module (record { map = s.map.id; index = i })))) numbered in
+    ∙ ap (λ i. with_module (with_module (pushed s.map at.index (fresh_module s.map at.index name vis o)) at.index (with_child name (length s.map.modules))) at.index (declared_in (Module (record { map = s.map.id; index = i })))) numbered in
     let d : t ≡ add_module s at name vis o = became ∙ ap (with_map s) c in
     subst (λ i. Updated at (declared_entry name Types (Module (record { map = s.map.id; index = i })) vis ∷ []) (add_module s at name vis o) u) numbered
     (subst (λ x. Updated at (declared_entry name Types (Module (record { map = s.map.id; index = index })) vis ∷ []) x u) d put)
@@ -158,20 +160,22 @@ module _ (oracle : Oracle) (s t : State) (session : Session) (site : Site) (item
       }
 
   -- an extern crate
-  pub handled_extern_crate : (name : Name) (raw : RawVisibility) (alias : Option ImportAlias) (u : State) (bound : Option Name) (vis : Visibility) (root : Option ModuleId)
+  pub handled_extern_crate : (name : Name) (raw : RawVisibility) (alias : Option ImportAlias) (u : State) (bound : Option Name) (vis : Visibility) (taken : List (Name × MacroId)) (root : Option ModuleId)
       → item.kind ≡ ExternCrate name raw alias → session.item ExternCrateItem n ≡ Some (in_module site.scope position) → u ≡ noted_in kept site.scope (with_extern_crate (record { 0 = n }))
-      → bound ≡ crate_name name alias → vis ≡ written_vis oracle kept site.scope raw → root ≡ named_crate kept name
-      → (let effect = crate_effect u site item (record { 0 = n }) bound vis root in Performs oracle effect.tasks effect.state t)
+      → bound ≡ crate_name name alias → vis ≡ written_vis oracle kept site.scope raw → taken ≡ macros_brought oracle kept item name root → root ≡ named_crate kept name
+      → (let effect = crate_effect u site item (record { 0 = n }) bound vis taken root in Performs oracle effect.tasks effect.state t)
       → Handled oracle s t site item []
-  handled_extern_crate name raw alias u bound vis root kind numbered noted named seen found after =
+  handled_extern_crate name raw alias u bound vis taken root kind numbered noted named seen brings found after =
       let begun : State = noted_in kept site.scope (with_extern_crate (record { 0 = n })) in
-      let effect : Effect = crate_effect u site item (record { 0 = n }) bound vis root in
+      let effect : Effect = crate_effect u site item (record { 0 = n }) bound vis taken root in
       let number : session.item ExternCrateItem n ≡ Some (loc_of site ExternCrateItem item) = numbered ∙ ap (λ p. Some (in_module site.scope p)) placed in
-      let is : effect ≡ crate_effect begun site item (record { 0 = n }) (crate_name name alias) (written_vis oracle kept site.scope raw) (named_crate kept name) =
-      ap (λ x. crate_effect x site item (record { 0 = n }) bound vis root) noted
-      ∙ ap (λ x. crate_effect begun site item (record { 0 = n }) x vis root) named
-      ∙ ap (λ x. crate_effect begun site item (record { 0 = n }) (crate_name name alias) x root) seen
-      ∙ ap (λ x. crate_effect begun site item (record { 0 = n }) (crate_name name alias) (written_vis oracle kept site.scope raw) x) found in
+      let seen_vis : Visibility = written_vis oracle kept site.scope raw in
+      let is : effect ≡ crate_effect begun site item (record { 0 = n }) (crate_name name alias) seen_vis (macros_brought oracle kept item name (named_crate kept name)) (named_crate kept name) =
+      ap (λ x. crate_effect x site item (record { 0 = n }) bound vis taken root) noted
+      ∙ ap (λ x. crate_effect begun site item (record { 0 = n }) x vis taken root) named
+      ∙ ap (λ x. crate_effect begun site item (record { 0 = n }) (crate_name name alias) x taken root) seen
+      ∙ ap (λ x. crate_effect begun site item (record { 0 = n }) (crate_name name alias) seen_vis x root) brings
+      ∙ ap (λ x. crate_effect begun site item (record { 0 = n }) (crate_name name alias) seen_vis (macros_brought oracle kept item name x) x) found in
       record {
         effect = effect;
         handled = (session, adds, subst (λ k. Handles oracle kept site item k effect) (sym kind) (n, number, is));
@@ -181,7 +185,7 @@ module _ (oracle : Oracle) (s t : State) (session : Session) (site : Site) (item
   -- an extern block, whose items are walked in the same module
   pub handled_extern_block : (children items : List ModItemId) (directory : Directory) → item.kind ≡ ExternBlock children → items ≡ children → directory ≡ site.directory
       → session.item ExternBlockItem n ≡ Some (in_module site.scope position) → t ≡ noted_in kept site.scope (with_extern_block (record { 0 = n }))
-      → Handled oracle s t site item (walk oracle (record site { container = contained.ExternBlock (record { 0 = n }); directory = directory }) items)
+      → Handled oracle s t site item (walk oracle (record site { container = contained.ExternBlock (record { 0 = n }); directory = directory }) items ++ [])
   handled_extern_block children items directory kind same_items same_directory numbered after =
       let effect : Effect = followed_by (noted_in kept site.scope (with_extern_block (record { 0 = n }))) (walk oracle (record site { container = contained.ExternBlock (record { 0 = n }) }) children) in
       record {
@@ -190,7 +194,8 @@ module _ (oracle : Oracle) (s t : State) (session : Session) (site : Site) (item
         done = record {
           puts = [];
           tasks = ap (λ d. walk oracle (record site { container = contained.ExternBlock (record { 0 = n }); directory = d }) children) (sym same_directory)
-              ∙ ap (λ l. walk oracle (record site { container = contained.ExternBlock (record { 0 = n }); directory = directory }) l) (sym same_items);
+              ∙ ap (λ l. walk oracle (record site { container = contained.ExternBlock (record { 0 = n }); directory = directory }) l) (sym same_items)
+              ∙ sym (append-nil _);
           performs = subst (λ u. Performs oracle [] effect.state u) (sym after) (performs_none effect.state);
         };
       }

@@ -1,3 +1,4 @@
 pub mod ItemsLemmas
 pub mod NumberedLemmas
 pub mod OrderLemmas
+pub mod TextualLemmas

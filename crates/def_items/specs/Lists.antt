@@ -1,11 +1,26 @@
--- The order in which the items of a list are visited.
+-- The order in which the items of a list are visited, and what is done behind it.
 use Rattle.std.specs.declared.alloc.Global.{Global}
 use Rattle.std.specs.Prelude.{◌≡◌, List, [], ◌∷◌, ◌++◌, drop, Option, Some, None, Vec}
 use Rattle.item_tree.specs.declared.ids.ModItemId.{ModItemId}
+use Rattle.def_ids.specs.declared.ids.ModuleId.{ModuleId}
+use Rattle.def_modules.specs.Maps.{textual_at, with_module}
+use Rattle.def_modules.specs.MapState.{MapState}
+use Rattle.def_modules.specs.Scopes.{brought}
 use Rattle.def_items.specs.declared.lists.Frame.{Frame}
 use Rattle.def_items.specs.declared.lists.ItemList.{ItemList}
 use Rattle.def_items.specs.Parts.{tree_in}
 use Rattle.def_rules.specs.Items.{ordered}
+use Rattle.def_rules.specs.State.{Task, Bring}
+
+-- what is done behind a list: the textual macros of its module are brought into another one, if they are handed on
+abbrev pub behind : ModuleId → Option ModuleId → List Task
+behind from None = []
+behind from (Some into) = Bring from into ∷ []
+
+-- a map in which that is done
+abbrev pub brought_into : ModuleId → Option ModuleId → MapState → MapState
+brought_into from None m = m
+brought_into from (Some into) m = with_module m into.index (brought (textual_at m from.index))
 
 -- the items of a list in the order of their visits
 abbrev pub listed_in : Option (Vec ModItemId Global) → List ModItemId → List ModItemId

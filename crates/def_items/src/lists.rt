@@ -26,6 +26,9 @@ pub struct ItemList<'a> {
     pub items: &'a [ModItemId],
     /// How deep in expansions of macros it lies.
     pub depth: u32,
+    /// The module that the textual macros of this one are brought into once the list is walked, if
+    /// they are handed on.
+    pub into: Option<ModuleId>,
     /// Where the files of the module's children lie.
     pub dir: ModDir,
 }

@@ -1,16 +1,19 @@
 -- No name fails where a module is added or changed.
-use Rattle.std.proofs.Common.{◌≡◌, ℕ, zero, suc, false, List, [], ◌∷◌, length, All, Option, Some, refl}
+use Rattle.std.proofs.Common.{◌≡◌, ℕ, zero, suc, Bool, true, false, List, [], ◌∷◌, length, All, Option, Some, None, refl}
 use Rattle.std.proofs.lemmas.List.Elements.{All-cons, All-head, All-tail, All-push}
 use Rattle.item_tree.specs.declared.name.Name.{Name}
+use Rattle.def_ids.specs.declared.ids.MacroId.{MacroId}
 use Rattle.def_ids.specs.declared.ids.ModuleId.{ModuleId}
 use Rattle.def_ids.specs.declared.ids.Def.{Def}
 use Rattle.def_bindings.specs.declared.visibility.Visibility.{Visibility}
 use Rattle.def_modules.specs.declared.module_data.ModuleOrigin.{ModuleOrigin}
-use Rattle.def_modules.specs.Maps.{pushed, with_module}
+use Rattle.def_modules.specs.Maps.{pushed, with_macro_use, with_module}
 use Rattle.def_modules.specs.MapState.{MapState, ModuleState}
-use Rattle.def_modules.specs.Scopes.{declared_in, empty_module, with_child}
+use Rattle.def_modules.specs.Scopes.{declared_in, with_child}
 use Rattle.def_modules.specs.Updates.{update_at}
-use Rattle.def_rules.specs.Modules.{add_module}
+use Rattle.def_rules.specs.Macros.{showing_helpers, taking}
+use Rattle.def_rules.specs.Modules.{add_module, fresh_module}
+use Rattle.def_parts.specs.ProcMacros.{NameAndHelpers}
 use Rattle.def_rules.specs.State.{State}
 use Rattle.def_laws.specs.Finished.{NoneFailed}
 
@@ -30,12 +33,22 @@ none_failed-with_module m i f keeps none = all_updated IsClean m.modules i f kee
 pub none_failed-declare : (m : MapState) (i : ℕ) (d : Def) → NoneFailed m → NoneFailed (with_module m i (declared_in d))
 none_failed-declare m i d none = none_failed-with_module m i (declared_in d) (λ e h. h) none
 
-pub none_failed-pushed : (m : MapState) (i : ℕ) (name : Option Name) (o : ModuleOrigin) (vis : Visibility) → NoneFailed m → NoneFailed (pushed m i (empty_module name o vis))
-none_failed-pushed m i name o vis none = All-push IsClean m.modules (empty_module name o vis) none (λ n. refl)
+pub none_failed-pushed : (m : MapState) (i : ℕ) (d : ModuleState) → IsClean d → NoneFailed m → NoneFailed (pushed m i d)
+none_failed-pushed m i d clean none = All-push IsClean m.modules d none clean
+
+-- nor where macros are taken, or helpers exported
+pub none_failed-taking : (brought : List (Name × MacroId)) (m : MapState) → NoneFailed m → NoneFailed (taking brought m)
+none_failed-taking [] m none = none
+none_failed-taking (one ∷ rest) m none = none_failed-taking rest (with_macro_use m one.0 one.1) none
+
+pub none_failed-showing_helpers : (in_block : Bool) (id : MacroId) (read : Option NameAndHelpers) (m : MapState) → NoneFailed m → NoneFailed (showing_helpers in_block id read m)
+none_failed-showing_helpers in_block id None m none = none
+none_failed-showing_helpers true id (Some read) m none = none
+none_failed-showing_helpers false id (Some read) m none = none
 
 pub none_failed-add_module : (s : State) (at : ModuleId) (name : Name) (vis : Visibility) (o : ModuleOrigin) → NoneFailed s.map → NoneFailed (add_module s at name vis o).map
 none_failed-add_module s at name vis o none =
-    let grown : MapState = pushed s.map at.index (empty_module (Some name) o vis) in
+    let grown : MapState = pushed s.map at.index (fresh_module s.map at.index name vis o) in
     let linked : MapState = with_module grown at.index (with_child name (length s.map.modules)) in
     none_failed-declare linked at.index _
-    (none_failed-with_module grown at.index (with_child name (length s.map.modules)) (λ e h. h) (none_failed-pushed s.map at.index (Some name) o vis none))
+    (none_failed-with_module grown at.index (with_child name (length s.map.modules)) (λ e h. h) (none_failed-pushed s.map at.index (fresh_module s.map at.index name vis o) (λ n. refl) none))

@@ -1,5 +1,5 @@
 -- What a rule does to a run, as laws read it.
-use Rattle.std.proofs.Common.{◌≡◌, ◌⊎◌, ℕ, Bool, true, false, List, [], ◌∷◌, length, Option, Some, None, Result, Ok, Err, Contains, refl, sym, ap, subst, inl, inr}
+use Rattle.std.proofs.Common.{◌≡◌, ◌⊎◌, ℕ, Bool, true, false, ◌||◌, List, [], ◌∷◌, ◌++◌, length, Option, Some, None, is_some, Result, Ok, Err, Contains, refl, sym, ap, subst, inl, inr}
 use Rattle.std.proofs.lemmas.List.Elements.{Contains-append_cases}
 use Rattle.item_tree.specs.declared.ids.CfgExpr.{CfgExpr}
 use Rattle.item_tree.specs.declared.ids.ModItemId.{ModItemId}
@@ -9,41 +9,53 @@ use Rattle.item_tree.specs.declared.items.ModContents.TheVariants.{Inline, Outli
 use Rattle.item_tree.specs.declared.items.RawVisibility.{RawVisibility}
 use Rattle.item_tree.specs.declared.items.UseImport.{UseImport}
 use Rattle.item_tree.specs.declared.name.Name.{Name}
-use Rattle.item_tree.specs.Attrs.{disabled_by, path_attr}
+use Rattle.item_tree.specs.Attrs.{attrs_of, disabled_by, has_attr, path_attr}
+use Rattle.item_tree.specs.KnownNames.{macro_export_name}
 use Rattle.def_ids.specs.declared.ids.Def.{Def}
 use Rattle.def_ids.specs.declared.ids.Def.TheVariants as def
 use Rattle.def_ids.specs.declared.ids.ExternCrateId.{ExternCrateId}
 use Rattle.def_ids.specs.declared.ids.GlobId.{GlobId}
 use Rattle.def_ids.specs.declared.ids.ItemContainerId.TheVariants as contained
+use Rattle.def_ids.specs.declared.ids.MacroId.{MacroId}
+use Rattle.def_ids.specs.declared.ids.MacroId.TheVariants as macro_of
 use Rattle.def_ids.specs.declared.ids.ModuleId.{ModuleId}
 use Rattle.def_ids.specs.declared.ids.UseId.{UseId}
+use Rattle.def_ids.specs.declared.macro_def.MacroExpander.{MacroExpander}
+use Rattle.def_ids.specs.declared.macro_def.MacroExpander.TheVariants.{Declarative, BuiltIn, BuiltInEager, BuiltInAttr, BuiltInDerive, UnimplementedBuiltIn}
 use Rattle.def_bindings.specs.declared.bindings.ImportOrExternCrate.TheVariants.{Glob, ExternCrate as ByCrate}
-use Rattle.def_bindings.specs.declared.bindings.Namespace.TheVariants.{Types}
+use Rattle.def_bindings.specs.declared.bindings.Namespace.TheVariants.{Types, Macros}
 use Rattle.def_bindings.specs.declared.visibility.Visibility.{Visibility}
+use Rattle.def_bindings.specs.declared.visibility.Visibility.TheVariants.{Public}
 use Rattle.def_bindings.specs.Puts.{IsExplicit, Origin}
 use Rattle.def_modules.specs.declared.module_data.ModuleOrigin.{ModuleOrigin}
 use Rattle.def_modules.specs.declared.module_data.ModuleOrigin.TheVariants as origin
 use Rattle.def_modules.specs.MapState.{MapState, ModuleState}
 use Rattle.def_oracle.specs.Oracle.{Oracle}
-use Rattle.def_modules.specs.Scopes.{declared_in, with_extern_block, with_extern_crate, with_impl, with_unnamed_const}
+use Rattle.def_modules.specs.Maps.{textual_at, with_module}
+use Rattle.def_modules.specs.Scopes.{brought, declared_in, with_extern_block, with_extern_crate, with_impl, with_textual, with_unnamed_const}
 use Rattle.def_parts.specs.Directories.{Directory, FoundFile, descend}
+use Rattle.def_parts.specs.ProcMacros.{NameAndHelpers}
 use Rattle.def_globs.proofs.ListLaws.{none_in, in_cases}
-use Rattle.def_rules.specs.declared.diagnostics.DefDiagnosticKind.TheVariants.{UnresolvedModule}
+use Rattle.def_rules.specs.declared.diagnostics.DefDiagnostic.{DefDiagnostic}
+use Rattle.def_rules.specs.declared.diagnostics.DefDiagnosticKind.TheVariants.{UnimplementedBuiltinMacro, UnresolvedModule}
 use Rattle.def_laws.specs.Finished.{NoneFailed}
 use Rattle.def_laws.specs.Roles.{stays}
 use Rattle.def_laws.specs.Own.{AreOwnTasks, IsOwn, IsRecorded}
+use Rattle.def_rules.specs.Crates.{tree_attrs}
 use Rattle.def_rules.specs.Globs.{Targets}
-use Rattle.def_rules.specs.Items.{ctor_task, diagnostic, ctor_vis, is_crate_root, is_prelude_import, node_at, noted_in, new_imports, position_of, put_declared, top_items, tree_cfg, walk, written_vis}
-use Rattle.def_rules.specs.Modules.{add_module, file_tree, inline_contents, inner_site, module_item, name_text, next_module, outline_found, outline_item}
+use Rattle.def_rules.specs.Items.{ctor_task, declare, declared_effect, diagnostic, ctor_vis, is_crate_root, is_prelude_import, node_at, noted_in, new_imports, position_of, put_declared, top_items, tree_cfg, walk, written_vis}
+use Rattle.def_rules.specs.Macros.{export_effect, showing_helpers, item_expander, item_state, listed_helpers, macros_brought, rules_expander, taking_macros, textual_state, unimplemented_reported}
+use Rattle.def_rules.specs.Modules.{add_module, bring_if, file_tree, inline_contents, inner_site, is_macro_use, module_item, name_text, next_module, outline_found, outline_item}
 use Rattle.def_rules.specs.ExternCrates.{crate_effect, crate_entry, crate_name, named_crate, naming_crate}
-use Rattle.def_rules.specs.Rules.{Visits, VisitsAt, VisitsNode, Rule, Follows, rule_of, declares, declares_struct, opens_module, opens_block, queues, binds_crate, notes_impl, notes_const}
+use Rattle.def_rules.specs.Rules.{Visits, VisitsAt, VisitsNode, Rule, Follows, rule_of, declares, declares_struct, opens_module, opens_block, queues, binds_crate, notes_impl, notes_const, defines_rules, defines_macro}
 use Rattle.def_rules.specs.Imports.{no_namespaces}
-use Rattle.def_rules.specs.State.{State, Effect, entered, followed_by, only, ImportDirective, Site, Task, Put, reported}
+use Rattle.def_rules.specs.State.{State, Effect, entered, followed_by, only, ImportDirective, Site, Task, Put, reported, root}
 use Rattle.def_laws.proofs.SoundLaws.{IsLarger}
 use Rattle.def_laws.proofs.AddedLaws.{AddsNew, added_new, none_added}
-use Rattle.def_laws.proofs.CleanLaws.{IsClean, none_failed-add_module, none_failed-with_module}
-use Rattle.def_laws.proofs.LargerLaws.{larger_add_module, larger_refl, larger_with_module, own_next}
-use Rattle.def_laws.proofs.PlainLaws.{ArePlain, own_walk, plain_walk, explicit_by}
+use Rattle.def_laws.proofs.CleanLaws.{IsClean, none_failed-add_module, none_failed-showing_helpers, none_failed-taking, none_failed-with_module}
+use Rattle.def_laws.proofs.LargerLaws.{larger_add_module, larger_showing, larger_refl, larger_same, larger_taking, larger_trans, larger_with_module, own_next, own_root}
+use Rattle.def_laws.proofs.OwnLaws.{own_both}
+use Rattle.def_laws.proofs.PlainLaws.{ArePlain, own_walk, plain_both, plain_walk, explicit_by}
 
 -- Footprints
 
@@ -89,25 +101,32 @@ put_own : (m : MapState) (scope : ModuleId) (targets : Targets) (origin : Origin
 put_own m scope targets origin explicit own = (own, λ g by. absurd (explicit_by origin g explicit by))
 
 module _ (s : State) (scope : ModuleId) where
-  -- a module's data change, its failed names do not, and these tasks follow
-  noted_footprint : (f : ModuleState → ModuleState) → ((d : ModuleState) → IsClean d → IsClean (f d)) → (tasks : List Task)
-      → ((targets : Targets) → IsOwn (noted_in s scope f).map scope → AreOwnTasks (noted_in s scope f).map targets tasks) → ArePlain tasks → Footprint s scope (followed_by (noted_in s scope f) tasks)
-  noted_footprint f clean tasks own plain =
+  -- the map may differ, and diagnostics may join; these tasks follow
+  map_footprint : (t : State) (tasks : List Task) → t.content ≡ s.content → t.targets ≡ s.targets → t.imports ≡ s.imports → IsLarger s.map t.map → (NoneFailed s.map → NoneFailed t.map)
+      → ((targets : Targets) → IsOwn t.map scope → AreOwnTasks t.map targets tasks) → ArePlain tasks → Footprint s scope (followed_by t tasks)
+  map_footprint t tasks content targets imports larger clean own plain =
       record {
-        content = refl;
-        targets = refl;
+        content = content;
+        targets = targets;
         events = refl;
-        larger = larger_with_module s.map scope.index f;
-        none_failed = λ none. none_failed-with_module s.map scope.index f clean none;
-        imports = none_added s.imports;
-        at = λ d h. inl h;
+        larger = larger;
+        none_failed = clean;
+        imports = subst (λ q. AddsNew s.imports q) (sym imports) (none_added s.imports);
+        at = λ d h. inl (subst (λ q. Contains q d) imports h);
         tasks = λ targets even own_scope. own targets own_scope;
         plain = plain;
       }
 
+  -- a module's data change, its failed names do not, and these tasks follow
+  noted_footprint : (f : ModuleState → ModuleState) → ((d : ModuleState) → IsClean d → IsClean (f d)) → (tasks : List Task)
+      → ((targets : Targets) → IsOwn (noted_in s scope f).map scope → AreOwnTasks (noted_in s scope f).map targets tasks) → ArePlain tasks → Footprint s scope (followed_by (noted_in s scope f) tasks)
+  noted_footprint f clean tasks own plain =
+      map_footprint (noted_in s scope f) tasks refl refl refl (larger_with_module s.map scope.index f) (λ none. none_failed-with_module s.map scope.index f clean none) own plain
+
   -- a module is added, in a state with the same map
   added_footprint : (r : State) (name : Name) (vis : Visibility) (o : ModuleOrigin) (contents : List Task) → r.content ≡ s.content → r.targets ≡ s.targets → r.imports ≡ s.imports → r.map ≡ s.map
-      → ((targets : Targets) → IsOwn (add_module r scope name vis o).map (next_module r) → AreOwnTasks (add_module r scope name vis o).map targets contents) → ArePlain contents
+      → ((targets : Targets) → IsOwn (add_module r scope name vis o).map scope → IsOwn (add_module r scope name vis o).map (next_module r) → AreOwnTasks (add_module r scope name vis o).map targets contents)
+      → ArePlain contents
       → Footprint s scope (followed_by (add_module r scope name vis o) (put_declared scope name Types (def.Module (next_module r)) vis ∷ contents))
   added_footprint r name vis o contents content targets imports map own plain =
       record {
@@ -118,9 +137,22 @@ module _ (s : State) (scope : ModuleId) where
         none_failed = λ none. none_failed-add_module r scope name vis o (subst NoneFailed (sym map) none);
         imports = subst (λ q. AddsNew s.imports q) (sym imports) (none_added s.imports);
         at = λ d h. inl (subst (λ q. Contains q d) imports h);
-        tasks = λ targets even at. (put_own (add_module r scope name vis o).map scope targets None refl at, own targets (own_next r scope name vis o (subst (λ (m : MapState). length m.parents ≡ length m.modules) (sym map) even)));
+        tasks = λ targets even at. (put_own (add_module r scope name vis o).map scope targets None refl at, own targets at (own_next r scope name vis o (subst (λ (m : MapState). length m.parents ≡ length m.modules) (sym map) even)));
         plain = (refl, plain);
       }
+
+-- the textual macros of a module are brought into another
+pub bring_footprint : (s : State) (from into : ModuleId) → Footprint s into (only (noted_in s into (brought (textual_at s.map from.index))))
+bring_footprint s from into = noted_footprint s into (brought (textual_at s.map from.index)) (λ d h. h) [] (λ targets own. tt) tt
+
+-- what is done behind the contents of a module
+bring_own : (m : MapState) (targets : Targets) (brings : Bool) (from into : ModuleId) → IsOwn m into → AreOwnTasks m targets (bring_if brings from into)
+bring_own m targets true from into own = ((own, tt), tt)
+bring_own m targets false from into own = tt
+
+bring_plain : (brings : Bool) (from into : ModuleId) → ArePlain (bring_if brings from into)
+bring_plain true from into = (tt, tt)
+bring_plain false from into = tt
 
 -- Rules
 
@@ -131,30 +163,39 @@ found_footprint oracle s site item name vis found (Some cfg) =
 found_footprint oracle s site item name vis found None =
     let o : ModuleOrigin = origin.File item.ast_id site.tree found.0 found.1 in
     let inner : Site = inner_site s site (file_tree found) found.2 in
-    added_footprint s site.scope s name vis o (walk oracle inner (top_items oracle (file_tree found))) refl refl refl refl
-    (λ targets own. own_walk oracle (add_module s site.scope name vis o).map targets inner (top_items oracle (file_tree found)) own) (plain_walk oracle inner (top_items oracle (file_tree found)))
+    let first : List Task = walk oracle inner (top_items oracle (file_tree found)) in
+    let brings : Bool = is_macro_use (attrs_of item.attrs) || is_macro_use (tree_attrs oracle (file_tree found)) in
+    let last : List Task = bring_if brings (next_module s) site.scope in
+    let m : MapState = (add_module s site.scope name vis o).map in
+    added_footprint s site.scope s name vis o (first ++ last) refl refl refl refl
+    (λ targets at own. own_both m targets first last (own_walk oracle m targets inner (top_items oracle (file_tree found)) own) (bring_own m targets brings (next_module s) site.scope at))
+    (plain_both first last (plain_walk oracle inner (top_items oracle (file_tree found))) (bring_plain brings (next_module s) site.scope))
 
 outline_footprint : (oracle : Oracle) (s : State) (site : Site) (item : ItemNode) (name : Name) (vis : Visibility) (found : Result FoundFile (List (List ℕ))) → Footprint s site.scope (outline_item oracle s site item name vis found)
 outline_footprint oracle s site item name vis (Ok found) = found_footprint oracle s site item name vis found (tree_cfg oracle (file_tree found))
 outline_footprint oracle s site item name vis (Err files) =
-    added_footprint s site.scope (reported s (diagnostic site item (UnresolvedModule files))) name vis _ [] refl refl refl refl (λ targets own. tt) tt
+    added_footprint s site.scope (reported s (diagnostic site item (UnresolvedModule files))) name vis _ [] refl refl refl refl (λ targets at own. tt) tt
 
 module _ (oracle : Oracle) (s : State) (site : Site) where
-  inline_own : (r : MapState) (children : List ModItemId) (directory : Option Directory) (targets : Targets) → IsOwn r (next_module s) → AreOwnTasks r targets (inline_contents oracle s site children directory)
-  inline_own r children None targets own = tt
-  inline_own r children (Some directory) targets own = own_walk oracle r targets (inner_site s site site.tree directory) children own
+  inline_own : (r : MapState) (brings : Bool) (children : List ModItemId) (directory : Option Directory) (targets : Targets) → IsOwn r site.scope → IsOwn r (next_module s)
+      → AreOwnTasks r targets (inline_contents oracle s site brings children directory)
+  inline_own r brings children None targets at own = tt
+  inline_own r brings children (Some directory) targets at own =
+      own_both r targets (walk oracle (inner_site s site site.tree directory) children) _ (own_walk oracle r targets (inner_site s site site.tree directory) children own) (bring_own r targets brings (next_module s) site.scope at)
 
-  inline_plain : (children : List ModItemId) (directory : Option Directory) → ArePlain (inline_contents oracle s site children directory)
-  inline_plain children None = tt
-  inline_plain children (Some directory) = plain_walk oracle (inner_site s site site.tree directory) children
+  inline_plain : (brings : Bool) (children : List ModItemId) (directory : Option Directory) → ArePlain (inline_contents oracle s site brings children directory)
+  inline_plain brings children None = tt
+  inline_plain brings children (Some directory) =
+      plain_both (walk oracle (inner_site s site site.tree directory) children) _ (plain_walk oracle (inner_site s site site.tree directory) children) (bring_plain brings (next_module s) site.scope)
 
   module _ (item : ItemNode) where
     contents_footprint : (name : Name) (vis : Visibility) (contents : ModContents) → Footprint s site.scope (module_item oracle s site item name vis contents)
     contents_footprint name vis (Inline children) =
         let o : ModuleOrigin = origin.Inline item.ast_id site.tree in
         let below : Option Directory = descend site.directory (name_text s.session name) (path_attr item.attrs) in
-        added_footprint s site.scope s name vis o (inline_contents oracle s site children below) refl refl refl refl
-        (λ targets own. inline_own (add_module s site.scope name vis o).map children below targets own) (inline_plain children below)
+        let brings : Bool = is_macro_use (attrs_of item.attrs) in
+        added_footprint s site.scope s name vis o (inline_contents oracle s site brings children below) refl refl refl refl
+        (λ targets at own. inline_own (add_module s site.scope name vis o).map brings children below targets at own) (inline_plain brings children below)
     contents_footprint name vis Outline = outline_footprint oracle s site item name vis _
 
     ctor_own : (m : MapState) (targets : Targets) (name : Name) (d : Def) (vis : Visibility) (ctor : Option Visibility) → IsOwn m site.scope → AreOwnTasks m targets (ctor_task s site.scope name d vis ctor)
@@ -174,16 +215,16 @@ module _ (oracle : Oracle) (s : State) (site : Site) where
         ]
 
     -- an extern crate is put by its name, or its name is remembered
-    crate_footprint : (id : ExternCrateId) (name : Option Name) (vis : Visibility) (found : Option ModuleId) → Footprint s site.scope (crate_effect (noted_in s site.scope (with_extern_crate id)) site item id name vis found)
-    crate_footprint id None vis None = same_footprint (noted_footprint s site.scope (with_extern_crate id) (λ d h. h) [] (λ targets own. tt) tt)
+    crate_footprint : (id : ExternCrateId) (name : Option Name) (vis : Visibility) (taken : List (Name × MacroId)) (found : Option ModuleId) → Footprint s site.scope (crate_effect (noted_in s site.scope (with_extern_crate id)) site item id name vis taken found)
+    crate_footprint id None vis taken None = same_footprint (noted_footprint s site.scope (with_extern_crate id) (λ d h. h) [] (λ targets own. tt) tt)
       where
-        same_footprint : Footprint s site.scope (only (noted_in s site.scope (with_extern_crate id))) → Footprint s site.scope (crate_effect (noted_in s site.scope (with_extern_crate id)) site item id None vis None)
+        same_footprint : Footprint s site.scope (only (noted_in s site.scope (with_extern_crate id))) → Footprint s site.scope (crate_effect (noted_in s site.scope (with_extern_crate id)) site item id None vis taken None)
         same_footprint f = record { content = f.content; targets = f.targets; events = f.events; larger = f.larger; none_failed = f.none_failed; imports = f.imports; at = f.at; tasks = f.tasks; plain = f.plain }
-    crate_footprint id (Some name) vis None = same_footprint (noted_footprint s site.scope (with_extern_crate id) (λ d h. h) [] (λ targets own. tt) tt)
+    crate_footprint id (Some name) vis taken None = same_footprint (noted_footprint s site.scope (with_extern_crate id) (λ d h. h) [] (λ targets own. tt) tt)
       where
-        same_footprint : Footprint s site.scope (only (noted_in s site.scope (with_extern_crate id))) → Footprint s site.scope (crate_effect (noted_in s site.scope (with_extern_crate id)) site item id (Some name) vis None)
+        same_footprint : Footprint s site.scope (only (noted_in s site.scope (with_extern_crate id))) → Footprint s site.scope (crate_effect (noted_in s site.scope (with_extern_crate id)) site item id (Some name) vis taken None)
         same_footprint f = record { content = f.content; targets = f.targets; events = f.events; larger = f.larger; none_failed = f.none_failed; imports = f.imports; at = f.at; tasks = f.tasks; plain = f.plain }
-    crate_footprint id name vis (Some root) = named (is_crate_root site.scope)
+    crate_footprint id name vis taken (Some root) = named (is_crate_root site.scope)
       where
         t : State
         t = noted_in s site.scope (with_extern_crate id)
@@ -194,9 +235,60 @@ module _ (oracle : Oracle) (s : State) (site : Site) where
         f : Footprint s site.scope (followed_by t put)
         f = noted_footprint s site.scope (with_extern_crate id) (λ d h. h) put (λ targets own. (put_own t.map site.scope targets (Some (ByCrate id)) refl own, tt)) (refl, tt)
 
-        named : (is : Bool) → Footprint s site.scope (followed_by (naming_crate is name (record { root = root; by = Some id }) t) put)
+        named : (is : Bool) → Footprint s site.scope (followed_by (taking_macros is taken (naming_crate is name (record { root = root; by = Some id }) t)) put)
         named false = f
-        named true = record { content = f.content; targets = f.targets; events = f.events; larger = f.larger; none_failed = f.none_failed; imports = f.imports; at = f.at; tasks = f.tasks; plain = f.plain }
+        named true =
+            let u : State = taking_macros true taken (naming_crate true name (record { root = root; by = Some id }) t) in
+            map_footprint s site.scope u put refl refl refl (larger_trans s.map t.map u.map f.larger (larger_taking taken t.map)) (λ none. none_failed-taking taken t.map (f.none_failed none))
+            (λ targets own. (put_own u.map site.scope targets (Some (ByCrate id)) refl own, tt)) (refl, tt)
+
+    -- a macro that is no builtin after all is reported
+    told_is : (expander : MacroExpander) → (told : List DefDiagnostic) × (unimplemented_reported s site item expander ≡ record s { diagnostics = told })
+    told_is UnimplementedBuiltIn = (s.diagnostics ++ diagnostic site item UnimplementedBuiltinMacro ∷ [], refl)
+    told_is (Declarative styles) = (s.diagnostics, refl)
+    told_is (BuiltIn n) = (s.diagnostics, refl)
+    told_is (BuiltInEager n) = (s.diagnostics, refl)
+    told_is (BuiltInAttr attr) = (s.diagnostics, refl)
+    told_is (BuiltInDerive n) = (s.diagnostics, refl)
+
+    module _ (id : MacroId) where
+      -- a macro by rules is defined, and declared in the root where it is exported
+      export_footprint : (name : Name) (told : List DefDiagnostic) (exported : Bool) → Footprint s site.scope (export_effect (textual_state (record s { diagnostics = told }) site item name id) exported name id)
+      export_footprint name told exported = by exported
+        where
+          t : State
+          t = textual_state (record s { diagnostics = told }) site item name id
+
+          noted : MapState
+          noted = with_module s.map site.scope.index (with_textual name id)
+
+          larger : IsLarger s.map t.map
+          larger = larger_trans s.map noted t.map (larger_with_module s.map site.scope.index (with_textual name id)) (larger_same noted t.map refl refl refl refl)
+
+          clean : NoneFailed s.map → NoneFailed t.map
+          clean none = none_failed-with_module s.map site.scope.index (with_textual name id) (λ d h. h) none
+
+          by : (is : Bool) → Footprint s site.scope (export_effect t is name id)
+          by false = map_footprint s site.scope t [] refl refl refl larger clean (λ targets own. tt) tt
+          by true =
+              let u : State = declare t (root t.map) (def.Macro id) in
+              map_footprint s site.scope u (put_declared (root t.map) name Macros (def.Macro id) Public ∷ []) refl refl refl
+              (larger_trans s.map t.map u.map larger (larger_with_module t.map 0 (declared_in (def.Macro id)))) (λ none. none_failed-with_module t.map 0 (declared_in (def.Macro id)) (λ d h. h) (clean none))
+              (λ targets own. (put_own u.map (root t.map) targets None refl (own_root u.map site.scope own), tt)) (refl, tt)
+
+      -- a `macro` item is defined and declared
+      item_footprint : (name : Name) (vis : Visibility) (expander : MacroExpander) (told : List DefDiagnostic)
+          → Footprint s site.scope (declared_effect (item_state (record s { diagnostics = told }) site item expander id) site.scope name Macros (def.Macro id) vis)
+      item_footprint name vis expander told =
+          let in_block : Bool = is_some s.map.id.block in
+          let read : Option NameAndHelpers = listed_helpers item expander in
+          let shown : MapState = showing_helpers in_block id read s.map in
+          let t : State = item_state (record s { diagnostics = told }) site item expander id in
+          let u : State = declare t site.scope (def.Macro id) in
+          map_footprint s site.scope u (put_declared site.scope name Macros (def.Macro id) vis ∷ []) refl refl refl
+          (larger_trans s.map t.map u.map (larger_trans s.map shown t.map (larger_showing in_block id read s.map) (larger_same shown t.map refl refl refl refl)) (larger_with_module t.map site.scope.index (declared_in (def.Macro id))))
+          (λ none. none_failed-with_module t.map site.scope.index (declared_in (def.Macro id)) (λ d h. h) (none_failed-showing_helpers in_block id read s.map none))
+          (λ targets own. (put_own u.map site.scope targets None refl own, tt)) (refl, tt)
 
     -- what each rule does
     follows_footprint : (rule : Rule) (effect : Effect) → Follows oracle s site item rule effect → Footprint s site.scope effect
@@ -233,11 +325,25 @@ module _ (oracle : Oracle) (s : State) (site : Site) where
           tasks = f.tasks;
           plain = f.plain;
         })
-    follows_footprint (binds_crate name raw alias) effect does = known_footprint s site.scope effect _ does.2 (crate_footprint (record { 0 = does.0 }) (crate_name name alias) (written_vis oracle s site.scope raw) (named_crate s name))
+    follows_footprint (binds_crate name raw alias) effect does = known_footprint s site.scope effect _ does.2
+        (crate_footprint (record { 0 = does.0 }) (crate_name name alias) (written_vis oracle s site.scope raw) (macros_brought oracle s item name (named_crate s name)) (named_crate s name))
     follows_footprint (notes_impl of_trait) effect does =
         known_footprint s site.scope effect _ does.2 (noted_footprint s site.scope (with_impl (record { 0 = does.0 }) of_trait) (λ d h. h) [] (λ targets own. tt) tt)
     follows_footprint notes_const effect does =
         known_footprint s site.scope effect _ does.2 (noted_footprint s site.scope (with_unnamed_const (record { 0 = does.0 })) (λ d h. h) [] (λ targets own. tt) tt)
+    follows_footprint (defines_rules name) effect does =
+        let defined : MacroId = macro_of.MacroRules (record { 0 = does.0 }) in
+        let exported : Bool = has_attr macro_export_name (attrs_of item.attrs) in
+        let told = told_is (rules_expander oracle s.map.id.krate site item does.1) in
+        known_footprint s site.scope effect _ does.4
+        (subst (λ t. Footprint s site.scope (export_effect (textual_state t site item name defined) exported name defined)) (sym told.1) (export_footprint defined name told.0 exported))
+    follows_footprint (defines_macro name raw) effect does =
+        let defined : MacroId = macro_of.Macro2 (record { 0 = does.0 }) in
+        let expander : MacroExpander = item_expander oracle s.map.id.krate site item name in
+        let vis : Visibility = written_vis oracle s site.scope raw in
+        let told = told_is expander in
+        known_footprint s site.scope effect _ does.2
+        (subst (λ t. Footprint s site.scope (declared_effect (item_state t site item expander defined) site.scope name Macros (def.Macro defined) vis)) (sym told.1) (item_footprint defined name vis expander told.0))
 
 node_footprint : (oracle : Oracle) (s : State) (site : Site) (id : ModItemId) (item : ItemNode) (cfg : Option CfgExpr) (effect : Effect) → VisitsNode oracle s site id item cfg effect → Footprint s site.scope effect
 node_footprint oracle s site id item (Some cfg) effect does =

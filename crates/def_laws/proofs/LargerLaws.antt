@@ -4,18 +4,20 @@ use Rattle.std.specs.Prelude.{nat_lt}
 use Rattle.std.specs.Option.{option_and_then}
 use Rattle.std.proofs.lemmas.Bool.{ltb-true}
 use Rattle.item_tree.specs.declared.name.Name.{Name}
+use Rattle.def_ids.specs.declared.ids.MacroId.{MacroId}
 use Rattle.def_ids.specs.declared.ids.ModuleId.{ModuleId}
 use Rattle.def_bindings.specs.declared.visibility.Visibility.{Visibility}
 use Rattle.def_bindings.specs.Tree.{AreParentsLower}
 use Rattle.def_modules.specs.declared.module_data.ModuleOrigin.{ModuleOrigin}
 use Rattle.def_modules.specs.MapState.{MapState, ModuleState}
-use Rattle.def_modules.specs.Maps.{known_parent, pushed, with_module}
-use Rattle.def_modules.specs.Scopes.{empty_module}
+use Rattle.def_modules.specs.Maps.{known_parent, pushed, with_macro_use, with_module}
 use Rattle.def_modules.specs.Updates.{update_at}
+use Rattle.def_parts.specs.ProcMacros.{NameAndHelpers}
 use Rattle.def_laws.specs.Own.{IsOwn}
+use Rattle.def_rules.specs.Macros.{showing_helpers, taking}
 use Rattle.def_rules.specs.Recording.{with_new_prelude}
-use Rattle.def_rules.specs.Modules.{add_module, next_module}
-use Rattle.def_rules.specs.State.{State}
+use Rattle.def_rules.specs.Modules.{add_module, fresh_module, next_module}
+use Rattle.def_rules.specs.State.{State, root}
 use Rattle.def_laws.proofs.SoundLaws.{IsLarger}
 
 length-update_at : {X : Type 0} (xs : List X) (i : ℕ) (f : X → X) → length (update_at xs i f) ≡ length xs
@@ -33,11 +35,22 @@ last_cases (z ∷ xs) y x (suc i) h = elim (last_cases xs y x i h) [ inl old ↦
 pub larger_refl : (m : MapState) → IsLarger m m
 larger_refl m = record { id = refl; containing = refl; more = []; parents = sym (append-nil m.parents); even = λ even. even; lower = λ lower. lower }
 
+-- a map that differs in nothing that is said of its modules is no smaller
+pub larger_same : (m m' : MapState) → m'.id ≡ m.id → m'.containing ≡ m.containing → m'.parents ≡ m.parents → m'.modules ≡ m.modules → IsLarger m m'
+larger_same m m' id containing parents modules = record {
+  id = id;
+  containing = containing;
+  more = [];
+  parents = parents ∙ sym (append-nil m.parents);
+  even = λ even. ap length parents ∙ even ∙ sym (ap length modules);
+  lower = λ lower. subst AreParentsLower (sym parents) lower;
+}
+
 -- a map with another prelude has the same modules
 pub larger_prelude : (made : Option ModuleId) (m : MapState) → IsLarger m (with_new_prelude made m)
-larger_prelude made m = record { id = refl; containing = refl; more = []; parents = sym (append-nil m.parents); even = λ even. even; lower = λ lower. lower }
+larger_prelude made m = larger_same m (with_new_prelude made m) refl refl refl refl
 
-larger_trans : (a b c : MapState) → IsLarger a b → IsLarger b c → IsLarger a c
+pub larger_trans : (a b c : MapState) → IsLarger a b → IsLarger b c → IsLarger a c
 larger_trans a b c p q =
     record {
       id = q.id ∙ p.id;
@@ -86,7 +99,7 @@ larger_pushed m parent d =
 
 pub larger_add_module : (s : State) (at : ModuleId) (name : Name) (vis : Visibility) (o : ModuleOrigin) → IsLarger s.map (add_module s at name vis o).map
 larger_add_module s at name vis o =
-    larger_trans s.map _ _ (larger_pushed s.map at.index (empty_module (Some name) o vis)) (larger_trans _ _ _ (larger_with_module _ at.index _) (larger_with_module _ at.index _))
+    larger_trans s.map _ _ (larger_pushed s.map at.index (fresh_module s.map at.index name vis o)) (larger_trans _ _ _ (larger_with_module _ at.index _) (larger_with_module _ at.index _))
 
 -- a module of a map is one of a larger map
 pub own_larger : (m m' : MapState) (at : ModuleId) → IsLarger m m' → IsOwn m at → IsOwn m' at
@@ -94,6 +107,23 @@ own_larger m m' at larger own =
     let long : length m'.parents ≡ length m.parents + length larger.more = ap length larger.parents ∙ length-append m.parents larger.more in
     let below : at.index < length m.parents = own.1 in
     (own.0 ∙ sym larger.id, omega arith)
+
+-- where a module is of a map, the root is
+pub own_root : (m : MapState) (at : ModuleId) → IsOwn m at → IsOwn m (root m)
+own_root m at own = let below : at.index < length m.parents = own.1 in (refl, omega arith)
+
+-- macros that are taken add no module
+pub larger_taking : (brought : List (Name × MacroId)) (m : MapState) → IsLarger m (taking brought m)
+larger_taking [] m = larger_refl m
+larger_taking (one ∷ rest) m =
+    let first : MapState = with_macro_use m one.0 one.1 in
+    larger_trans m first (taking rest first) (larger_same m first refl refl refl refl) (larger_taking rest first)
+
+-- nor do helpers that are exported
+pub larger_showing : (in_block : Bool) (id : MacroId) (read : Option NameAndHelpers) (m : MapState) → IsLarger m (showing_helpers in_block id read m)
+larger_showing in_block id None m = larger_refl m
+larger_showing true id (Some read) m = larger_refl m
+larger_showing false id (Some read) m = larger_same m (showing_helpers false id (Some read) m) refl refl refl refl
 
 pub own_next : (s : State) (at : ModuleId) (name : Name) (vis : Visibility) (o : ModuleOrigin) → length s.map.parents ≡ length s.map.modules → IsOwn (add_module s at name vis o).map (next_module s)
 own_next s at name vis o even =

@@ -8,11 +8,11 @@ use Rattle.def_bindings.specs.Content.{Content}
 use Rattle.def_oracle.specs.Oracle.{Oracle}
 use Rattle.def_globs.specs.Globs.{with_recorded}
 use Rattle.def_rules.specs.Recording.{ImportStep}
-use Rattle.def_rules.specs.State.{State, Effect, Moment, Rearranges, Task, Enter, Visit, Put, AddEdge, after, only, order, with_content, with_state}
+use Rattle.def_rules.specs.State.{State, Effect, Moment, Rearranges, Task, Enter, Visit, Put, Bring, AddEdge, after, only, order, with_content, with_state}
 use Rattle.def_rules.specs.Steps.{Copies, Does, Step, performs, copies, rearranges, records, put_effect}
 use Rattle.def_laws.specs.Own.{IsOwn, Stands}
 use Rattle.def_laws.specs.Roles.{does_more, is_still, place_of, role_of}
-use Rattle.def_laws.proofs.FootprintLaws.{Footprint, enter_footprint, visits_footprint}
+use Rattle.def_laws.proofs.FootprintLaws.{Footprint, bring_footprint, enter_footprint, visits_footprint}
 
 -- tasks that leave the table as it is
 abbrev pub AreStill : List Task → Type 0
@@ -46,6 +46,8 @@ module _ {oracle : Oracle} (a b : Moment) where
   move_by (AddEdge source edge) rest effect first does is = linking source edge rest first (is ∙ ap (after a rest) does)
   move_by (Enter at directory) rest effect first does is =
       doing (Enter at directory ∷ []) rest at _ first (refl, tt) (λ none. cc) (first_own a (Enter at directory) rest first) (enter_footprint a.state at directory) (is ∙ ap (after a rest) does)
+  move_by (Bring from into) rest effect first does is =
+      doing (Bring from into ∷ []) rest into _ first (refl, tt) (λ none. cc) (first_own a (Bring from into) rest first) (bring_footprint a.state from into) (is ∙ ap (after a rest) does)
   move_by (Visit site id) rest effect first does is =
       doing (Visit site id ∷ []) rest site.scope effect first (refl, tt) (λ none. cc) (first_own a (Visit site id) rest first) (visits_footprint oracle a.state site id effect does) is
 

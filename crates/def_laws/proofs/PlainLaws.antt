@@ -33,6 +33,11 @@ plain_first (task ∷ xs) ys h = (h.0, plain_first xs ys h.1)
 pub explicit_by : (origin : Origin) (g : GlobId) → IsExplicit origin → origin ≡ Some (Glob g) → ⊥
 explicit_by origin g explicit by = let wrong : None ≡ Some g = sym explicit ∙ ap glob_of by in cc
 
+-- tasks of which each is plain, one list behind another
+pub plain_both : (xs ys : List Task) → ArePlain xs → ArePlain ys → ArePlain (xs ++ ys)
+plain_both [] ys h k = k
+plain_both (task ∷ xs) ys h k = (h.0, plain_both xs ys h.1 k)
+
 -- and need no edge
 pub plain_followed : (T : GlobId → Option ModuleId) (tasks : List Task) → ArePlain tasks → AreFollowed T tasks
 plain_followed T [] h = tt

@@ -10,6 +10,8 @@ use Rattle.def_bindings.specs.declared.bindings.Slot.{Slot}
 use Rattle.def_bindings.specs.declared.visibility.Visibility.{Visibility}
 use Rattle.def_bindings.specs.Content.{Content}
 use Rattle.def_bindings.specs.Order.{Order}
+use Rattle.def_modules.specs.Maps.{textual_at}
+use Rattle.def_modules.specs.Scopes.{brought}
 use Rattle.def_oracle.specs.Oracle.{Oracle}
 use Rattle.def_parts.specs.Directories.{Directory}
 use Rattle.def_globs.specs.Raised.{IsRaisedAt}
@@ -20,13 +22,14 @@ use Rattle.def_rules.specs.Targets.{leaves_out, target_of}
 use Rattle.def_laws.specs.Travels.{Travels}
 use Rattle.def_laws.specs.Performs.{Handled, IsDone, Performs, Updated}
 use Rattle.def_rules.specs.Recording.{ImportStep}
-use Rattle.def_rules.specs.Items.{diagnostic, node_at}
+use Rattle.def_rules.specs.Items.{diagnostic, node_at, noted_in}
 use Rattle.def_rules.specs.Rules.{VisitsAt, VisitsNode}
-use Rattle.def_rules.specs.State.{State, Effect, Site, Task, Enter, Visit, Rearranges, entered, only, order, put_each, reported, with_content}
+use Rattle.def_rules.specs.State.{State, Effect, Site, Task, Bring, Enter, Visit, Rearranges, entered, only, order, put_each, reported, with_content}
 use Rattle.def_rules.specs.Steps.{Does, one, rearranges, records}
 use Rattle.def_laws.specs.Runs.{Leads}
 use Rattle.def_laws.proofs.ApartLaws.{apart_along}
 use Rattle.def_laws.proofs.FootprintLaws.{visits_footprint}
+use Rattle.def_laws.proofs.LargerLaws.{larger_with_module}
 use Rattle.def_laws.proofs.PlainLaws.{ArePlain, plain_first, plain_followed}
 use Rattle.def_laws.proofs.SoundLaws.{sound_larger, sound_wave}
 use Rattle.def_laws.proofs.StandsLaws.{import_sound, stands_along, stands_first}
@@ -136,6 +139,16 @@ module _ {oracle : Oracle} where
     keeps = λ stands sound. sound;
     raised = λ apart stands sound before importer slot kept raised. raised;
   }
+
+  -- textual macros are brought into another module
+  pub leads_bring : (from into : ModuleId) (rest : List Task) (s : State) → Leads oracle (Bring from into ∷ rest) s rest (noted_in s into (brought (textual_at s.map from.index)))
+  leads_bring from into rest s =
+      let t : State = noted_in s into (brought (textual_at s.map from.index)) in
+      record {
+        runs = runs_task (Bring from into) rest s (only t) refl;
+        keeps = λ stands sound. sound_larger stands.state sound (larger_with_module s.map into.index (brought (textual_at s.map from.index)));
+        raised = λ apart stands sound before importer slot kept raised. raised;
+      }
 
   -- a visit is followed by its puts, down to the inner tasks
   leads_done : (site : Site) (id : ModItemId) (rest : List Task) (s t : State) (effect : Effect) (inner : List Task) → Does oracle s (Visit site id) effect → IsDone oracle effect t inner → Leads oracle (Visit site id ∷ rest) s (inner ++ rest) t

@@ -1,5 +1,5 @@
 -- What an item opens is less work than the item.
-use Rattle.std.proofs.Common.{◌≡◌, ◌<◌, ◌≤◌, ◌+◌, ◌*◌, ◌^◌, ℕ, zero, suc, Bool, true, false, cond, not, List, [], ◌∷◌, ◌++◌, filter, length, length-append, get_or, slice_get, option_and_then, All, Option, Some, None, Result, Ok, Err, refl, sym, ap, subst, ◌∙◌, arith}
+use Rattle.std.proofs.Common.{◌≡◌, ◌<◌, ◌≤◌, ◌+◌, ◌*◌, ◌^◌, ℕ, zero, suc, Bool, true, false, cond, not, ◌||◌, List, [], ◌∷◌, ◌++◌, filter, length, length-append, get_or, slice_get, option_and_then, All, Option, Some, None, Result, Ok, Err, refl, sym, ap, subst, ◌∙◌, arith}
 use Rattle.std.proofs.Math.Nat.{mul-le-mul_right, one-le-pow, pow-le-pow_right, pow-succ'}
 use Rattle.std.proofs.lemmas.List.Elements.{All-append, All-filter, All-head, All-tail}
 use Rattle.std.proofs.lemmas.List.Filters.{length-filter_both}
@@ -15,21 +15,27 @@ use Rattle.item_tree.specs.declared.items.ModItemKind.{ModItemKind}
 use Rattle.item_tree.specs.declared.items.ModItemKind.TheVariants.{Const, ExternBlock}
 use Rattle.item_tree.specs.declared.name.Name.{Name}
 use Rattle.item_tree.specs.declared.tree.ItemTree.{ItemTree}
-use Rattle.item_tree.specs.Attrs.{path_attr}
+use Rattle.item_tree.specs.Attrs.{attrs_of, has_attr, path_attr}
+use Rattle.item_tree.specs.KnownNames.{macro_export_name}
 use Rattle.item_tree.specs.Trees.{children_of_kind}
 use Rattle.item_tree.specs.TreesLaws.{child_after}
 use Rattle.def_ids.specs.declared.ids.Def.{Def}
 use Rattle.def_ids.specs.declared.ids.ExternCrateId.{ExternCrateId}
 use Rattle.def_ids.specs.declared.ids.ItemContainerId.TheVariants as contained
+use Rattle.def_ids.specs.declared.ids.MacroId.{MacroId}
+use Rattle.def_ids.specs.declared.ids.MacroId.TheVariants as macro_of
 use Rattle.def_ids.specs.declared.ids.ModuleId.{ModuleId}
+use Rattle.def_ids.specs.declared.macro_def.MacroExpander.{MacroExpander}
 use Rattle.def_bindings.specs.declared.visibility.Visibility.{Visibility}
 use Rattle.def_modules.specs.Scopes.{with_extern_crate}
 use Rattle.def_oracle.specs.Oracle.{Oracle}
 use Rattle.def_parts.specs.Directories.{Directory, FoundFile, descend, files_of, resolve_declaration}
+use Rattle.def_rules.specs.Crates.{tree_attrs}
 use Rattle.def_rules.specs.ExternCrates.{crate_effect, crate_name, named_crate}
 use Rattle.def_rules.specs.Items.{crates_first, ctor_task, is_crate_root, names_crate, node_at, noted_in, ordered, top_items, tree_cfg, visits, walk, written_vis}
-use Rattle.def_rules.specs.Modules.{file_tree, inline_contents, inner_site, module_item, name_text, outline_found, outline_item}
-use Rattle.def_rules.specs.Rules.{Rule, Follows, rule_of, declares, declares_struct, opens_module, opens_block, queues, binds_crate, notes_impl, notes_const}
+use Rattle.def_rules.specs.Macros.{export_effect, macros_brought, rules_expander, textual_state, unimplemented_reported}
+use Rattle.def_rules.specs.Modules.{bring_if, file_tree, inline_contents, inner_site, is_macro_use, module_item, name_text, next_module, outline_found, outline_item}
+use Rattle.def_rules.specs.Rules.{Rule, Follows, rule_of, declares, declares_struct, opens_module, opens_block, queues, binds_crate, notes_impl, notes_const, defines_rules, defines_macro}
 use Rattle.def_rules.specs.State.{State, Effect, Site, Task, Visit}
 use Rattle.def_laws.specs.Performs.{Handled}
 use Rattle.def_laws.specs.Work.{AreBelow, IsBelow, rank, rank_of, rank_work, task_work, weight, work}
@@ -59,11 +65,11 @@ work_below r (task ∷ tasks) below =
     by_rank None lower = omega arith
     by_rank (Some n) lower = lighter n r lower
 
--- at most 2^64 tasks below a rank weigh less than a visit of that rank
-few_below : (r : ℕ) (tasks : List Task) → AreBelow r tasks → length tasks ≤ 2 ^ 64 → 1 + work tasks < weight r
+-- some 2^64 tasks below a rank weigh less than a visit of that rank
+few_below : (r : ℕ) (tasks : List Task) → AreBelow r tasks → length tasks ≤ 2 ^ 64 + 1 → 1 + work tasks < weight r
 few_below r tasks below few =
     let all = work_below r tasks below in
-    let most : length tasks * (2 ^ 65) ^ r ≤ (2 ^ 64) * (2 ^ 65) ^ r = mul-le-mul_right ((2 ^ 65) ^ r) few in
+    let most : length tasks * (2 ^ 65) ^ r ≤ (2 ^ 64 + 1) * (2 ^ 65) ^ r = mul-le-mul_right ((2 ^ 65) ^ r) few in
     let one = one-le-pow r (2 ^ 65) (omega arith) in
     let whole = weight_is r in
     omega (arith, all, most, one, whole)
@@ -112,6 +118,15 @@ below_last : (r : ℕ) (xs ys : List Task) → AreBelow r (xs ++ ys) → AreBelo
 below_last r [] ys below = below
 below_last r (task ∷ xs) ys below = below_last r xs ys below.1
 
+-- tasks below a rank, one list behind another
+below_both : (r : ℕ) (xs ys : List Task) → AreBelow r xs → AreBelow r ys → AreBelow r (xs ++ ys)
+below_both r [] ys h k = k
+below_both r (task ∷ xs) ys h k = (h.0, below_both r xs ys h.1 k)
+
+bring_below : (r : ℕ) (brings : Bool) (from into : ModuleId) → AreBelow r (bring_if brings from into)
+bring_below r true from into = (tt, tt)
+bring_below r false from into = tt
+
 -- the items of an extern block by its rule
 abbrev block_items : Rule → List ModItemId
 block_items (opens_block children) = children
@@ -143,13 +158,18 @@ module _ (oracle : Oracle) (s : State) (site : Site) (id : ModItemId) (item : It
       walk_below oracle (rank site id) (inner_site s site tree below) ids (λ k d place. omega (arith, within, deeper))
 
   module _ (name : Name) (vis : Visibility) where
-    inline_below : (children : List ModItemId) (found : Option Directory) → ((below : Directory) → found ≡ Some below → IsDeeper site.directory below) → AreBelow (rank site id) (inline_contents oracle s site children found)
-    inline_below children None deeper = tt
-    inline_below children (Some below) deeper = deeper_below site.tree below children (deeper below refl)
+    inline_below : (brings : Bool) (children : List ModItemId) (found : Option Directory) → ((below : Directory) → found ≡ Some below → IsDeeper site.directory below) → AreBelow (rank site id) (inline_contents oracle s site brings children found)
+    inline_below brings children None deeper = tt
+    inline_below brings children (Some below) deeper =
+        below_both (rank site id) (walk oracle (inner_site s site site.tree below) children) _ (deeper_below site.tree below children (deeper below refl)) (bring_below (rank site id) brings (next_module s) site.scope)
 
     found_below : (found : FoundFile) (cfg : Option CfgExpr) → IsDeeper site.directory found.2 → AreBelow (rank site id) (outline_found oracle s site item name vis found cfg).tasks
     found_below found (Some cfg) deeper = tt
-    found_below found None deeper = (tt, deeper_below (file_tree found) found.2 (top_items oracle (file_tree found)) deeper)
+    found_below found None deeper =
+        (tt,
+        below_both (rank site id) (walk oracle (inner_site s site (file_tree found) found.2) (top_items oracle (file_tree found))) _
+        (deeper_below (file_tree found) found.2 (top_items oracle (file_tree found)) deeper)
+        (bring_below (rank site id) (is_macro_use (attrs_of item.attrs) || is_macro_use (tree_attrs oracle (file_tree found))) (next_module s) site.scope))
 
     outline_below : (found : Result FoundFile (List (List ℕ))) → ((file : FoundFile) → found ≡ Ok file → IsDeeper site.directory file.2) → AreBelow (rank site id) (outline_item oracle s site item name vis found).tasks
     outline_below (Ok found) deeper = found_below found (tree_cfg oracle (file_tree found)) (deeper found refl)
@@ -157,7 +177,7 @@ module _ (oracle : Oracle) (s : State) (site : Site) (id : ModItemId) (item : It
 
     contents_below : (contents : ModContents) → AreBelow (rank site id) (module_item oracle s site item name vis contents).tasks
     contents_below (Inline children) =
-        (tt, inline_below children (descend site.directory (name_text s.session name) (path_attr item.attrs)) (descend_deeper site.directory (name_text s.session name) (path_attr item.attrs)))
+        (tt, inline_below (is_macro_use (attrs_of item.attrs)) children (descend site.directory (name_text s.session name) (path_attr item.attrs)) (descend_deeper site.directory (name_text s.session name) (path_attr item.attrs)))
     contents_below Outline =
         outline_below (resolve_declaration (files_of oracle) site.tree.file site.directory (name_text s.session name) (path_attr item.attrs))
         (declaration_deeper (files_of oracle) site.tree.file site.directory (name_text s.session name) (path_attr item.attrs))
@@ -166,9 +186,13 @@ module _ (oracle : Oracle) (s : State) (site : Site) (id : ModItemId) (item : It
   ctor_below name d vis None = tt
   ctor_below name d vis (Some ctor) = (tt, tt)
 
-  crate_below : (t : State) (number : ExternCrateId) (name : Option Name) (vis : Visibility) (found : Option ModuleId) → AreBelow (rank site id) (crate_effect t site item number name vis found).tasks
-  crate_below t number name vis None = tt
-  crate_below t number name vis (Some root) = (tt, tt)
+  crate_below : (t : State) (number : ExternCrateId) (name : Option Name) (vis : Visibility) (brought : List (Name × MacroId)) (found : Option ModuleId) → AreBelow (rank site id) (crate_effect t site item number name vis brought found).tasks
+  crate_below t number name vis brought None = tt
+  crate_below t number name vis brought (Some root) = (tt, tt)
+
+  export_below : (t : State) (exported : Bool) (name : Name) (macro_id : MacroId) → AreBelow (rank site id) (export_effect t exported name macro_id).tasks
+  export_below t false name macro_id = tt
+  export_below t true name macro_id = (tt, tt)
 
   same : (e f : Effect) → e ≡ f → AreBelow (rank site id) f.tasks → AreBelow (rank site id) e.tasks
   same e f is below = subst (λ (x : Effect). AreBelow (rank site id) x.tasks) (sym is) below
@@ -182,14 +206,20 @@ module _ (oracle : Oracle) (s : State) (site : Site) (id : ModItemId) (item : It
   follows_below small (declares_struct name raw ctor) later effect does = same effect _ does.2 (tt, ctor_below name _ _ _)
   follows_below small (binds_crate name raw alias) later effect does =
       same effect _ does.2
-      (crate_below (noted_in s site.scope (with_extern_crate (record { 0 = does.0 }))) (record { 0 = does.0 }) (crate_name name alias) (written_vis oracle s site.scope raw) (named_crate s name))
+      (crate_below (noted_in s site.scope (with_extern_crate (record { 0 = does.0 }))) (record { 0 = does.0 }) (crate_name name alias) (written_vis oracle s site.scope raw)
+      (macros_brought oracle s item name (named_crate s name)) (named_crate s name))
   follows_below small (declares kind d ns name raw) later effect does = same effect _ does.2 (tt, tt)
   follows_below small (queues raw imports) later effect does = same effect _ does.2 tt
   follows_below small (notes_impl of_trait) later effect does = same effect _ does.2 tt
   follows_below small notes_const later effect does = same effect _ does.2 tt
+  follows_below small (defines_rules name) later effect does =
+      let expander : MacroExpander = rules_expander oracle s.map.id.krate site item does.1 in
+      let defined : MacroId = macro_of.MacroRules (record { 0 = does.0 }) in
+      same effect _ does.4 (export_below (textual_state (unimplemented_reported s site item expander) site item name defined) (has_attr macro_export_name (attrs_of item.attrs)) name defined)
+  follows_below small (defines_macro name raw) later effect does = same effect _ does.2 (tt, tt)
 
 -- what is left of a handled item is less work than the item
-pub handled_less : (oracle : Oracle) (s t : State) (site : Site) (id : ModItemId) (item : ItemNode) (inner : List Task) → node_at oracle site.tree id ≡ Some item → id.0 < 2 ^ 64 → length inner ≤ 2 ^ 64
+pub handled_less : (oracle : Oracle) (s t : State) (site : Site) (id : ModItemId) (item : ItemNode) (inner : List Task) → node_at oracle site.tree id ≡ Some item → id.0 < 2 ^ 64 → length inner ≤ 2 ^ 64 + 1
     → Handled oracle s t site item inner → 1 + work inner < task_work (Visit site id)
 handled_less oracle s t site id item inner found small few handled =
     let later = block_later (oracle.item_tree site.tree) id item found in

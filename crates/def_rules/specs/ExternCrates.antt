@@ -1,11 +1,12 @@
 -- What an extern crate does.
-use Rattle.std.specs.Prelude.{Bool, true, false, cond, [], ◌∷◌, Option, None, Some, option_map}
+use Rattle.std.specs.Prelude.{Bool, true, false, cond, List, [], ◌∷◌, Option, None, Some, option_map}
 use Rattle.item_tree.specs.declared.items.ImportAlias.{ImportAlias}
 use Rattle.item_tree.specs.declared.items.ItemNode.{ItemNode}
 use Rattle.item_tree.specs.declared.name.Name.{Name}
 use Rattle.item_tree.specs.KnownNames.{name_eq, self_name}
 use Rattle.def_ids.specs.declared.ids.Def.TheVariants as def
 use Rattle.def_ids.specs.declared.ids.ExternCrateId.{ExternCrateId}
+use Rattle.def_ids.specs.declared.ids.MacroId.{MacroId}
 use Rattle.def_ids.specs.declared.ids.ModuleId.{ModuleId}
 use Rattle.def_ids.specs.Ids.{crate_root}
 use Rattle.def_bindings.specs.declared.bindings.Entry.{Entry}
@@ -19,6 +20,7 @@ use Rattle.def_rules.specs.declared.diagnostics.DefDiagnosticKind.TheVariants.{U
 use Rattle.def_rules.specs.State.{State, Effect, only, followed_by, reported, with_missing, Site, Put}
 use Rattle.def_rules.specs.Items.{diagnostic, is_crate_root}
 use Rattle.def_rules.specs.Imports.{alias_name}
+use Rattle.def_rules.specs.Macros.{taking_macros}
 
 -- the name that an extern crate binds: its alias, else its own; None is `_`
 abbrev pub crate_name : Name → Option ImportAlias → Option Name
@@ -43,8 +45,8 @@ naming_crate true name entry s = record s { local = with_crate name entry s.loca
 abbrev pub crate_entry : ExternCrateId → Option Name → ModuleId → Visibility → Entry Visibility
 crate_entry id name root vis = record { name = name; ns = Types; def = def.Module root; vis = vis; origin = Some (ByCrate id) }
 
--- an extern crate: one that is not found is reported, and its name remembered; any other is put in types
-abbrev pub crate_effect : State → Site → ItemNode → ExternCrateId → Option Name → Visibility → Option ModuleId → Effect
-crate_effect s site item id name vis None = only (reported (with_missing name s) (diagnostic site item UnresolvedExternCrate))
-crate_effect s site item id name vis (Some root) =
-    followed_by (naming_crate (is_crate_root site.scope) name (record { root = root; by = Some id }) s) (Put site.scope (crate_entry id name root vis) ∷ [])
+-- an extern crate: one that is not found is reported, and its name remembered; any other is put in types, and at a crate's root it brings macros
+abbrev pub crate_effect : State → Site → ItemNode → ExternCrateId → Option Name → Visibility → List (Name × MacroId) → Option ModuleId → Effect
+crate_effect s site item id name vis brought None = only (reported (with_missing name s) (diagnostic site item UnresolvedExternCrate))
+crate_effect s site item id name vis brought (Some root) =
+    followed_by (taking_macros (is_crate_root site.scope) brought (naming_crate (is_crate_root site.scope) name (record { root = root; by = Some id }) s)) (Put site.scope (crate_entry id name root vis) ∷ [])

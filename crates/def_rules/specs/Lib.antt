@@ -3,6 +3,7 @@ pub mod State
 pub mod Steps
 pub mod Items
 pub mod Modules
+pub mod Macros
 pub mod ExternCrates
 pub mod Rules
 pub mod Imports

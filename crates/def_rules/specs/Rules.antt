@@ -7,14 +7,15 @@ use Rattle.item_tree.specs.declared.items.ImportAlias.{ImportAlias}
 use Rattle.item_tree.specs.declared.items.ItemNode.{ItemNode}
 use Rattle.item_tree.specs.declared.items.ModContents.{ModContents}
 use Rattle.item_tree.specs.declared.items.ModItemKind.{ModItemKind}
-use Rattle.item_tree.specs.declared.items.ModItemKind.TheVariants.{Mod, Use, ExternCrate, ExternBlock, Impl, Struct, Union, Enum, Function, Const, Static, Trait, TypeAlias}
+use Rattle.item_tree.specs.declared.items.ModItemKind.TheVariants.{Mod, Use, ExternCrate, ExternBlock, MacroRules, Macro2, Impl, Struct, Union, Enum, Function, Const, Static, Trait, TypeAlias}
 use Rattle.item_tree.specs.declared.items.RawVisibility.{RawVisibility}
 use Rattle.item_tree.specs.declared.items.UseImport.{UseImport}
 use Rattle.item_tree.specs.declared.name.Name.{Name}
-use Rattle.item_tree.specs.Attrs.{disabled_by}
+use Rattle.item_tree.specs.Attrs.{attrs_of, disabled_by}
 use Rattle.def_ids.specs.declared.ids.Def.{Def}
 use Rattle.def_ids.specs.declared.ids.Def.TheVariants as def
 use Rattle.def_ids.specs.declared.ids.ItemContainerId.TheVariants as contained
+use Rattle.def_ids.specs.declared.ids.MacroId.TheVariants as macro_of
 use Rattle.def_ids.specs.Session.{Session, AddsLocations, ItemKind, FunctionItem, StructItem, UnionItem, EnumItem, ConstItem, StaticItem, TraitItem, TypeAliasItem, ImplItem, UseItem, ExternCrateItem, ExternBlockItem}
 use Rattle.def_bindings.specs.declared.bindings.Namespace.{Namespace}
 use Rattle.def_bindings.specs.declared.bindings.Namespace.TheVariants.{Types, Values}
@@ -23,6 +24,7 @@ use Rattle.def_oracle.specs.Oracle.{Oracle}
 use Rattle.def_rules.specs.declared.diagnostics.DefDiagnosticKind.TheVariants.{UnconfiguredCode}
 use Rattle.def_rules.specs.State.{State, Effect, only, followed_by, reported, Site}
 use Rattle.def_rules.specs.Items.{IsNumber, ctor_vis, declared_effect, diagnostic, node_at, noted_in, new_imports, struct_effect, walk, written_vis}
+use Rattle.def_rules.specs.Macros.{IsBuiltinName, item_effect, item_expander, item_flags, macro_loc, macros_brought, rules_effect, rules_expander, rules_flags}
 use Rattle.def_rules.specs.Modules.{module_item}
 use Rattle.def_rules.specs.ExternCrates.{crate_effect, crate_name, named_crate}
 
@@ -44,6 +46,10 @@ pub data Rule : Type 0 where
   notes_impl : Bool → Rule
   -- so is a constant without a name
   notes_const : Rule
+  -- a macro by rules is defined for the text behind it
+  defines_rules : Name → Rule
+  -- a `macro` item is defined and declared
+  defines_macro : Name → RawVisibility → Rule
 
 -- the rule of an item, by its kind
 abbrev pub rule_of : ModItemKind → Rule
@@ -51,6 +57,8 @@ rule_of (Mod name raw contents) = opens_module name raw contents
 rule_of (Use raw imports) = queues raw imports
 rule_of (ExternCrate name raw alias) = binds_crate name raw alias
 rule_of (ExternBlock children) = opens_block children
+rule_of (MacroRules name) = defines_rules name
+rule_of (Macro2 name raw) = defines_macro name raw
 rule_of (Impl of_trait) = notes_impl of_trait
 rule_of (Struct name raw ctor) = declares_struct name raw ctor
 rule_of (Union name raw) = declares UnionItem (λ n. def.Union (record { 0 = n })) Types name raw
@@ -77,11 +85,19 @@ Follows oracle s site item (queues raw imports) effect =
     (n : ℕ) × IsNumber s UseItem site item n × (effect ≡ only (record s { imports = s.imports ++ new_imports site item (record { 0 = n }) raw imports }))
 Follows oracle s site item (binds_crate name raw alias) effect =
     (n : ℕ) × IsNumber s ExternCrateItem site item n
-    × (effect ≡ crate_effect (noted_in s site.scope (with_extern_crate (record { 0 = n }))) site item (record { 0 = n }) (crate_name name alias) (written_vis oracle s site.scope raw) (named_crate s name))
+    × (effect ≡ crate_effect (noted_in s site.scope (with_extern_crate (record { 0 = n }))) site item (record { 0 = n }) (crate_name name alias) (written_vis oracle s site.scope raw)
+    (macros_brought oracle s item name (named_crate s name)) (named_crate s name))
 Follows oracle s site item (notes_impl of_trait) effect =
     (n : ℕ) × IsNumber s ImplItem site item n × (effect ≡ only (noted_in s site.scope (with_impl (record { 0 = n }) of_trait)))
 Follows oracle s site item notes_const effect =
     (n : ℕ) × IsNumber s ConstItem site item n × (effect ≡ only (noted_in s site.scope (with_unnamed_const (record { 0 = n }))))
+Follows oracle s site item (defines_rules name) effect =
+    (n : ℕ) × (found : Option Name) × IsBuiltinName s.session.text (attrs_of item.attrs) name found
+    × (s.session.macro_at (macro_of.MacroRules (record { 0 = n })) ≡ Some (macro_loc s.map.krate.edition site item (rules_expander oracle s.map.id.krate site item found) (rules_flags item)))
+    × (effect ≡ rules_effect s site item name (rules_expander oracle s.map.id.krate site item found) (macro_of.MacroRules (record { 0 = n })))
+Follows oracle s site item (defines_macro name raw) effect =
+    (n : ℕ) × (s.session.macro_at (macro_of.Macro2 (record { 0 = n })) ≡ Some (macro_loc s.map.krate.edition site item (item_expander oracle s.map.id.krate site item name) (item_flags item)))
+    × (effect ≡ item_effect s site item name (written_vis oracle s site.scope raw) (item_expander oracle s.map.id.krate site item name) (macro_of.Macro2 (record { 0 = n })))
 
 -- an item is handled, by its kind
 abbrev pub Handles : Oracle → State → Site → ItemNode → ModItemKind → Effect → Type 0

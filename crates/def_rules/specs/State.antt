@@ -104,6 +104,8 @@ pub data Task : Type 0 where
   Visit : Site → ModItemId → Task
   -- an entry is put into a module
   Put : ModuleId → Entry Visibility → Task
+  -- the last textual macro of each name of a module is defined in another
+  Bring : ModuleId → ModuleId → Task
   -- an edge is added to a module
   AddEdge : ModuleId → EdgeTo Visibility → Task
 

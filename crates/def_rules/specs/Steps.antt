@@ -9,10 +9,13 @@ use Rattle.def_bindings.specs.declared.bindings.Slot.{Slot}
 use Rattle.def_bindings.specs.declared.visibility.Visibility.{Visibility}
 use Rattle.def_bindings.specs.Content.{Content}
 use Rattle.def_bindings.specs.Puts.{copied, glob_of, held, offered, put_entry}
+use Rattle.def_modules.specs.Maps.{textual_at}
+use Rattle.def_modules.specs.Scopes.{brought}
 use Rattle.def_oracle.specs.Oracle.{Oracle}
 use Rattle.def_globs.specs.Globs.{with_recorded}
 use Rattle.def_globs.specs.Raised.{KeepsDef}
-use Rattle.def_rules.specs.State.{State, Effect, Task, Enter, Visit, Put, AddEdge, Event, PutExplicit, Moment, after, entered, only, with_state, with_content, order, Rearranges}
+use Rattle.def_rules.specs.State.{State, Effect, Task, Enter, Visit, Put, AddEdge, Bring, Event, PutExplicit, Moment, after, entered, only, with_state, with_content, order, Rearranges}
+use Rattle.def_rules.specs.Items.{noted_in}
 use Rattle.def_rules.specs.Recording.{ImportStep}
 use Rattle.def_rules.specs.Rules.{Visits}
 
@@ -34,6 +37,7 @@ abbrev pub Does : Oracle → State → Task → Effect → Type 0
 Does oracle s (Enter at directory) effect = effect ≡ only (entered s at directory)
 Does oracle s (Visit site id) effect = Visits oracle s site id effect
 Does oracle s (Put at entry) effect = effect ≡ put_effect s at entry
+Does oracle s (Bring from into) effect = effect ≡ only (noted_in s into (brought (textual_at s.map from.index)))
 Does oracle s (AddEdge source edge) effect = effect ≡ only (with_content s (with_recorded (order s) s.content source edge))
 
 -- one slot is copied along an edge of a glob: what its source binds now, if the importer sees it

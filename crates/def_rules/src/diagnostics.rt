@@ -12,6 +12,8 @@ pub enum DefDiagnosticKind {
     UnresolvedImport { index: u32 },
     /// An extern crate that was not found.
     UnresolvedExternCrate,
+    /// A macro that is marked as builtin, and that no builtin implements.
+    UnimplementedBuiltinMacro,
     /// An item or a file that is not compiled: the condition that is not met.
     UnconfiguredCode { cfg: CfgExpr },
 }

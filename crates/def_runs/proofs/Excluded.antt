@@ -23,7 +23,7 @@ use Rattle.def_rules.specs.Headline.{Answers, Run}
 use Rattle.def_rules.specs.Imports.{answer_now, is_ready, no_namespaces, unresolved_imports}
 use Rattle.def_rules.specs.Recording.{ImportStep}
 use Rattle.def_rules.specs.Report.{Answer, import_report, left_import, may_name_crate, report, unresolved}
-use Rattle.def_rules.specs.State.{Setting, State, Effect, Task, Enter, Visit, Put, AddEdge, Moment, Import, ImportDirective, Recorded}
+use Rattle.def_rules.specs.State.{Setting, State, Effect, Task, Enter, Visit, Put, Bring, AddEdge, Moment, Import, ImportDirective, Recorded}
 use Rattle.def_rules.specs.Steps.{Does, Reaches, Step, copies, event_of, performs, rearranges, records}
 use Rattle.def_runs.proofs.Plain as plain
 use Rattle.def_runs.proofs.RowLemmas.{none_recorded_unready}
@@ -130,6 +130,7 @@ task_records_nothing : (oracle : Oracle) (s : State) (task : Task) (effect : Eff
 task_records_nothing oracle s (Enter at directory) effect p foreign does h = let none = ap (λ (e : Effect). e.events) does in cc
 task_records_nothing oracle s (Visit site id) effect p foreign does h = let none = (visits_footprint oracle s site id effect does).events in cc
 task_records_nothing oracle s (Put at entry) effect p foreign does h = no_recording at entry (glob_of entry.origin) entry.name p foreign (sym (ap (λ (e : Effect). e.events) does) ∙ h)
+task_records_nothing oracle s (Bring from into) effect p foreign does h = let none = ap (λ (e : Effect). e.events) does in cc
 task_records_nothing oracle s (AddEdge source edge) effect p foreign does h = let none = ap (λ (e : Effect). e.events) does in cc
 
 -- no import has its turn while something is left to do

@@ -78,6 +78,14 @@ fn impl_item(reader: &mut Reader) -> Read {
     Ok(ModItemKind::Impl { is_trait_impl })
 }
 
+/// A macro by rules, from behind its first word on.
+fn macro_rules(reader: &mut Reader) -> Read {
+    reader.expect('!')?;
+    let name = reader.name()?;
+    skip_piece(reader, End::SemicolonOrBody)?;
+    Ok(ModItemKind::MacroRules { name })
+}
+
 /// Adds the visibilities of the fields in parentheses, each of whose types is one name, and takes
 /// what closes the struct.
 fn add_fields(reader: &mut Reader, fields: &mut Seq<RawVisibility>) -> Result<(), Stop> {
@@ -145,6 +153,7 @@ fn plain_kind(keyword: Keyword, name: Name, visibility: RawVisibility) -> Option
         Keyword::Union => Some(ModItemKind::Union { name, visibility }),
         Keyword::Enum => Some(ModItemKind::Enum { name, visibility }),
         Keyword::Fn => Some(ModItemKind::Function { name, visibility }),
+        Keyword::Macro => Some(ModItemKind::Macro2 { name, visibility }),
         Keyword::Static => Some(ModItemKind::Static { name, visibility }),
         Keyword::Trait => Some(ModItemKind::Trait { name, visibility }),
         Keyword::Type => Some(ModItemKind::TypeAlias { name, visibility }),
@@ -186,6 +195,7 @@ pub fn item_kind(reader: &mut Reader, items: &mut Items) -> Read {
         Keyword::Use => use_item(reader, items),
         Keyword::Extern => extern_item(reader, items),
         Keyword::Impl => impl_item(reader),
+        Keyword::MacroRules => macro_rules(reader),
         Keyword::Struct => struct_item(reader, items),
         Keyword::Const => const_item(reader, items),
         _ => plain_item(reader, keyword, items),

@@ -263,6 +263,9 @@ fn kind_words(kind: &DefDiagnosticKind) -> (Word<'static>, Word<'static>) {
         DefDiagnosticKind::UnresolvedExternCrate => {
             (Word::Text("unresolved-extern-crate"), Word::Bare(""))
         }
+        DefDiagnosticKind::UnimplementedBuiltinMacro => {
+            (Word::Text("unimplemented-builtin"), Word::Bare(""))
+        }
         DefDiagnosticKind::UnconfiguredCode { cfg } => {
             (Word::Text("unconfigured"), Word::Number("", cfg.0))
         }

@@ -19,6 +19,8 @@ pub enum Keyword {
     For,
     Impl,
     In,
+    Macro,
+    MacroRules,
     Mod,
     Pub,
     SelfWord,
@@ -46,7 +48,7 @@ pub enum Token {
 }
 
 /// The words that the reader knows, as they are written.
-static WORDS: [(&str, Keyword); 21] = [
+static WORDS: [(&str, Keyword); 23] = [
     ("as", Keyword::As),
     ("cfg", Keyword::Cfg),
     ("const", Keyword::Const),
@@ -57,6 +59,8 @@ static WORDS: [(&str, Keyword); 21] = [
     ("for", Keyword::For),
     ("impl", Keyword::Impl),
     ("in", Keyword::In),
+    ("macro", Keyword::Macro),
+    ("macro_rules", Keyword::MacroRules),
     ("mod", Keyword::Mod),
     ("pub", Keyword::Pub),
     ("self", Keyword::SelfWord),

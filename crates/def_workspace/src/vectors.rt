@@ -7,7 +7,7 @@ ghost use Rattle.def_workspace.specs.Vectors.{is_vector, vector_names};
 use def_scripted::{ALONE, Vector};
 
 /// The vectors in byte order of their names.
-static VECTORS: [Vector; 11] = [
+static VECTORS: [Vector; 13] = [
     Vector {
         name: "attrs",
         files: &[r#"#![recursion_limit = "4"] #![no_core] #![no_std] #![feature(register_tool)]"#],
@@ -60,6 +60,11 @@ static VECTORS: [Vector; 11] = [
         ..ALONE
     },
     Vector {
+        name: "module-macro",
+        files: &["mod m { macro_rules! foo {} } use m::foo as bar;"],
+        ..ALONE
+    },
+    Vector {
         name: "plain",
         files: &["mod a { pub struct S; } use a::S; use a::T;"],
         ..ALONE
@@ -67,6 +72,11 @@ static VECTORS: [Vector; 11] = [
     Vector {
         name: "private",
         files: &["mod a { pub struct T(u8); } use a::*;"],
+        ..ALONE
+    },
+    Vector {
+        name: "textual-use",
+        files: &["macro_rules! foo {} use foo as bar;"],
         ..ALONE
     },
     Vector {

@@ -6,6 +6,7 @@ mod extern_crates;
 mod files;
 mod glob_kinds;
 mod kinds;
+mod macros;
 mod paths;
 mod program;
 mod rows;

@@ -1,5 +1,5 @@
 //! Extern crates.
-ghost use Rattle.std.specs.Prelude.{◌≡◌, ◌∷◌, [], None, Some, OnOk};
+ghost use Rattle.std.specs.Prelude.{◌≡◌, ◌∷◌, [], None, Some, IfOk, OnOk};
 ghost use Rattle.item_tree.specs.declared.items.ModItemKind.TheVariants as kinds;
 ghost use Rattle.def_ids.specs.declared.interner.Interner.{Interner};
 ghost use Rattle.def_ids.specs.Session.{AddsLocations, session_of};
@@ -9,13 +9,15 @@ ghost use Rattle.def_collector.specs.Collector.{state_of};
 ghost use Rattle.def_rules.specs.declared.diagnostics.DefDiagnosticKind.TheVariants.{UnresolvedExternCrate};
 ghost use Rattle.def_rules.specs.Items as items;
 ghost use Rattle.def_rules.specs.ExternCrates as crate_rules;
+ghost use Rattle.def_rules.specs.Macros.{macros_brought};
 ghost use Rattle.def_laws.specs.Performs.{Handled, Performs, Updated};
 ghost use Rattle.def_rules.specs.State.{reported, with_missing};
 
 use super::DefCollector;
 use def_bindings::{Entry, ImportOrExternCrate, Namespace, Visibility};
-use def_ids::{Def, ExternCrateId, ExternCrateLoc, Interner, Location, ModuleId};
-use def_items::{Site, name_crate, report};
+use def_ids::{Def, ExternCrateId, ExternCrateLoc, Interner, Location, MacroId, ModuleId};
+use def_items::{Site, is_crate_root, name_crate, report};
+use def_macros::{macros_brought, take_at_root};
 use def_map::SourceDatabase;
 use def_rules::DefDiagnosticKind;
 use def_steps::crate_name;
@@ -66,6 +68,7 @@ impl<'a> DefCollector<'a> {
         .intern(session)?;
         let vis = self.resolve_visibility(db, session, site.module_id, written.visibility);
         let root = self.named_crate(written.name);
+        let brought = self.macros_brought(db, session, node, written.name, root)?;
         let module = site.module_id.index;
         self.def_map.define_extern_crate_decl(module, id)?;
         let item = CrateItem {
@@ -75,7 +78,7 @@ impl<'a> DefCollector<'a> {
             name: crate_name(written.name, written.alias),
             vis,
         };
-        self.collect_extern_crate(item, root)?;
+        self.collect_extern_crate(item, brought.as_slice(), root)?;
         Ok(())
     }
 
@@ -92,20 +95,42 @@ impl<'a> DefCollector<'a> {
         }
     }
 
+    /// The macros that an extern crate brings, if it is found. The crate itself brings none.
+    fn macros_brought<D: SourceDatabase>(
+        &self,
+        db: &D,
+        session: &Interner,
+        node: &ItemNode,
+        name: Name,
+        root: Option<ModuleId>,
+    ) -> Result<Vec<(Name, MacroId)>, AllocError>
+        ensures { IfOk result (λ brought.
+            brought.items ≡ macros_brought (D.oracle db.now) (state_of self.now session.now) node.now name root) }
+    {
+        let Some(root) = root else {
+            return Ok(Vec::new(self.alloc));
+        };
+        if name == sym::SELF {
+            return Ok(Vec::new(self.alloc));
+        }
+        macros_brought(self.alloc, &self.world(db, session), node, root)
+    }
+
     /// Puts an extern crate in types, if it is found. Any other is reported, and its name
     /// remembered. On `Err` nothing but safety is promised.
     fn collect_extern_crate(
         &mut self,
         item: CrateItem<'_>,
+        brought: &[(Name, MacroId)],
         root: Option<ModuleId>,
     ) -> Result<(), AllocError>
         ensures { OnOk result ((oracle : Oracle) (session : Interner) →
-            let effect = crate_rules.crate_effect (state_of self.old session) (site_of item.entry.site) item.entry.node.now item.entry.id item.entry.name item.entry.vis root in
+            let effect = crate_rules.crate_effect (state_of self.old session) (site_of item.entry.site) item.entry.node.now item.entry.id item.entry.name item.entry.vis brought.now root in
             Performs oracle effect.tasks effect.state (state_of self.new session)) }
     {
         match root {
             Some(root) => {
-                self.put_crate(item, root)?;
+                self.put_crate(item, brought, root)?;
                 Ok(())
             }
             None => {
@@ -115,14 +140,21 @@ impl<'a> DefCollector<'a> {
         }
     }
 
-    /// Puts an extern crate in types. Paths may begin with one that stands at a crate's root.
-    fn put_crate(&mut self, item: CrateItem<'_>, root: ModuleId) -> Result<(), AllocError>
+    /// Puts an extern crate in types. Paths may begin with one that stands at a crate's root, and
+    /// with the macros that it brings.
+    fn put_crate(
+        &mut self,
+        item: CrateItem<'_>,
+        brought: &[(Name, MacroId)],
+        root: ModuleId,
+    ) -> Result<(), AllocError>
         ensures { OnOk result ((session : Interner) →
-            let effect = crate_rules.crate_effect (state_of self.old session) (site_of item.entry.site) item.entry.node.now item.entry.id item.entry.name item.entry.vis (Some root) in
+            let effect = crate_rules.crate_effect (state_of self.old session) (site_of item.entry.site) item.entry.node.now item.entry.id item.entry.name item.entry.vis brought.now (Some root) in
             Updated item.entry.site.module_id (crate_rules.crate_entry item.entry.id item.entry.name root item.entry.vis ∷ []) effect.state (state_of self.new session)) }
     {
         let at = item.site.module_id;
         name_crate(&mut self.local_def_map, at, item.name, root, item.id)?;
+        take_at_root(&mut self.def_map, is_crate_root(at), brought)?;
         self.put(
             at,
             &[Entry {

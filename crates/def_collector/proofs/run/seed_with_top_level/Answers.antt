@@ -1,6 +1,7 @@
-use Rattle.std.proofs.Common.{ap, ◌∙◌}
+use Rattle.std.proofs.Common.{[], ap, append-nil, subst, ◌∙◌}
 use Rattle.def_collector.specs.Collector.{state_of}
 use Rattle.def_rules.specs.State.{State}
+use Rattle.def_laws.specs.Runs.{Leads}
 use Rattle.def_laws.proofs.RecordLaws.{on_ok}
 use Rattle.def_laws.proofs.StartLaws.{attrs_of, cfg_of, starts_disabled, starts_walked, tops_of}
 use Rattle.def_collector.proofs.run.seed_with_top_level.Goals as goal
@@ -24,4 +25,5 @@ returns-clause-run g c =
     on_ok c.walk.result c.walk.ensures.run (λ run.
     starts_walked oracle (state_of c.args.collector.now c.args.session.now) (state_of c.seed.new.collector c.args.session.now) c.args.tree_id first c.top_attrs.result.now c.disabled_by-disabled.result
     c.first_tree-tree_id.ensures c.in_ok-seed.ensures (c.top_attrs.ensures ∙ attrs_of oracle first tree c.item_tree-tree.ensures) (c.disabled_by-disabled.ensures ∙ cfg_of oracle first tree c.item_tree-tree.ensures)
-    (state_of c.walk.new.collector c.walk.new.session) c.first_depth.result c.root.result c.top_items.result.now c.in_default.is c.first_depth.ensures c.root.ensures (c.top_items.ensures ∙ tops_of oracle first tree c.item_tree-tree.ensures) run)
+    (state_of c.walk.new.collector c.walk.new.session) c.first_depth.result c.root.result c.top_items.result.now c.in_default.is c.first_depth.ensures c.root.ensures (c.top_items.ensures ∙ tops_of oracle first tree c.item_tree-tree.ensures)
+    (subst (λ tasks. Leads oracle tasks (state_of c.seed.new.collector c.args.session.now) [] (state_of c.walk.new.collector c.walk.new.session)) (append-nil _) run))

@@ -10,5 +10,5 @@ returns-clause-added c = λ s.
     let between : State = with_parts s c.declare.new.self c.args.table.now in
     let after : State = with_parts s c.declare.new.self c.put.new.table in
     module_put (with_parts s c.args.def_map.now c.args.table.now) between after c.args.added.parent c.args.added.name c.args.added.vis _ _ c.in_ok-push_module.field-0 _ _ _
-    c.new-data.ensures c.in_ok-push_module.ensures.index c.in_ok-push_module.ensures.state c.in_ok-set_child.ensures c.in_ok-declare.ensures refl
+    c.in_ok-data.ensures c.in_ok-push_module.ensures.index c.in_ok-push_module.ensures.state c.in_ok-set_child.ensures c.in_ok-declare.ensures refl
     (subst (λ e. Updated c.args.added.parent (e ∷ []) between after) c.entry.ensures (c.in_ok-put.ensures s))

@@ -1,0 +1,13 @@
+//! What items do that define macros, and which macros an extern crate brings, each step over the
+//! parts of the state that it reads or changes.
+#![tactic(auto)]
+
+mod definitions;
+mod expanders;
+mod flags;
+mod macro_use;
+mod numbered;
+
+pub use definitions::{define_macro, define_macro_rules, report_macro};
+pub use macro_use::{macros_brought, take_at_root};
+pub use numbered::{MacroItem, number_macro, number_macro_rules};

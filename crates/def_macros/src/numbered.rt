@@ -1,0 +1,88 @@
+//! Items that define macros: each gets its number, and with it what expands it.
+ghost use Rattle.std.specs.Prelude.{IfOk};
+ghost use Rattle.def_ids.specs.Session.{AddsLocations, session_of};
+ghost use Rattle.def_modules.specs.Maps.{map_state};
+ghost use Rattle.def_items.specs.Parts.{site_of};
+ghost use Rattle.def_macros.specs.Numbered.{IsItem, IsRules};
+
+use crate::expanders::{builtin_name, item_expander, rules_expander};
+use crate::flags::{item_flags, rules_flags};
+use def_ids::{Interner, Location, Macro2Loc, MacroExpander, MacroId, MacroRulesLoc};
+use def_items::Site;
+use def_map::{MapData, SourceDatabase};
+use item_tree::{ItemNode, Name};
+use std::alloc::AllocError;
+
+/// A macro that an item defines: the item and where that stands, the macro's name and id, and what
+/// expands it.
+#[derive(Clone, Copy)]
+pub struct MacroItem<'a> {
+    pub site: Site<'a>,
+    pub node: &'a ItemNode,
+    pub name: Name,
+    pub id: MacroId,
+    pub expander: MacroExpander,
+}
+
+/// Numbers a macro by rules.
+pub fn number_macro_rules<'a, D: SourceDatabase>(
+    db: &D,
+    session: &mut Interner,
+    def_map: &MapData,
+    site: Site<'a>,
+    node: &'a ItemNode,
+    name: Name,
+) -> Result<MacroItem<'a>, AllocError>
+    ensures rules { IfOk result (λ item.
+        IsRules (D.oracle db.now) (map_state def_map.now) (session_of session.new) (site_of site.entry) node.now name item) }
+    ensures session { AddsLocations (session_of session.old) (session_of session.new) }
+{
+    let found = builtin_name(session, node, name);
+    let expander = rules_expander(db, def_map.tree.map.krate, site, node, found);
+    let id = MacroRulesLoc {
+        container: site.module_id,
+        position: site.position(node),
+        expander,
+        flags: rules_flags(node),
+        edition: def_map.krate.edition,
+    }
+    .intern(session)?;
+    Ok(MacroItem {
+        site,
+        node,
+        name,
+        id: MacroId::MacroRules(id),
+        expander,
+    })
+}
+
+/// Numbers a `macro` item.
+pub fn number_macro<'a, D: SourceDatabase>(
+    db: &D,
+    session: &mut Interner,
+    def_map: &MapData,
+    site: Site<'a>,
+    node: &'a ItemNode,
+    name: Name,
+) -> Result<MacroItem<'a>, AllocError>
+    ensures item { IfOk result (λ item.
+        IsItem (D.oracle db.now) (map_state def_map.now) (session_of session.new) (site_of site.entry) node.now name item) }
+    ensures session { AddsLocations (session_of session.old) (session_of session.new) }
+{
+    let expander = item_expander(db, def_map.tree.map.krate, site, node, name);
+    let id = Macro2Loc {
+        container: site.module_id,
+        position: site.position(node),
+        expander,
+        flags: item_flags(node),
+        edition: def_map.krate.edition,
+    }
+    .intern(session)?;
+    Ok(MacroItem {
+        site,
+        node,
+        name,
+        id: MacroId::Macro2(id),
+        expander,
+    })
+}
