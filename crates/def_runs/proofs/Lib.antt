@@ -7,6 +7,7 @@ pub mod RowLemmas
 pub mod Empty
 pub mod OneStruct
 pub mod Plain
+pub mod Textual
 pub mod Cycle
 pub mod Excluded
 pub mod EmptyAlone
