@@ -8,6 +8,8 @@ pub mod Empty
 pub mod OneStruct
 pub mod Plain
 pub mod Textual
+pub mod HandedOn
+pub mod Exported
 pub mod Cycle
 pub mod Excluded
 pub mod EmptyAlone
