@@ -165,11 +165,12 @@ module _ (oracle : Oracle) (s : State) (site : Site) (id : ModItemId) (item : It
 
     found_below : (found : FoundFile) (cfg : Option CfgExpr) → IsDeeper site.directory found.2 → AreBelow (rank site id) (outline_found oracle s site item name vis found cfg).tasks
     found_below found (Some cfg) deeper = tt
-    found_below found None deeper =
-        (tt,
-        below_both (rank site id) (walk oracle (inner_site s site (file_tree found) found.2) (top_items oracle (file_tree found))) _
-        (deeper_below (file_tree found) found.2 (top_items oracle (file_tree found)) deeper)
-        (bring_below (rank site id) (is_macro_use (attrs_of item.attrs) || is_macro_use (tree_attrs oracle (file_tree found))) (next_module s) site.scope))
+    found_below found None deeper = (
+      tt,
+      below_both (rank site id) (walk oracle (inner_site s site (file_tree found) found.2) (top_items oracle (file_tree found))) _
+          (deeper_below (file_tree found) found.2 (top_items oracle (file_tree found)) deeper)
+          (bring_below (rank site id) (is_macro_use (attrs_of item.attrs) || is_macro_use (tree_attrs oracle (file_tree found))) (next_module s) site.scope),
+    )
 
     outline_below : (found : Result FoundFile (List (List ℕ))) → ((file : FoundFile) → found ≡ Ok file → IsDeeper site.directory file.2) → AreBelow (rank site id) (outline_item oracle s site item name vis found).tasks
     outline_below (Ok found) deeper = found_below found (tree_cfg oracle (file_tree found)) (deeper found refl)
