@@ -49,15 +49,15 @@ no_imports unresolved indeterminate none nor =
     ∙ ap directives_in nor
     ∙ ap (map directive_of) (present-nil ImportDirective)
 
-module _ (w : Setting) (before : Session) (m : MapState) (content : Content Visibility) (targets : Targets) (local : LocalView) (procs : Bool) (deps : LocalView) (missing : Name → Bool) (directories : ModuleId → Option Directory) (imports : List rules.ImportDirective) (diagnostics : List DefDiagnostic) where
+module _ (w : Setting) (before : Session) (m : MapState) (content : Content Visibility) (targets : Targets) (local : LocalView) (procs : Bool) (deps : LocalView) (missing : Name → Bool) (directories : ModuleId → Option Directory) (imports : List rules.ImportDirective) (macros : List rules.MacroDirective) (diagnostics : List DefDiagnostic) where
   -- the state that the code begins with
   abbrev begun : State
-  begun = record { session = before; map = m; content = content; targets = targets; local = local; outer = w.crate_local; is_proc_macro = procs; deps = deps; missing_crates = missing; directories = directories; imports = imports; diagnostics = diagnostics }
+  begun = record { session = before; map = m; content = content; targets = targets; local = local; outer = w.crate_local; is_proc_macro = procs; deps = deps; missing_crates = missing; directories = directories; imports = imports; macros = macros; diagnostics = diagnostics }
 
   pub begins : m ≡ w.seeded → content ≡ empty → targets ≡ (λ glob. None) → local ≡ empty_local → procs ≡ is_proc_macro_crate w.oracle w.seeded.id.krate → deps ≡ deps_by_name w.oracle w.seeded.id.krate
-      → missing ≡ (λ name. false) → directories ≡ (λ at. None) → imports ≡ [] → diagnostics ≡ [] → begun ≡ seeded_state w before
-  begins same bound none known marked by_name found bare unresolved said =
-      λ i. record { session = before; map = same i; content = bound i; targets = none i; local = known i; outer = w.crate_local; is_proc_macro = marked i; deps = by_name i; missing_crates = found i; directories = bare i; imports = unresolved i; diagnostics = said i }
+      → missing ≡ (λ name. false) → directories ≡ (λ at. None) → imports ≡ [] → macros ≡ [] → diagnostics ≡ [] → begun ≡ seeded_state w before
+  begins same bound none known marked by_name found bare unresolved none_waits said =
+      λ i. record { session = before; map = same i; content = bound i; targets = none i; local = known i; outer = w.crate_local; is_proc_macro = marked i; deps = by_name i; missing_crates = found i; directories = bare i; imports = unresolved i; macros = none_waits i; diagnostics = said i }
 
 module _ (w : Setting) (before : Session) (s : State) (same : s ≡ seeded_state w before) (given : Content Visibility) (fresh : IsFresh w.seeded given) where
   -- what a run begins with is sound

@@ -32,7 +32,7 @@ use Rattle.def_rules.specs.declared.outcome.LeftImport.{LeftImport}
 use Rattle.def_steps.specs.ImportLists.{marked_each, marked_once, unresolved_in, directives_in}
 use Rattle.def_steps.specs.Shown.{shown_edge}
 use Rattle.def_rules.specs.Imports.{bound_name, unresolved_imports}
-use Rattle.def_rules.specs.Report.{Answer, AreEdges, AreTargets, binds_name, is_left, leaves, left_import, listed_edge, marked, marked_from, shown_targets, import_report}
+use Rattle.def_rules.specs.Report.{Answer, AreEdges, AreTargets, binds_name, is_left, leaves, left_import, left_macro, listed_edge, marked, marked_from, shown_targets, import_report}
 use Rattle.def_laws.specs.Finished.{NoneFailed, IsFinished}
 use Rattle.def_rules.specs.State.{State, Import}
 
@@ -168,7 +168,7 @@ pub finished : (end : State) (answer : Answer) (m1 m : MapState) (imports1 impor
     → imports1 ≡ map left_import (unresolved_in first) → imports ≡ imports1 ++ map left_import (unresolved_in second)
     → said1 ≡ end.diagnostics ++ flat_map (import_report end.missing_crates) (unresolved_in first) → diagnostics ≡ said1 ++ flat_map (import_report end.missing_crates) (unresolved_in second)
     → answer.map ≡ m → answer.content ≡ end.content → answer.local ≡ end.local → answer.diagnostics ≡ diagnostics
-    → answer.outcome.imports.items ≡ imports → answer.outcome.macros.items ≡ [] → AreEdges end.content answer.outcome.edges.items → AreTargets end.targets (map shown_targets answer.outcome.targets.items) → answer.outcome.limit_met ≡ false
+    → answer.outcome.imports.items ≡ imports → answer.outcome.macros.items ≡ map left_macro end.macros → AreEdges end.content answer.outcome.edges.items → AreTargets end.targets (map shown_targets answer.outcome.targets.items) → answer.outcome.limit_met ≡ false
     → IsFinished end answer
 finished end answer m1 m imports1 imports said1 diagnostics first second all marks1 marks left1 left reports1 reports marking content local said lefts macros edges targets limit = record {
   map = λ none. marking ∙ marks ∙ ap (marked_each (unresolved_in second)) marks1 ∙ sym (marked_each-append (unresolved_in first) (unresolved_in second) end.map) ∙ ap (λ ps. marked_each ps end.map) (sym both)

@@ -4,3 +4,4 @@ mod PassLemmas
 mod TriesLemmas
 mod VisitLemmas
 mod WalkLemmas
+mod CallLemmas

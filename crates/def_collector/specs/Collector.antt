@@ -1,8 +1,9 @@
 -- What the collector's parts stand for.
-use Rattle.std.specs.Prelude.{◌++◌, option_map}
+use Rattle.std.specs.Prelude.{◌++◌, map, option_map}
 use Rattle.def_ids.specs.declared.interner.Interner.{Interner}
 use Rattle.def_ids.specs.Equality.{glob_eq}
 use Rattle.def_ids.specs.Session.{session_of}
+use Rattle.def_calls.specs.Shown.{macro_directive_of}
 use Rattle.def_crates.specs.Missing.{missing_in}
 use Rattle.def_items.specs.Parts.{directories_of}
 use Rattle.def_modules.specs.Locals.{local_view}
@@ -28,5 +29,6 @@ state_of c session =
       missing_crates = missing_in c.missing_crates;
       directories = directories_of c.mod_dirs;
       imports = directives_in c.unresolved_imports.items ++ directives_in c.indeterminate_imports.items;
+      macros = map macro_directive_of c.unresolved_macros.items;
       diagnostics = c.diagnostics.items;
     }

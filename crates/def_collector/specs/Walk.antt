@@ -1,7 +1,7 @@
 -- Lists that are walked, and what they leave to be visited.
 use Rattle.std.specs.Prelude.{◌≡◌, ◌<◌, ℕ, Bool, true, false, ◌+◌, ◌^◌, List, [], ◌∷◌, ◌++◌, length, Option, Some, None}
 use Rattle.item_tree.specs.declared.items.ModItemKind.{ModItemKind}
-use Rattle.item_tree.specs.declared.items.ModItemKind.TheVariants.{ExternBlock, Mod}
+use Rattle.item_tree.specs.declared.items.ModItemKind.TheVariants.{ExternBlock, MacroCall, Mod}
 use Rattle.def_map.specs.Oracle.{Oracle}
 use Rattle.def_parts.specs.Directories.{FoundFile}
 use Rattle.def_rules.specs.Items.{visits, walk}
@@ -17,10 +17,11 @@ use Rattle.def_items.specs.Lists.{behind, left_of}
 abbrev pub found_in : FoundInCode → FoundFile
 found_in found = (found.file, found.is_mod_rs, found.dir)
 
--- an item of this kind opens a list of items: a module, or an extern block
+-- an item of this kind opens a list of items: a module, an extern block, or a macro call
 abbrev pub opens_list : ModItemKind → Bool
 opens_list (Mod name raw contents) = true
 opens_list (ExternBlock children) = true
+opens_list (MacroCall path expand_to ctxt) = true
 opens_list _ = false
 
 -- the visits that a frame has left, and what is done behind them

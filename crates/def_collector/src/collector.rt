@@ -10,6 +10,7 @@ mod visibility;
 
 pub use crates::WrittenCrate;
 pub use declarations::WrittenStruct;
+use def_calls::MacroDirective;
 use def_crates::MissingCrates;
 use def_ids::{Def, GlobId};
 use def_items::ModDirs;
@@ -44,6 +45,8 @@ pub struct DefCollector<'a> {
     /// Imports that were recorded, and that may give more namespaces, in the order in which they
     /// came here. One that left leaves `None`.
     pub indeterminate_imports: Vec<Option<ImportDirective<'a>>>,
+    /// What waits for its macro.
+    pub unresolved_macros: Vec<MacroDirective<'a>>,
     pub diagnostics: Vec<DefDiagnostic>,
 }
 
@@ -62,6 +65,7 @@ impl Drop for DefCollector<'_> {
             mod_dirs: _,
             unresolved_imports: _,
             indeterminate_imports: _,
+            unresolved_macros: _,
             diagnostics: _,
         } = self;
     }

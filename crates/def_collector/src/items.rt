@@ -7,9 +7,11 @@ ghost use Rattle.def_collector.specs.Collector.{state_of};
 ghost use Rattle.def_collector.specs.Walk.{AreKnown, inner_of, is_known, opens_list};
 ghost use Rattle.def_laws.specs.Performs.{Handled};
 
+use crate::calls::collect_macro_call;
 use crate::collector::{DefCollector, WrittenCrate, WrittenStruct};
 use crate::macros::{WrittenMacro, collect_macro, collect_macro_rules};
 use crate::modules::{ModuleItem, collect_module};
+use def_calls::WrittenCall;
 use def_ids::{ExternBlockLoc, Interner, ItemContainerId, Location};
 use def_items::{ItemList, Site, define_impl};
 use def_map::SourceDatabase;
@@ -49,6 +51,18 @@ pub(crate) fn collect_item<'a, D: SourceDatabase>(
         ModItemKind::ExternBlock { children } => {
             let list = collect_extern_block(collector, db, session, site, node, children)?;
             Ok(Some(list))
+        }
+        ModItemKind::MacroCall {
+            path,
+            expand_to,
+            ctxt,
+        } => {
+            let written = WrittenCall {
+                path,
+                expand_to: *expand_to,
+                ctxt: *ctxt,
+            };
+            collect_macro_call(collector, db, session, site, node, written)
         }
         _ => {
             collect_leaf(collector, db, session, site, node)?;

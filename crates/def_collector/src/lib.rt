@@ -1,6 +1,7 @@
 //! The definition collector: from item trees to the map of modules and bindings.
 #![tactic(auto)]
 
+mod calls;
 mod collector;
 mod globs;
 mod imports;

@@ -92,6 +92,7 @@ fn begin<'a, D: SourceDatabase>(
         mod_dirs: ModDirs::new(alloc),
         unresolved_imports: Vec::new(alloc),
         indeterminate_imports: Vec::new(alloc),
+        unresolved_macros: Vec::new(alloc),
         diagnostics: Vec::new(alloc),
     })
 }

@@ -1,5 +1,5 @@
 //! Where the files of modules lie.
-ghost use Rattle.std.specs.Prelude.{◌≡◌, None, Some, OnOk};
+ghost use Rattle.std.specs.Prelude.{◌≡◌, None, Some, option_map, OnOk};
 ghost use Rattle.def_ids.specs.Ids.{is_same_module};
 ghost use Rattle.def_modules.specs.Updates.{set_where};
 ghost use Rattle.def_items.specs.Parts.{directories_of};
@@ -23,6 +23,13 @@ impl ModDirs {
         ModDirs {
             dirs: IndexMap::new(alloc),
         }
+    }
+
+    /// The directory that is stored for a module, if one is.
+    pub fn get(&self, module_id: ModuleId) -> Option<&ModDir>
+        ensures { option_map (λ dir. dir.now) result ≡ directories_of self.now module_id }
+    {
+        self.dirs.get(&module_id)
     }
 
     /// Stores the directory of a module, in the place of an earlier one.

@@ -1,6 +1,9 @@
 -- No name fails where a module is added or changed.
 use Rattle.std.proofs.Common.{◌≡◌, ℕ, zero, suc, Bool, true, false, List, [], ◌∷◌, length, All, Option, Some, None, refl}
 use Rattle.std.proofs.lemmas.List.Elements.{All-cons, All-head, All-tail, All-push}
+use Rattle.item_tree.specs.declared.ids.FileAstId.{FileAstId}
+use Rattle.item_tree.specs.declared.ids.InFile.{InFile}
+use Rattle.item_tree.specs.declared.ids.MacroCallId.{MacroCallId}
 use Rattle.item_tree.specs.declared.name.Name.{Name}
 use Rattle.def_ids.specs.declared.ids.MacroId.{MacroId}
 use Rattle.def_ids.specs.declared.ids.ModuleId.{ModuleId}
@@ -9,8 +12,9 @@ use Rattle.def_bindings.specs.declared.visibility.Visibility.{Visibility}
 use Rattle.def_modules.specs.declared.module_data.ModuleOrigin.{ModuleOrigin}
 use Rattle.def_modules.specs.Maps.{pushed, with_macro_use, with_module}
 use Rattle.def_modules.specs.MapState.{MapState, ModuleState}
-use Rattle.def_modules.specs.Scopes.{declared_in, with_child}
+use Rattle.def_modules.specs.Scopes.{declared_in, with_child, with_invocation}
 use Rattle.def_modules.specs.Updates.{update_at}
+use Rattle.def_rules.specs.Calls.{invoking}
 use Rattle.def_rules.specs.Macros.{showing_helpers, taking}
 use Rattle.def_rules.specs.Modules.{add_module, fresh_module}
 use Rattle.def_parts.specs.ProcMacros.{NameAndHelpers}
@@ -36,10 +40,15 @@ none_failed-declare m i d none = none_failed-with_module m i (declared_in d) (λ
 pub none_failed-pushed : (m : MapState) (i : ℕ) (d : ModuleState) → IsClean d → NoneFailed m → NoneFailed (pushed m i d)
 none_failed-pushed m i d clean none = All-push IsClean m.modules d none clean
 
--- nor where macros are taken, or helpers exported
+-- nor where macros are taken, calls made, or helpers exported
 pub none_failed-taking : (brought : List (Name × MacroId)) (m : MapState) → NoneFailed m → NoneFailed (taking brought m)
 none_failed-taking [] m none = none
 none_failed-taking (one ∷ rest) m none = none_failed-taking rest (with_macro_use m one.0 one.1) none
+
+pub none_failed-invoking : (at : ℕ) (calls : List (InFile FileAstId × MacroCallId)) (m : MapState) → NoneFailed m → NoneFailed (invoking at calls m)
+none_failed-invoking at [] m none = none
+none_failed-invoking at (call ∷ calls) m none =
+    none_failed-invoking at calls (with_module m at (with_invocation call.0 call.1)) (none_failed-with_module m at (with_invocation call.0 call.1) (λ d h. h) none)
 
 pub none_failed-showing_helpers : (in_block : Bool) (id : MacroId) (read : Option NameAndHelpers) (m : MapState) → NoneFailed m → NoneFailed (showing_helpers in_block id read m)
 none_failed-showing_helpers in_block id None m none = none

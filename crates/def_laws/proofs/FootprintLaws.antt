@@ -1,7 +1,10 @@
 -- What a rule does to a run, as laws read it.
-use Rattle.std.proofs.Common.{◌≡◌, ◌⊎◌, ℕ, Bool, true, false, ◌||◌, List, [], ◌∷◌, ◌++◌, length, Option, Some, None, is_some, Result, Ok, Err, Contains, refl, sym, ap, subst, inl, inr}
+use Rattle.std.proofs.Common.{◌≡◌, ◌⊎◌, ℕ, Bool, true, false, cond, ◌||◌, List, [], ◌∷◌, ◌++◌, length, Option, Some, None, is_some, Result, Ok, Err, Contains, refl, sym, ap, subst, inl, inr}
 use Rattle.std.proofs.lemmas.List.Elements.{Contains-append_cases}
 use Rattle.item_tree.specs.declared.ids.CfgExpr.{CfgExpr}
+use Rattle.item_tree.specs.declared.ids.FileAstId.{FileAstId}
+use Rattle.item_tree.specs.declared.ids.InFile.{InFile}
+use Rattle.item_tree.specs.declared.ids.MacroCallId.{MacroCallId}
 use Rattle.item_tree.specs.declared.ids.ModItemId.{ModItemId}
 use Rattle.item_tree.specs.declared.items.ItemNode.{ItemNode}
 use Rattle.item_tree.specs.declared.items.ModContents.{ModContents}
@@ -30,6 +33,8 @@ use Rattle.def_bindings.specs.Puts.{IsExplicit, Origin}
 use Rattle.def_modules.specs.declared.module_data.ModuleOrigin.{ModuleOrigin}
 use Rattle.def_modules.specs.declared.module_data.ModuleOrigin.TheVariants as origin
 use Rattle.def_modules.specs.MapState.{MapState, ModuleState}
+use Rattle.def_oracle.specs.declared.source_database.CallAnswer.{CallAnswer}
+use Rattle.def_oracle.specs.declared.source_database.UnresolvedMacro.{UnresolvedMacro}
 use Rattle.def_oracle.specs.Oracle.{Oracle}
 use Rattle.def_modules.specs.Maps.{textual_at, with_module}
 use Rattle.def_modules.specs.Scopes.{brought, declared_in, with_extern_block, with_extern_crate, with_impl, with_textual, with_unnamed_const}
@@ -41,19 +46,20 @@ use Rattle.def_rules.specs.declared.diagnostics.DefDiagnosticKind.TheVariants.{U
 use Rattle.def_laws.specs.Finished.{NoneFailed}
 use Rattle.def_laws.specs.Roles.{stays}
 use Rattle.def_laws.specs.Own.{AreOwnTasks, IsOwn, IsRecorded}
+use Rattle.def_rules.specs.Calls.{answered_effect, deeper, expansion_effect, expansion_site, expansion_tree, is_too_deep, queued, told_effect, with_invocations}
 use Rattle.def_rules.specs.Crates.{tree_attrs}
 use Rattle.def_rules.specs.Globs.{Targets}
 use Rattle.def_rules.specs.Items.{ctor_task, declare, declared_effect, diagnostic, ctor_vis, is_crate_root, is_prelude_import, node_at, noted_in, new_imports, position_of, put_declared, top_items, tree_cfg, walk, written_vis}
 use Rattle.def_rules.specs.Macros.{export_effect, showing_helpers, item_expander, item_state, listed_helpers, macros_brought, rules_expander, taking_macros, textual_state, unimplemented_reported}
 use Rattle.def_rules.specs.Modules.{add_module, bring_if, file_tree, inline_contents, inner_site, is_macro_use, module_item, name_text, next_module, outline_found, outline_item}
 use Rattle.def_rules.specs.ExternCrates.{crate_effect, crate_entry, crate_name, named_crate, naming_crate}
-use Rattle.def_rules.specs.Rules.{Visits, VisitsAt, VisitsNode, Rule, Follows, rule_of, declares, declares_struct, opens_module, opens_block, queues, binds_crate, notes_impl, notes_const, defines_rules, defines_macro}
+use Rattle.def_rules.specs.Rules.{Visits, VisitsAt, VisitsNode, Rule, Follows, rule_of, declares, declares_struct, opens_module, opens_block, queues, binds_crate, notes_impl, notes_const, defines_rules, defines_macro, calls_macro}
 use Rattle.def_rules.specs.Imports.{no_namespaces}
-use Rattle.def_rules.specs.State.{State, Effect, entered, followed_by, only, ImportDirective, Site, Task, Put, reported, root}
+use Rattle.def_rules.specs.State.{State, Effect, entered, followed_by, only, ImportDirective, Site, Task, Put, reported, root, WrittenCall}
 use Rattle.def_laws.proofs.SoundLaws.{IsLarger}
 use Rattle.def_laws.proofs.AddedLaws.{AddsNew, added_new, none_added}
-use Rattle.def_laws.proofs.CleanLaws.{IsClean, none_failed-add_module, none_failed-showing_helpers, none_failed-taking, none_failed-with_module}
-use Rattle.def_laws.proofs.LargerLaws.{larger_add_module, larger_showing, larger_refl, larger_same, larger_taking, larger_trans, larger_with_module, own_next, own_root}
+use Rattle.def_laws.proofs.CleanLaws.{IsClean, none_failed-add_module, none_failed-invoking, none_failed-showing_helpers, none_failed-taking, none_failed-with_module}
+use Rattle.def_laws.proofs.LargerLaws.{larger_add_module, larger_invoking, larger_showing, larger_refl, larger_same, larger_taking, larger_trans, larger_with_module, own_next, own_root}
 use Rattle.def_laws.proofs.OwnLaws.{own_both}
 use Rattle.def_laws.proofs.PlainLaws.{ArePlain, own_walk, plain_both, plain_walk, explicit_by}
 
@@ -290,6 +296,45 @@ module _ (oracle : Oracle) (s : State) (site : Site) where
           (λ none. none_failed-with_module t.map site.scope.index (declared_in (def.Macro id)) (λ d h. h) (none_failed-showing_helpers in_block id read s.map none))
           (λ targets own. (put_own u.map site.scope targets None refl own, tt)) (refl, tt)
 
+    -- an expansion is walked, or dropped
+    expanded_footprint : (t : State) (call : MacroCallId) → t.content ≡ s.content → t.targets ≡ s.targets → t.imports ≡ s.imports → IsLarger s.map t.map → (NoneFailed s.map → NoneFailed t.map) → Footprint s site.scope (expansion_effect oracle t site call)
+    expanded_footprint t call content targets imports larger clean = by (is_too_deep t.map (deeper site.depth))
+      where
+        inner : Site
+        inner = expansion_site oracle t site call
+
+        ids : List ModItemId
+        ids = top_items oracle (expansion_tree call)
+
+        by : (dropped : Bool) → Footprint s site.scope (cond dropped (only t) (followed_by t (walk oracle inner ids)))
+        by true = map_footprint s site.scope t [] content targets imports larger clean (λ targets own. tt) tt
+        by false = map_footprint s site.scope t (walk oracle inner ids) content targets imports larger clean (λ targets own. own_walk oracle t.map targets inner ids own) (plain_walk oracle inner ids)
+
+    -- a call is answered
+    told_footprint : (written : WrittenCall) (inner : List (InFile FileAstId × MacroCallId)) (value : Option MacroCallId) (error : Option ℕ) → Footprint s site.scope (told_effect oracle (with_invocations s site.scope inner) site item written value error)
+    told_footprint written inner value error = by value error
+      where
+        t : State
+        t = with_invocations s site.scope inner
+
+        larger : IsLarger s.map t.map
+        larger = larger_invoking site.scope.index inner s.map
+
+        clean : NoneFailed s.map → NoneFailed t.map
+        clean none = none_failed-invoking site.scope.index inner s.map none
+
+        by : (value : Option MacroCallId) (error : Option ℕ) → Footprint s site.scope (told_effect oracle t site item written value error)
+        by value (Some error) = map_footprint s site.scope (queued t site item written) [] refl refl refl larger clean (λ targets own. tt) tt
+        by None None = map_footprint s site.scope t [] refl refl refl larger clean (λ targets own. tt) tt
+        by (Some call) None =
+            let made : List (InFile FileAstId × MacroCallId) = (position_of site item, call) ∷ [] in
+            let u : State = with_invocations t site.scope made in
+            expanded_footprint u call refl refl refl (larger_trans s.map t.map u.map larger (larger_invoking site.scope.index made t.map)) (λ none. none_failed-invoking site.scope.index made t.map (clean none))
+
+    answered_footprint : (written : WrittenCall) (answer : Result CallAnswer UnresolvedMacro) → Footprint s site.scope (answered_effect oracle s site item written answer)
+    answered_footprint written (Ok answer) = told_footprint written answer.inner answer.value answer.err
+    answered_footprint written (Err e) = map_footprint s site.scope (queued s site item written) [] refl refl refl (larger_refl s.map) (λ none. none) (λ targets own. tt) tt
+
     -- what each rule does
     follows_footprint : (rule : Rule) (effect : Effect) → Follows oracle s site item rule effect → Footprint s site.scope effect
     follows_footprint (declares kind d ns name raw) effect does =
@@ -344,6 +389,7 @@ module _ (oracle : Oracle) (s : State) (site : Site) where
         let told = told_is expander in
         known_footprint s site.scope effect _ does.2
         (subst (λ t. Footprint s site.scope (declared_effect (item_state t site item expander defined) site.scope name Macros (def.Macro defined) vis)) (sym told.1) (item_footprint defined name vis expander told.0))
+    follows_footprint (calls_macro written) effect does = known_footprint s site.scope effect _ does (answered_footprint written _)
 
 node_footprint : (oracle : Oracle) (s : State) (site : Site) (id : ModItemId) (item : ItemNode) (cfg : Option CfgExpr) (effect : Effect) → VisitsNode oracle s site id item cfg effect → Footprint s site.scope effect
 node_footprint oracle s site id item (Some cfg) effect does =

@@ -3,6 +3,9 @@ use Rattle.std.proofs.Common.{◌≡◌, ◌⊎◌, ◌<◌, ◌+◌, ℕ, zero,
 use Rattle.std.specs.Prelude.{nat_lt}
 use Rattle.std.specs.Option.{option_and_then}
 use Rattle.std.proofs.lemmas.Bool.{ltb-true}
+use Rattle.item_tree.specs.declared.ids.FileAstId.{FileAstId}
+use Rattle.item_tree.specs.declared.ids.InFile.{InFile}
+use Rattle.item_tree.specs.declared.ids.MacroCallId.{MacroCallId}
 use Rattle.item_tree.specs.declared.name.Name.{Name}
 use Rattle.def_ids.specs.declared.ids.MacroId.{MacroId}
 use Rattle.def_ids.specs.declared.ids.ModuleId.{ModuleId}
@@ -11,9 +14,11 @@ use Rattle.def_bindings.specs.Tree.{AreParentsLower}
 use Rattle.def_modules.specs.declared.module_data.ModuleOrigin.{ModuleOrigin}
 use Rattle.def_modules.specs.MapState.{MapState, ModuleState}
 use Rattle.def_modules.specs.Maps.{known_parent, pushed, with_macro_use, with_module}
+use Rattle.def_modules.specs.Scopes.{with_invocation}
 use Rattle.def_modules.specs.Updates.{update_at}
 use Rattle.def_parts.specs.ProcMacros.{NameAndHelpers}
 use Rattle.def_laws.specs.Own.{IsOwn}
+use Rattle.def_rules.specs.Calls.{invoking}
 use Rattle.def_rules.specs.Macros.{showing_helpers, taking}
 use Rattle.def_rules.specs.Recording.{with_new_prelude}
 use Rattle.def_rules.specs.Modules.{add_module, fresh_module, next_module}
@@ -118,6 +123,13 @@ larger_taking [] m = larger_refl m
 larger_taking (one ∷ rest) m =
     let first : MapState = with_macro_use m one.0 one.1 in
     larger_trans m first (taking rest first) (larger_same m first refl refl refl refl) (larger_taking rest first)
+
+-- nor do calls that are made
+pub larger_invoking : (at : ℕ) (calls : List (InFile FileAstId × MacroCallId)) (m : MapState) → IsLarger m (invoking at calls m)
+larger_invoking at [] m = larger_refl m
+larger_invoking at (call ∷ calls) m =
+    let first : MapState = with_module m at (with_invocation call.0 call.1) in
+    larger_trans m first (invoking at calls first) (larger_with_module m at (with_invocation call.0 call.1)) (larger_invoking at calls first)
 
 -- nor do helpers that are exported
 pub larger_showing : (in_block : Bool) (id : MacroId) (read : Option NameAndHelpers) (m : MapState) → IsLarger m (showing_helpers in_block id read m)

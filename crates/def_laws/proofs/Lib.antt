@@ -21,6 +21,7 @@ pub mod ImportsLaws
 pub mod RecordLaws
 pub mod StartLaws
 pub mod ModulesLaws
+pub mod CallsLaws
 pub mod ListLaws
 pub mod AddedLaws
 pub mod RunsLaws

@@ -1,11 +1,12 @@
 -- What an item opens is less work than the item.
-use Rattle.std.proofs.Common.{◌≡◌, ◌<◌, ◌≤◌, ◌+◌, ◌*◌, ◌^◌, ℕ, zero, suc, Bool, true, false, cond, not, ◌||◌, List, [], ◌∷◌, ◌++◌, filter, length, length-append, get_or, slice_get, option_and_then, All, Option, Some, None, Result, Ok, Err, refl, sym, ap, subst, ◌∙◌, arith}
+use Rattle.std.proofs.Common.{◌≡◌, ◌<◌, ◌≤◌, ◌+◌, ◌-◌, ◌*◌, ◌^◌, ℕ, zero, suc, Bool, true, false, true≢false, cond, not, ◌||◌, nat_eq, nat_lt, ltb-true, eq-eqb, List, [], ◌∷◌, ◌++◌, filter, length, length-append, get_or, slice_get, option_and_then, All, Option, Some, None, Result, Ok, Err, refl, sym, ap, subst, ◌∙◌, arith}
 use Rattle.std.proofs.Math.Nat.{mul-le-mul_right, one-le-pow, pow-le-pow_right, pow-succ'}
 use Rattle.std.proofs.lemmas.List.Elements.{All-append, All-filter, All-head, All-tail}
 use Rattle.std.proofs.lemmas.List.Filters.{length-filter_both}
 use Rattle.std.proofs.lemmas.List.Sums.{sum_by-cons}
 use Rattle.std.proofs.lemmas.Option.{slice_get-get_or}
 use Rattle.item_tree.specs.declared.ids.CfgExpr.{CfgExpr}
+use Rattle.item_tree.specs.declared.ids.MacroCallId.{MacroCallId}
 use Rattle.item_tree.specs.declared.ids.ModItemId.{ModItemId}
 use Rattle.item_tree.specs.declared.ids.TreeId.{TreeId}
 use Rattle.item_tree.specs.declared.items.ItemNode.{ItemNode}
@@ -28,15 +29,19 @@ use Rattle.def_ids.specs.declared.ids.ModuleId.{ModuleId}
 use Rattle.def_ids.specs.declared.macro_def.MacroExpander.{MacroExpander}
 use Rattle.def_bindings.specs.declared.visibility.Visibility.{Visibility}
 use Rattle.def_modules.specs.Scopes.{with_extern_crate}
+use Rattle.def_modules.specs.Maps.{limit_of}
+use Rattle.def_oracle.specs.declared.source_database.CallAnswer.{CallAnswer}
+use Rattle.def_oracle.specs.declared.source_database.UnresolvedMacro.{UnresolvedMacro}
 use Rattle.def_oracle.specs.Oracle.{Oracle}
 use Rattle.def_parts.specs.Directories.{Directory, FoundFile, descend, files_of, resolve_declaration}
+use Rattle.def_rules.specs.Calls.{answered_effect, deeper, deepest, expansion_effect, expansion_site, expansion_tree, told_effect, with_invocations}
 use Rattle.def_rules.specs.Crates.{tree_attrs}
 use Rattle.def_rules.specs.ExternCrates.{crate_effect, crate_name, named_crate}
-use Rattle.def_rules.specs.Items.{crates_first, ctor_task, is_crate_root, names_crate, node_at, noted_in, ordered, top_items, tree_cfg, visits, walk, written_vis}
+use Rattle.def_rules.specs.Items.{crates_first, ctor_task, is_crate_root, names_crate, node_at, noted_in, ordered, position_of, top_items, tree_cfg, visits, walk, written_vis}
 use Rattle.def_rules.specs.Macros.{export_effect, macros_brought, rules_expander, textual_state, unimplemented_reported}
 use Rattle.def_rules.specs.Modules.{bring_if, file_tree, inline_contents, inner_site, is_macro_use, module_item, name_text, next_module, outline_found, outline_item}
-use Rattle.def_rules.specs.Rules.{Rule, Follows, rule_of, declares, declares_struct, opens_module, opens_block, queues, binds_crate, notes_impl, notes_const, defines_rules, defines_macro}
-use Rattle.def_rules.specs.State.{State, Effect, Site, Task, Visit}
+use Rattle.def_rules.specs.Rules.{Rule, Follows, rule_of, declares, declares_struct, opens_module, opens_block, queues, binds_crate, notes_impl, notes_const, defines_rules, defines_macro, calls_macro}
+use Rattle.def_rules.specs.State.{State, Effect, followed_by, only, Site, Task, Visit, WrittenCall}
 use Rattle.def_laws.specs.Performs.{Handled}
 use Rattle.def_laws.specs.Work.{AreBelow, IsBelow, rank, rank_of, rank_work, task_work, weight, work}
 use Rattle.def_laws.proofs.LevelsLaws.{IsDeeper, declaration_deeper, descend_deeper}
@@ -195,6 +200,39 @@ module _ (oracle : Oracle) (s : State) (site : Site) (id : ModItemId) (item : It
   export_below t false name macro_id = tt
   export_below t true name macro_id = (tt, tt)
 
+  -- the items of an expansion, which lie one level of expansions deeper
+  expansion_below : (t : State) (call : MacroCallId) → AreBelow (rank site id) (expansion_effect oracle t site call).tasks
+  expansion_below t call = by (nat_lt (limit_of t.map.krate) (deeper site.depth)) (nat_eq (deeper site.depth) deepest) refl
+    where
+      inner : Site
+      inner = expansion_site oracle t site call
+
+      ids : List ModItemId
+      ids = top_items oracle (expansion_tree call)
+
+      stepped : (below : Bool) → nat_lt site.depth deepest ≡ below → nat_eq (cond below (suc site.depth) deepest) deepest ≡ false → (cond below (suc site.depth) deepest ≡ suc site.depth) × (site.depth < 2 ^ 32 - 1)
+      stepped true is other = (refl, ltb-true site.depth deepest is)
+      stepped false is other = absurd (true≢false (sym (eq-eqb deepest deepest refl) ∙ other))
+
+      by : (over last : Bool) → nat_eq (deeper site.depth) deepest ≡ last → AreBelow (rank site id) (cond (over || last) (only t) (followed_by t (walk oracle inner ids))).tasks
+      by true last is = tt
+      by false true is = tt
+      by false false is =
+          let at = stepped (nat_lt site.depth deepest) refl is in
+          let next = at.0 in
+          let small = at.1 in
+          walk_below oracle (rank site id) inner ids (λ k d place. omega (arith, next, small))
+
+  -- what a call leads to
+  told_below : (t : State) (written : WrittenCall) (value : Option MacroCallId) (error : Option ℕ) → AreBelow (rank site id) (told_effect oracle t site item written value error).tasks
+  told_below t written value (Some error) = tt
+  told_below t written None None = tt
+  told_below t written (Some call) None = expansion_below (with_invocations t site.scope ((position_of site item, call) ∷ [])) call
+
+  answered_below : (written : WrittenCall) (answer : Result CallAnswer UnresolvedMacro) → AreBelow (rank site id) (answered_effect oracle s site item written answer).tasks
+  answered_below written (Ok answer) = told_below (with_invocations s site.scope answer.inner) written answer.value answer.err
+  answered_below written (Err e) = tt
+
   same : (e f : Effect) → e ≡ f → AreBelow (rank site id) f.tasks → AreBelow (rank site id) e.tasks
   same e f is below = subst (λ (x : Effect). AreBelow (rank site id) x.tasks) (sym is) below
 
@@ -218,6 +256,7 @@ module _ (oracle : Oracle) (s : State) (site : Site) (id : ModItemId) (item : It
       let defined : MacroId = macro_of.MacroRules (record { 0 = does.0 }) in
       same effect _ does.4 (export_below (textual_state (unimplemented_reported s site item expander) site item name defined) (has_attr macro_export_name (attrs_of item.attrs)) name defined)
   follows_below small (defines_macro name raw) later effect does = same effect _ does.2 (tt, tt)
+  follows_below small (calls_macro written) later effect does = same effect _ does (answered_below written _)
 
 -- what is left of a handled item is less work than the item
 pub handled_less : (oracle : Oracle) (s t : State) (site : Site) (id : ModItemId) (item : ItemNode) (inner : List Task) → node_at oracle site.tree id ≡ Some item → id.0 < 2 ^ 64 → length inner ≤ 2 ^ 64 + 1

@@ -3,7 +3,7 @@ ghost use Rattle.std.specs.Prelude.{◌≡◌, ◌≤◌, map, length, option_ma
 ghost use Rattle.indexmap.specs.IndexMap.{get};
 ghost use Rattle.def_bindings.specs.Content.{is_name};
 ghost use Rattle.def_bindings.specs.Tree.{module_of, parent_of};
-ghost use Rattle.def_map.specs.DefMaps.{state_of, content_of};
+ghost use Rattle.def_map.specs.DefMaps.{state_of, content_of, view_of};
 ghost use Rattle.def_modules.specs.Maps.{exported_of, features_of, helper_state, limit_of};
 ghost use Rattle.def_modules.specs.Scopes.{module_state};
 ghost use Rattle.def_modules.specs.Tables.{bound_by};
@@ -32,6 +32,13 @@ impl DefMap {
         ensures { bound_by result.now ≡ content_of self.now }
     {
         &self.table
+    }
+
+    /// The last textual macro of a name in a module, if that is of this map.
+    pub fn textual_macro(&self, place: ModuleId, name: Name) -> Option<MacroId>
+        ensures { result ≡ (view_of self.now).facts.textual_macro place name }
+    {
+        self.data.textual_macro(place, name)
     }
 
     /// The modules in order of declaration, the root first.

@@ -30,7 +30,7 @@ pub use def_oracle::{
 };
 pub use def_paths::{
     Asked, BuiltinShadowMode, Item, MacroSubNs, PerNs, PrefixInfo, ReachedFixedPoint, ResolveMode,
-    ResolvePathResult, Table, World, public_item,
+    ResolvePathResult, Table, World, is_map_among, public_item,
 };
 
 // The ids, visibilities and bindings that maps are made of.

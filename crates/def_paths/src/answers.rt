@@ -91,7 +91,7 @@ fn is_plain(kind: PathKind) -> bool
 }
 
 /// Whether a module is of a map of one of these.
-fn is_map_among(before: &[ModuleId], place: ModuleId) -> bool
+pub fn is_map_among(before: &[ModuleId], place: ModuleId) -> bool
     ensures { result ≡ list_any (λ b. is_same_map b.map place.map) before.now }
 {
     for other in before {

@@ -11,6 +11,7 @@ mod sources;
 mod table;
 mod world;
 
+pub use answers::is_map_among;
 pub use asked::{
     Asked, BuiltinShadowMode, PrefixInfo, ReachedFixedPoint, ResolveMode, ResolvePathResult,
 };

@@ -4,6 +4,7 @@ pub mod Steps
 pub mod Items
 pub mod Modules
 pub mod Macros
+pub mod Calls
 pub mod ExternCrates
 pub mod Rules
 pub mod Imports

@@ -22,10 +22,13 @@ use Rattle.def_rules.specs.declared.diagnostics.DefDiagnostic.{DefDiagnostic}
 use Rattle.def_rules.specs.declared.diagnostics.DefDiagnosticKind.TheVariants.{UnresolvedImport}
 use Rattle.def_rules.specs.declared.outcome.Edge.{Edge}
 use Rattle.def_rules.specs.declared.outcome.LeftImport.{LeftImport}
+use Rattle.def_rules.specs.declared.outcome.LeftMacro.{LeftMacro}
+use Rattle.def_rules.specs.declared.outcome.LeftMacroKind.{LeftMacroKind}
+use Rattle.def_rules.specs.declared.outcome.LeftMacroKind.TheVariants.{Fn}
 use Rattle.def_rules.specs.declared.outcome.Outcome.{Outcome}
 use Rattle.def_rules.specs.Imports.{bound_name, unresolved_imports}
 use Rattle.def_rules.specs.Globs.{Targets}
-use Rattle.def_rules.specs.State.{State, Import}
+use Rattle.def_rules.specs.State.{State, Import, MacroDirective, MacroDirectiveKind, FnLike}
 
 -- all that a run answers
 pub record Answer : Type 0 where
@@ -58,6 +61,14 @@ marked m left = record m { modules = marked_from left 0 m.modules }
 abbrev pub left_import : Import → LeftImport
 left_import p = record { «module» = p.scope; ast_id = p.position; idx = p.written.idx; path = p.written.path }
 
+-- how a macro that is left over is called, and by which path
+abbrev pub left_kind : MacroDirectiveKind → LeftMacroKind × ModPath
+left_kind (FnLike written) = (Fn, written.path)
+
+-- what waits for a macro, as it is left over
+abbrev pub left_macro : MacroDirective → LeftMacro
+left_macro d = record { «module» = d.scope; ast_id = d.position; kind = (left_kind d.kind).0; path = (left_kind d.kind).1; depth = d.depth }
+
 -- an edge as it is listed
 abbrev pub listed_edge : ModuleId → EdgeTo Visibility → Edge
 listed_edge source edge = record { source = source; importer = edge.importer; vis = edge.vis; glob = edge.glob }
@@ -79,10 +90,10 @@ pub record AreTargets (targets : Targets) (listed : List (GlobId × List Def)) :
 abbrev pub shown_targets : GlobId × Vec Def Global → GlobId × List Def
 shown_targets t = (t.0, t.1.items)
 
--- how a run ended: the imports left over, in order, the edges of globs, and what each glob was recorded with
+-- how a run ended: the imports and macro calls left over, in order, the edges of globs, and what each glob was recorded with
 pub record IsOutcome (end : State) (outcome : Outcome) : Type 0 where
   pub imports : outcome.imports.items ≡ map left_import (unresolved_imports end.imports)
-  pub macros : outcome.macros.items ≡ []
+  pub macros : outcome.macros.items ≡ map left_macro end.macros
   pub edges : AreEdges end.content outcome.edges.items
   pub targets : AreTargets end.targets (map shown_targets outcome.targets.items)
   pub limit : outcome.limit_met ≡ false

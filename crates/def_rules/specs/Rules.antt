@@ -7,7 +7,7 @@ use Rattle.item_tree.specs.declared.items.ImportAlias.{ImportAlias}
 use Rattle.item_tree.specs.declared.items.ItemNode.{ItemNode}
 use Rattle.item_tree.specs.declared.items.ModContents.{ModContents}
 use Rattle.item_tree.specs.declared.items.ModItemKind.{ModItemKind}
-use Rattle.item_tree.specs.declared.items.ModItemKind.TheVariants.{Mod, Use, ExternCrate, ExternBlock, MacroRules, Macro2, Impl, Struct, Union, Enum, Function, Const, Static, Trait, TypeAlias}
+use Rattle.item_tree.specs.declared.items.ModItemKind.TheVariants.{Mod, Use, ExternCrate, ExternBlock, MacroCall, MacroRules, Macro2, Impl, Struct, Union, Enum, Function, Const, Static, Trait, TypeAlias}
 use Rattle.item_tree.specs.declared.items.RawVisibility.{RawVisibility}
 use Rattle.item_tree.specs.declared.items.UseImport.{UseImport}
 use Rattle.item_tree.specs.declared.name.Name.{Name}
@@ -22,9 +22,10 @@ use Rattle.def_bindings.specs.declared.bindings.Namespace.TheVariants.{Types, Va
 use Rattle.def_modules.specs.Scopes.{with_extern_block, with_extern_crate, with_impl, with_unnamed_const}
 use Rattle.def_oracle.specs.Oracle.{Oracle}
 use Rattle.def_rules.specs.declared.diagnostics.DefDiagnosticKind.TheVariants.{UnconfiguredCode}
-use Rattle.def_rules.specs.State.{State, Effect, only, followed_by, reported, Site}
+use Rattle.def_rules.specs.State.{State, Effect, only, followed_by, reported, Site, WrittenCall}
 use Rattle.def_rules.specs.Items.{IsNumber, ctor_vis, declared_effect, diagnostic, node_at, noted_in, new_imports, struct_effect, walk, written_vis}
 use Rattle.def_rules.specs.Macros.{IsBuiltinName, item_effect, item_expander, item_flags, macro_loc, macros_brought, rules_effect, rules_expander, rules_flags}
+use Rattle.def_rules.specs.Calls.{call_effect}
 use Rattle.def_rules.specs.Modules.{module_item}
 use Rattle.def_rules.specs.ExternCrates.{crate_effect, crate_name, named_crate}
 
@@ -50,6 +51,8 @@ pub data Rule : Type 0 where
   defines_rules : Name → Rule
   -- a `macro` item is defined and declared
   defines_macro : Name → RawVisibility → Rule
+  -- a macro is called
+  calls_macro : WrittenCall → Rule
 
 -- the rule of an item, by its kind
 abbrev pub rule_of : ModItemKind → Rule
@@ -59,6 +62,7 @@ rule_of (ExternCrate name raw alias) = binds_crate name raw alias
 rule_of (ExternBlock children) = opens_block children
 rule_of (MacroRules name) = defines_rules name
 rule_of (Macro2 name raw) = defines_macro name raw
+rule_of (MacroCall path expand_to ctxt) = calls_macro (record { path = path; expand_to = expand_to; ctxt = ctxt })
 rule_of (Impl of_trait) = notes_impl of_trait
 rule_of (Struct name raw ctor) = declares_struct name raw ctor
 rule_of (Union name raw) = declares UnionItem (λ n. def.Union (record { 0 = n })) Types name raw
@@ -98,6 +102,7 @@ Follows oracle s site item (defines_rules name) effect =
 Follows oracle s site item (defines_macro name raw) effect =
     (n : ℕ) × (s.session.macro_at (macro_of.Macro2 (record { 0 = n })) ≡ Some (macro_loc s.map.krate.edition site item (item_expander oracle s.map.id.krate site item name) (item_flags item)))
     × (effect ≡ item_effect s site item name (written_vis oracle s site.scope raw) (item_expander oracle s.map.id.krate site item name) (macro_of.Macro2 (record { 0 = n })))
+Follows oracle s site item (calls_macro written) effect = effect ≡ call_effect oracle s site item written
 
 -- an item is handled, by its kind
 abbrev pub Handles : Oracle → State → Site → ItemNode → ModItemKind → Effect → Type 0

@@ -36,6 +36,7 @@ seeded_state w session =
       is_proc_macro = is_proc_macro_crate w.oracle w.seeded.id.krate;
       directories = λ at. None;
       imports = [];
+      macros = [];
       diagnostics = [];
     }
 

@@ -4,8 +4,11 @@ use Rattle.item_tree.specs.declared.ids.FileAstId.{FileAstId}
 use Rattle.item_tree.specs.declared.ids.InFile.{InFile}
 use Rattle.item_tree.specs.declared.ids.ModItemId.{ModItemId}
 use Rattle.item_tree.specs.declared.ids.TreeId.{TreeId}
+use Rattle.item_tree.specs.declared.ids.SyntaxContext.{SyntaxContext}
+use Rattle.item_tree.specs.declared.items.ExpandTo.{ExpandTo}
 use Rattle.item_tree.specs.declared.items.RawVisibility.{RawVisibility}
 use Rattle.item_tree.specs.declared.items.UseImport.{UseImport}
+use Rattle.item_tree.specs.declared.mod_path.ModPath.{ModPath}
 use Rattle.item_tree.specs.declared.name.Name.{Name}
 use Rattle.def_ids.specs.declared.ids.ItemContainerId.{ItemContainerId}
 use Rattle.def_ids.specs.declared.ids.ItemContainerId.TheVariants.{Module}
@@ -49,6 +52,27 @@ pub record Import : Type 0 where
   -- whether the item has `#[prelude_import]`
   pub is_prelude : Bool
 
+-- a macro call as it is written
+pub record WrittenCall : Type 0 where
+  pub path : ModPath
+  -- what its expansion is read as
+  pub expand_to : ExpandTo
+  pub ctxt : SyntaxContext
+
+-- what waits for a macro
+pub data MacroDirectiveKind : Type 0 where
+  -- a call
+  FnLike : WrittenCall → MacroDirectiveKind
+
+-- what waits for a macro, and where the items of its expansion are to stand
+pub record MacroDirective : Type 0 where
+  pub scope : ModuleId
+  pub container : ItemContainerId
+  pub position : InFile FileAstId
+  -- how deep in expansions its own lies
+  pub depth : ℕ
+  pub kind : MacroDirectiveKind
+
 -- a set of namespaces
 pub record NsSet : Type 0 where
   pub types : Bool
@@ -81,6 +105,8 @@ pub record State : Type 0 where
   pub directories : ModuleId → Option Directory
   -- the imports that are not resolved
   pub imports : List ImportDirective
+  -- the macro calls that wait for their macros
+  pub macros : List MacroDirective
   pub diagnostics : List DefDiagnostic
 
 -- where the items of a list stand: their module, what contains them, the tree that holds them, how deep in expansions of macros, and the directory of their modules' files

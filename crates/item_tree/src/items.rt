@@ -4,7 +4,7 @@ ghost use Rattle.item_tree.specs.Trees.{children_of};
 ghost use Rattle.item_tree.specs.Attrs.{attrs_of, by_key, disabled_by, path_attr};
 
 use crate::attrs::{AttrQuery, AttrsOrCfg};
-use crate::ids::{CfgExpr, FileAstId, ModItemId};
+use crate::ids::{CfgExpr, FileAstId, ModItemId, SyntaxContext};
 use crate::list::Seq;
 use crate::mod_path::ModPath;
 use crate::name::Name;
@@ -90,6 +90,12 @@ pub enum ModItemKind {
     },
     ExternBlock {
         children: Seq<ModItemId>,
+    },
+    /// `PATH!(..)`. `ctxt` is the context of its path.
+    MacroCall {
+        path: ModPath,
+        expand_to: ExpandTo,
+        ctxt: SyntaxContext,
     },
     /// `macro_rules! NAME { .. }`.
     MacroRules {

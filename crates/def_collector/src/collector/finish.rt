@@ -12,6 +12,7 @@ ghost use Rattle.def_rules.specs.Report.{import_report, left_import};
 ghost use Rattle.def_steps.specs.ImportLists.{marked_each, unresolved_in};
 
 use super::DefCollector;
+use def_calls::left_macros;
 use def_map::DefMap;
 use def_rules::{Collected, LeftImport, Outcome};
 use def_steps::{edges_of, report_left_imports, targets_of};
@@ -28,10 +29,11 @@ impl DefCollector<'_> {
         let imports = collector.report_left()?;
         let edges = edges_of(collector.alloc, collector.table.table())?;
         let targets = targets_of(collector.alloc, &collector.targets)?;
+        let macros = left_macros(collector.alloc, collector.unresolved_macros.as_slice())?;
         let outcome = Outcome {
             limit_met: false,
             imports,
-            macros: Vec::new(collector.alloc),
+            macros,
             edges,
             targets,
         };
@@ -88,6 +90,7 @@ impl DefCollector<'_> {
             mod_dirs: _,
             unresolved_imports: _,
             indeterminate_imports: _,
+            unresolved_macros: _,
             diagnostics,
         } = self;
         Collected {

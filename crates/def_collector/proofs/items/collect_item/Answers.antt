@@ -1,4 +1,5 @@
 use Rattle.def_items.proofs.ItemsLemmas.{handled_module}
+use Rattle.def_laws.proofs.CallsLaws.{handled_call}
 use Rattle.def_items.specs.Parts.{site_of}
 use Rattle.def_collector.specs.Collector.{state_of}
 use Rattle.def_collector.specs.Walk.{inner_of}
@@ -14,3 +15,10 @@ returns-in-Mod-clause-handled g c =
 
 pub returns-in_ok-list-in-ExternBlock-clause-handled : goal.returns-in_ok-list-in-ExternBlock-clause-handled
 returns-in_ok-list-in-ExternBlock-clause-handled g c = c.in_ok-list-in-ExternBlock.ensures.handled c.in-ExternBlock.is
+
+pub returns-in-MacroCall-clause-handled : goal.returns-in-MacroCall-clause-handled
+returns-in-MacroCall-clause-handled g c =
+    let oracle = g.D.SourceDatabase.oracle c.args.db.now in
+    let before : State = state_of c.args.collector.now c.args.session.now in
+    if_ok c.collect_macro_call.result c.collect_macro_call.ensures.done (λ opened done.
+    handled_call oracle before _ (site_of c.args.site) c.args.node.now c.in-MacroCall.path c.in-MacroCall.expand_to c.in-MacroCall.ctxt (inner_of oracle opened) c.in-MacroCall.is done)

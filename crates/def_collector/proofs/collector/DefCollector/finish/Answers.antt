@@ -1,11 +1,12 @@
 use Rattle.std.proofs.Common.{ap, map, refl, subst, sym, ◌∙◌}
 use Rattle.std.specs.HashMap.{IsUnique}
+use Rattle.def_calls.specs.Shown.{macro_directive_of}
 use Rattle.def_ids.specs.Equality.{glob_eq}
 use Rattle.def_modules.specs.Maps.{map_state}
 use Rattle.def_modules.specs.Tables.{bound_by}
 use Rattle.def_laws.specs.Finished.{shown}
 use Rattle.def_collector.specs.Collector.{state_of}
-use Rattle.def_rules.specs.Report.{Answer, AreEdges, AreTargets, left_import, shown_targets}
+use Rattle.def_rules.specs.Report.{Answer, AreEdges, AreTargets, left_import, left_macro, shown_targets}
 use Rattle.def_rules.specs.declared.outcome.Collected.{Collected}
 use Rattle.def_rules.specs.State.{State}
 use Rattle.def_steps.specs.ImportLists.{marked_each, unresolved_in}
@@ -31,7 +32,7 @@ returns c = λ session.
     refl told.map refl told.imports refl told.diagnostics
     became.map (became.content ∙ ap (λ (x : DefCollector). bound_by x.table) frame) (ap (λ (x : Collected). (shown x).local) became.rest ∙ ap (λ (x : DefCollector). (state_of x session).local) frame)
     (ap (λ (x : Collected). x.diagnostics) became.rest)
-    (ap (λ (x : Collected). x.outcome.imports.items) became.rest) (ap (λ (x : Collected). x.outcome.macros.items) became.rest ∙ c.new.ensures.items)
+    (ap (λ (x : Collected). x.outcome.imports.items) became.rest) (ap (λ (x : Collected). x.outcome.macros.items) became.rest ∙ c.in_ok-macros.ensures ∙ ap (map left_macro) (ap (map macro_directive_of) (c.as_slice.ensures.value ∙ ap (λ (x : DefCollector). x.unresolved_macros.items) frame)))
     (subst (λ (x : Collected). AreEdges end.content x.outcome.edges.items) (sym became.rest) edges)
     (subst (λ (x : Collected). AreTargets end.targets (map shown_targets x.outcome.targets.items)) (sym became.rest) targets)
     (ap (λ (x : Collected). x.outcome.limit_met) became.rest)

@@ -1,0 +1,155 @@
+-- Macro calls: which macro a call finds where it stands, and what its answer does.
+use Rattle.std.specs.Prelude.{ℕ, suc, ◌-◌, ◌^◌, Bool, true, false, cond, ◌||◌, nat_eq, nat_lt, List, [], ◌∷◌, ◌++◌, map, Option, None, Some, is_some, option_and_then, unwrap_or, Result, Ok, Err}
+use Rattle.std.specs.Option.{option_or}
+use Rattle.item_tree.specs.declared.ids.FileAstId.{FileAstId}
+use Rattle.item_tree.specs.declared.ids.HirFileId.TheVariants.{Macro as MacroFile}
+use Rattle.item_tree.specs.declared.ids.InFile.{InFile}
+use Rattle.item_tree.specs.declared.ids.MacroCallId.{MacroCallId}
+use Rattle.item_tree.specs.declared.ids.TreeId.{TreeId}
+use Rattle.item_tree.specs.declared.items.ItemNode.{ItemNode}
+use Rattle.item_tree.specs.declared.mod_path.ModPath.{ModPath}
+use Rattle.item_tree.specs.declared.name.Name.{Name}
+use Rattle.item_tree.specs.Paths.{as_ident}
+use Rattle.def_ids.specs.declared.ids.MacroId.{MacroId}
+use Rattle.def_ids.specs.declared.ids.ModuleId.{ModuleId}
+use Rattle.def_ids.specs.declared.macro_def.MacroDefId.{MacroDefId}
+use Rattle.def_ids.specs.MacroKinds.{is_fn_like}
+use Rattle.def_ids.specs.Session.{macro_def}
+use Rattle.def_modules.specs.Maps.{limit_of, with_module}
+use Rattle.def_modules.specs.MapState.{MapState}
+use Rattle.def_modules.specs.Scopes.{with_invocation}
+use Rattle.def_oracle.specs.declared.source_database.CallAnswer.{CallAnswer}
+use Rattle.def_oracle.specs.declared.source_database.UnresolvedMacro.{UnresolvedMacro}
+use Rattle.def_oracle.specs.Oracle.{Meaning, Oracle}
+use Rattle.def_oracle.specs.Queries.{PlainCall}
+use Rattle.def_parts.specs.Directories.{Directory, root_directory}
+use Rattle.def_paths.specs.OuterMaps.{first_of_each_map}
+use Rattle.def_paths.specs.Paths.{macro_named, map_of, scope}
+use Rattle.def_paths.specs.Sources.{World}
+use Rattle.def_rules.specs.Items.{position_of, top_items, walk}
+use Rattle.def_rules.specs.State.{State, Effect, MacroDirective, FnLike, WrittenCall, only, followed_by, Site, with_map, world}
+
+-- Which macro a call finds at once
+
+-- the last textual macro of a name in a module
+abbrev pub textual_macro : World → Name → ModuleId → Option MacroId
+textual_macro w name at = option_and_then (λ map. map.facts.textual_macro at name) (map_of w at.map)
+
+-- that of the first of these modules that has one
+abbrev pub textual_among : World → Name → List ModuleId → Option MacroId
+textual_among w name [] = None
+textual_among w name (at ∷ places) = option_or (textual_macro w name at) (textual_among w name places)
+
+-- what a name is called by before imports are resolved: a textual macro of the module, or of the maps around its block, else what the module binds, else a macro that an extern crate brought
+abbrev pub early_macro : World → ModuleId → Name → Option MacroId
+early_macro w at name =
+    option_or (textual_among w name (at ∷ first_of_each_map [] w.map.facts.containing))
+    (option_or (macro_named (scope w at name)) (w.map.facts.macro_use name))
+
+-- a macro counts only where it can be called
+abbrev pub if_callable : Option MacroDefId → Option MacroDefId
+if_callable None = None
+if_callable (Some found) = cond (is_fn_like found.kind) (Some found) None
+
+-- the macro that a path names before imports are resolved, which only a plain path of one segment does
+abbrev pub early_meaning : World → ModuleId → Meaning
+early_meaning w at path = if_callable (option_and_then (macro_def w.session) (option_and_then (early_macro w at) (as_ident path)))
+
+-- How deep expansions lie
+
+-- the greatest depth
+abbrev pub deepest : ℕ
+deepest = 2 ^ 32 - 1
+
+-- the depth of an expansion at this depth; there is none below the greatest
+abbrev pub deeper : ℕ → ℕ
+deeper depth = cond (nat_lt depth deepest) (suc depth) deepest
+
+-- whether an expansion of this depth is over a crate's limit, or at the greatest depth
+abbrev pub is_too_deep : MapState → ℕ → Bool
+is_too_deep m depth = nat_lt (limit_of m.krate) depth || nat_eq depth deepest
+
+-- What an expansion does
+
+-- the tree of a call's expansion
+abbrev pub expansion_tree : MacroCallId → TreeId
+expansion_tree call = record { file = MacroFile call; block = None }
+
+-- the directory that is stored for a module, else the root's
+abbrev pub stored_directory : (ModuleId → Option Directory) → ModuleId → Directory
+stored_directory directories at = unwrap_or (directories at) root_directory
+
+-- the directory in which an expansion's modules have their files: of `include!` the root's, of any other call that of its module
+abbrev pub expansion_directory : Oracle → (ModuleId → Option Directory) → ModuleId → MacroCallId → Directory
+expansion_directory oracle directories at call = cond (oracle.is_include call) root_directory (stored_directory directories at)
+
+-- where the items of an expansion stand: in the place of the call, one level deeper
+abbrev pub expansion_site : Oracle → State → Site → MacroCallId → Site
+expansion_site oracle s site call =
+    record {
+      scope = site.scope;
+      container = site.container;
+      tree = expansion_tree call;
+      depth = deeper site.depth;
+      directory = expansion_directory oracle s.directories site.scope call;
+    }
+
+-- an expansion is walked, and one that lies too deep is dropped
+abbrev pub expansion_effect : Oracle → State → Site → MacroCallId → Effect
+expansion_effect oracle s site call =
+    cond (is_too_deep s.map (deeper site.depth)) (only s) (followed_by s (walk oracle (expansion_site oracle s site call) (top_items oracle (expansion_tree call))))
+
+-- What a call does
+
+-- the map in which these calls were made in a module
+abbrev pub invoking : ℕ → List (InFile FileAstId × MacroCallId) → MapState → MapState
+invoking at [] m = m
+invoking at (call ∷ calls) m = invoking at calls (with_module m at (with_invocation call.0 call.1))
+
+-- so the state
+abbrev pub with_invocations : State → ModuleId → List (InFile FileAstId × MacroCallId) → State
+with_invocations s at calls = with_map s (invoking at.index calls s.map)
+
+-- what an item's call is asked with
+abbrev pub call_query : MapState → Site → ItemNode → WrittenCall → PlainCall
+call_query m site item written =
+    record {
+      position = position_of site item;
+      path = written.path;
+      ctxt = written.ctxt;
+      kind = written.expand_to;
+      krate = m.id.krate;
+      depth = deeper site.depth;
+      recursion_limit = limit_of m.krate;
+    }
+
+-- what the oracle answers to a call, by what a resolver finds
+abbrev pub answer_by : Oracle → Meaning → PlainCall → Result CallAnswer UnresolvedMacro
+answer_by oracle meaning query = oracle.macro_call query (map meaning (oracle.asked_paths query))
+
+-- a call waits for its macro
+abbrev pub waiting : Site → ItemNode → WrittenCall → MacroDirective
+waiting site item written = record { scope = site.scope; container = site.container; position = position_of site item; depth = deeper site.depth; kind = FnLike written }
+
+-- the state in which it does
+abbrev pub queued : State → Site → ItemNode → WrittenCall → State
+queued s site item written = record s { macros = s.macros ++ waiting site item written ∷ [] }
+
+-- a call was made, and is expanded; where there is none, nothing follows
+abbrev pub made_effect : Oracle → State → Site → ItemNode → Option MacroCallId → Effect
+made_effect oracle s site item None = only s
+made_effect oracle s site item (Some call) = expansion_effect oracle (with_invocations s site.scope ((position_of site item, call) ∷ [])) site call
+
+-- an answer without an error is final, and a call with one waits
+abbrev pub told_effect : Oracle → State → Site → ItemNode → WrittenCall → Option MacroCallId → Option ℕ → Effect
+told_effect oracle s site item written value None = made_effect oracle s site item value
+told_effect oracle s site item written value (Some error) = only (queued s site item written)
+
+-- the calls that were made for the arguments are recorded; a call whose macro is not found waits
+abbrev pub answered_effect : Oracle → State → Site → ItemNode → WrittenCall → Result CallAnswer UnresolvedMacro → Effect
+answered_effect oracle s site item written (Ok answer) = told_effect oracle (with_invocations s site.scope answer.inner) site item written answer.value answer.err
+answered_effect oracle s site item written (Err unresolved) = only (queued s site item written)
+
+-- a macro call is tried where it stands
+abbrev pub call_effect : Oracle → State → Site → ItemNode → WrittenCall → Effect
+call_effect oracle s site item written = answered_effect oracle s site item written (answer_by oracle (early_meaning (world oracle s) site.scope) (call_query s.map site item written))
