@@ -18,3 +18,5 @@ pub mod Ring
 pub mod Private
 pub mod OneStructAlone
 pub mod Excused
+pub mod Called
+pub mod Waiting
