@@ -1,1 +1,2 @@
+mod CallsLemmas
 mod FillingLemmas

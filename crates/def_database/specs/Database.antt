@@ -1,6 +1,7 @@
 -- What a database whose answers were written down answers.
-use Rattle.std.specs.Prelude.{Bool, false, ◌==◌, ◌&&◌, List, [], ℕ, String, Option, Some, None, option_map, Err}
+use Rattle.std.specs.Prelude.{Bool, false, ◌==◌, ◌&&◌, List, [], ◌∷◌, ℕ, String, Option, Some, None, option_map}
 use Rattle.indexmap.specs.IndexMap.{IndexMap, get, get_by_text}
+use Rattle.indexmap.specs.IndexSet.{contains}
 use Rattle.item_tree.specs.declared.ids.BlockId.{BlockId}
 use Rattle.item_tree.specs.declared.ids.Crate.{Crate}
 use Rattle.item_tree.specs.declared.ids.FileId.{FileId}
@@ -14,6 +15,7 @@ use Rattle.def_modules.specs.Equality.{file_eq, position_eq}
 use Rattle.def_modules.specs.Locals.{local_view}
 use Rattle.def_map.specs.Oracle.{Oracle}
 use Rattle.def_database.specs.declared.database.Database.{Database}
+use Rattle.def_database.specs.Calls.{call_answer, call_eq, call_key_eq}
 
 -- whether two trees are one
 abbrev pub tree_eq : TreeId → TreeId → Bool
@@ -31,7 +33,7 @@ file_id_eq a b = a.0 == b.0
 abbrev pub block_eq : BlockId → BlockId → Bool
 block_eq a b = a.0 == b.0
 
--- the source file of a file
+-- the source file of a file; that of an expansion is file 0
 abbrev pub source_file : HirFileId → FileId
 source_file (File file) = file
 source_file (Macro call) = record { 0 = 0 }
@@ -57,11 +59,11 @@ answers_of s =
       resolve_path = leads s.files.paths;
       original_file = source_file;
       expansion_depth = λ file. 0;
-      asked_paths = λ query. [];
-      macro_call = λ query found. Err (record { path = query.path });
+      asked_paths = λ query. query.path ∷ [];
+      macro_call = call_answer (get call_key_eq s.calls.answers);
       make_attr_call = λ query. record { 0 = 0 };
       make_derive_call = λ query. record { 0 = 0 };
-      is_include = λ call. false;
+      is_include = contains call_eq s.calls.includes;
       enum_variants = λ loc. option_map (λ v. v.items) (get position_eq s.types.variants loc.position);
       assoc_items = λ owner. None;
       rule_styles = λ position krate. record { 0 = 1 };

@@ -1,16 +1,17 @@
 //! A database whose answers are data.
+ghost use Rattle.std.specs.Prelude.{◌≡◌, IfOk};
 ghost use Rattle.def_database.specs.Database.{answers_of};
 
-use def_ids::{BuiltinAttr, EnumLoc};
+use def_ids::{BuiltinAttr, EnumLoc, MacroId};
 use def_map::{
     AssocItemsOwner, AssocList, AttrCallQuery, CallAnswer, CallQuery, CrateData, DefMap,
     DeriveCallQuery, EnumVariant, LocalDefMap, MacroResolver, SourceDatabase, UnresolvedMacro,
 };
 use either::Either;
-use indexmap::IndexMap;
+use indexmap::{IndexMap, IndexSet};
 use item_tree::{
     BlockId, Crate, FileAstId, FileId, HirFileId, InFile, ItemTree, MacroCallId, MacroCallStyles,
-    Name, TreeId,
+    Name, Seq, TreeId,
 };
 use std::alloc::{AllocError, Global};
 
@@ -46,13 +47,29 @@ pub struct Builtins {
     pub attrs: IndexMap<Name, BuiltinAttr>,
 }
 
-/// A database whose answers were written down. No macro call is expanded so far: each is one of a
-/// macro that is not found.
+/// The call at a position, of the macro that is found for its path.
+#[derive(Clone, Copy, PartialEq, Eq, Hash)]
+pub struct CallKey {
+    pub position: InFile<FileAstId>,
+    pub macro_id: MacroId,
+}
+
+/// What macro calls give, and which of them are calls of `include!`.
+#[derive(Drop)]
+pub struct Calls {
+    pub answers: IndexMap<CallKey, CallAnswer>,
+    pub includes: IndexSet<MacroCallId>,
+}
+
+/// A database whose answers were written down. A macro call asks the resolver for its path alone,
+/// and gives nothing where nothing was written down of the macro that is found. The source file of
+/// each expansion is file 0.
 pub struct Database {
     pub files: Files,
     pub crates: Crates,
     pub types: Types,
     pub builtins: Builtins,
+    pub calls: Calls,
 }
 
 impl Drop for Database {
@@ -62,6 +79,7 @@ impl Drop for Database {
             crates: _,
             types: _,
             builtins: _,
+            calls: _,
         } = self;
     }
 }
@@ -89,8 +107,23 @@ impl Database {
                 derives: IndexMap::new(alloc),
                 attrs: IndexMap::new(alloc),
             },
+            calls: Calls {
+                answers: IndexMap::new(alloc),
+                includes: IndexSet::new(alloc),
+            },
         }
     }
+}
+
+/// A copy of an answer.
+fn copy_of(answer: &CallAnswer) -> Result<CallAnswer, AllocError>
+    ensures { IfOk result (λ copy. copy ≡ answer.now) }
+{
+    Ok(CallAnswer {
+        value: answer.value,
+        err: answer.err,
+        inner: answer.inner.clone()?,
+    })
 }
 
 impl SourceDatabase for Database {
@@ -136,13 +169,27 @@ impl SourceDatabase for Database {
 
     fn macro_call<R: MacroResolver>(
         &self,
-        _alloc: Global,
+        alloc: Global,
         query: CallQuery<'_>,
-        _resolver: &R,
+        resolver: &R,
     ) -> Result<Result<CallAnswer, UnresolvedMacro>, AllocError> {
-        Ok(Err(UnresolvedMacro {
-            path: query.path.clone()?,
-        }))
+        let Some(found) = resolver.resolve(query.path) else {
+            return Ok(Err(UnresolvedMacro {
+                path: query.path.clone()?,
+            }));
+        };
+        let key = CallKey {
+            position: query.position,
+            macro_id: found.id,
+        };
+        match self.calls.answers.get(&key) {
+            Some(answer) => Ok(Ok(copy_of(answer)?)),
+            None => Ok(Ok(CallAnswer {
+                value: None,
+                err: None,
+                inner: Seq::from_vec(Vec::new(alloc)),
+            })),
+        }
     }
 
     fn make_attr_call(&self, _query: AttrCallQuery<'_>) -> MacroCallId {
@@ -153,8 +200,8 @@ impl SourceDatabase for Database {
         MacroCallId(0)
     }
 
-    fn is_include(&self, _call: MacroCallId) -> bool {
-        false
+    fn is_include(&self, call: MacroCallId) -> bool {
+        self.calls.includes.contains(&call)
     }
 
     fn enum_variants(&self, loc: &EnumLoc) -> Option<&[EnumVariant]> {

@@ -2,15 +2,16 @@
 ghost use Rattle.std.specs.Prelude.{◌≡◌, Some, bytes_eq, OnOk, OnErr};
 ghost use Rattle.indexmap.specs.IndexMap.{get_by_text};
 ghost use Rattle.def_modules.specs.Updates.{set_where};
+ghost use Rattle.def_database.specs.Calls.{with_call, with_include};
 ghost use Rattle.def_database.specs.Database.{answers_of, leads};
 ghost use Rattle.def_database.specs.Filling.{with_tree, with_path, with_crate, with_maps, with_outer_map, with_variants, with_builtin, with_builtin_attr, with_builtin_derive, with_builtin_macro, with_lead};
 
-use crate::database::Database;
-use def_ids::BuiltinAttr;
-use def_map::{CrateData, DefMap, EnumVariant, LocalDefMap};
+use crate::database::{CallKey, Database};
+use def_ids::{BuiltinAttr, MacroId};
+use def_map::{CallAnswer, CrateData, DefMap, EnumVariant, LocalDefMap};
 use either::Either;
 use indexmap::IndexMap;
-use item_tree::{BlockId, Crate, FileAstId, FileId, InFile, ItemTree, Name, TreeId};
+use item_tree::{BlockId, Crate, FileAstId, FileId, InFile, ItemTree, MacroCallId, Name, TreeId};
 use std::alloc::AllocError;
 
 impl Database {
@@ -114,6 +115,30 @@ impl Database {
         ensures err { OnErr result (answers_of self.new ≡ answers_of self.old) }
     {
         self.builtins.attrs.insert(name, attr)?;
+        Ok(())
+    }
+
+    /// Gives the call at a position its answer, for where this macro is found for its path.
+    pub fn add_call(
+        &mut self,
+        position: InFile<FileAstId>,
+        macro_id: MacroId,
+        answer: CallAnswer,
+    ) -> Result<(), AllocError>
+        ensures ok { OnOk result (answers_of self.new ≡ with_call (answers_of self.old) position macro_id answer) }
+        ensures err { OnErr result (answers_of self.new ≡ answers_of self.old) }
+    {
+        let key = CallKey { position, macro_id };
+        self.calls.answers.insert(key, answer)?;
+        Ok(())
+    }
+
+    /// Makes a call one of `include!`.
+    pub fn add_include(&mut self, call: MacroCallId) -> Result<(), AllocError>
+        ensures ok { OnOk result (answers_of self.new ≡ with_include (answers_of self.old) call) }
+        ensures err { OnErr result (answers_of self.new ≡ answers_of self.old) }
+    {
+        self.calls.includes.insert(call)?;
         Ok(())
     }
 }

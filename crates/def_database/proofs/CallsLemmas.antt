@@ -1,0 +1,50 @@
+-- What macro calls are answered after a write.
+use Rattle.std.proofs.Common.{◌≡◌, refl, sym, ap, ◌∙◌, Bool, true, false, ◌&&◌, cond, List, [], ◌∷◌, Option, Some, None}
+use Rattle.std.specs.Prelude.{Result, Ok, unwrap_or}
+use Rattle.def_ids.specs.declared.macro_def.MacroDefId.{MacroDefId}
+use Rattle.def_ids.specs.contracts.ids.MacroIdPartialEq.TheImpl as macros
+use Rattle.def_modules.specs.Equality.{position_eq}
+use Rattle.def_modules.specs.EqualityLaws.{macros_same, positions_same}
+use Rattle.def_modules.specs.Updates.{set_where}
+use Rattle.def_oracle.specs.declared.source_database.CallAnswer.{CallAnswer}
+use Rattle.def_oracle.specs.declared.source_database.UnresolvedMacro.{UnresolvedMacro}
+use Rattle.def_oracle.specs.Queries.{PlainCall}
+use Rattle.def_database.specs.declared.database.CallKey.{CallKey}
+use Rattle.def_database.specs.contracts.database.CallKeyPartialEq.TheImpl as keys
+use Rattle.def_database.specs.Calls.{call_answer, call_key_eq, has_key, key_of, no_expansion}
+
+-- the derived test of calls is that of the definitions
+pub keys_same : keys.ghosts.eq ≡ call_key_eq
+keys_same = λ i a b. at a b i
+  where
+    at : (a b : CallKey) → keys.ghosts.eq a b ≡ call_key_eq a b
+    at a b =
+        ap (λ f. f a.position b.position && macros.ghosts.eq a.macro_id b.macro_id) positions_same
+        ∙ ap (λ f. position_eq a.position b.position && f a.macro_id b.macro_id) macros_same
+
+-- what a call gives, by what was written down of it
+abbrev gives : Option CallAnswer → Result CallAnswer UnresolvedMacro
+gives o = Ok (unwrap_or o no_expansion)
+
+module _ (key : CallKey) (answer : CallAnswer) (old new : CallKey → Option CallAnswer) where
+  -- what calls are answered, once one more answer is written down
+  pub answer-set : new ≡ set_where (call_key_eq key) (Some answer) old
+      → call_answer new ≡ (λ (query : PlainCall) (found : List (Option MacroDefId)). cond (has_key key query found) (Ok answer) (call_answer old query found))
+  answer-set written = λ i query found. at query found i
+    where
+      by : (b : Bool) (o : Option CallAnswer) → gives (cond b (Some answer) o) ≡ cond b (Ok answer) (gives o)
+      by true o = refl
+      by false o = refl
+
+      at : (query : PlainCall) (found : List (Option MacroDefId)) → call_answer new query found ≡ cond (has_key key query found) (Ok answer) (call_answer old query found)
+      at query [] = refl
+      at query (None ∷ _) = refl
+      at query (Some m ∷ _) =
+          ap (λ f. gives (f (key_of query m))) written
+          ∙ by (call_key_eq key (key_of query m)) (old (key_of query m))
+
+-- what the call of a macro that is found is answered
+pub answer-read : (answers : CallKey → Option CallAnswer) (query : PlainCall) (found : MacroDefId) (looked : Option MacroDefId) (answer : CallAnswer)
+    → looked ≡ Some found → answers (key_of query found) ≡ Some answer → Ok answer ≡ call_answer answers query (looked ∷ [])
+answer-read answers query found looked answer is written =
+    sym (ap (λ o. call_answer answers query (o ∷ [])) is ∙ ap gives written)

@@ -1,0 +1,50 @@
+-- What macro calls are answered, by what was written down of them.
+use Rattle.std.specs.Prelude.{Bool, false, true, ◌==◌, ◌&&◌, cond, List, [], ◌∷◌, Option, Some, None, unwrap_or, Result, Ok, Err}
+use Rattle.item_tree.specs.declared.ids.MacroCallId.{MacroCallId}
+use Rattle.def_ids.specs.declared.ids.MacroId.{MacroId}
+use Rattle.def_ids.specs.declared.macro_def.MacroDefId.{MacroDefId}
+use Rattle.def_ids.specs.Equality.{macro_eq}
+use Rattle.def_modules.specs.Equality.{position_eq}
+use Rattle.def_modules.specs.MapState.{Position}
+use Rattle.def_modules.specs.Updates.{set_where}
+use Rattle.def_map.specs.Oracle.{Oracle}
+use Rattle.def_map.specs.Queries.{PlainCall}
+use Rattle.def_oracle.specs.declared.source_database.CallAnswer.{CallAnswer}
+use Rattle.def_oracle.specs.declared.source_database.UnresolvedMacro.{UnresolvedMacro}
+use Rattle.def_database.specs.declared.database.CallKey.{CallKey}
+
+-- whether two macro calls are one
+abbrev pub call_eq : MacroCallId → MacroCallId → Bool
+call_eq a b = a.0 == b.0
+
+-- whether two calls are at one position, and of one macro
+abbrev pub call_key_eq : CallKey → CallKey → Bool
+call_key_eq a b = position_eq a.position b.position && macro_eq a.macro_id b.macro_id
+
+-- what a call is answered by, where this macro is found for its path
+abbrev pub key_of : PlainCall → MacroDefId → CallKey
+key_of query found = record { position = query.position; macro_id = found.id }
+
+-- the answer of a call that gives nothing
+abbrev pub no_expansion : CallAnswer
+no_expansion = record { value = None; err = None; inner = [] }
+
+-- the answer of a call, by what is found for its path
+abbrev pub call_answer : (CallKey → Option CallAnswer) → PlainCall → List (Option MacroDefId) → Result CallAnswer UnresolvedMacro
+call_answer answers query (Some found ∷ _) = Ok (unwrap_or (answers (key_of query found)) no_expansion)
+call_answer answers query (None ∷ _) = Err (record { path = query.path })
+call_answer answers query [] = Err (record { path = query.path })
+
+-- whether a call has this key, by what is found for its path
+abbrev pub has_key : CallKey → PlainCall → List (Option MacroDefId) → Bool
+has_key key query (Some found ∷ _) = call_key_eq key (key_of query found)
+has_key key query _ = false
+
+-- the answer of the call at a position, where this macro is found for its path
+abbrev pub with_call : Oracle → Position → MacroId → CallAnswer → Oracle
+with_call o position macro_id answer =
+    record o { macro_call = λ query found. cond (has_key (record { position = position; macro_id = macro_id }) query found) (Ok answer) (o.macro_call query found) }
+
+-- one more call of `include!`
+abbrev pub with_include : Oracle → MacroCallId → Oracle
+with_include o call = record o { is_include = set_where (call_eq call) true o.is_include }
