@@ -3,12 +3,15 @@
 use crate::fault::Stop;
 use crate::imports::imports;
 use crate::items::Items;
-use crate::paths::{alias, visibility};
+use crate::paths::{alias, path, visibility};
 use crate::pieces::{End, skip_piece};
 use crate::reader::Reader;
 use crate::tokens::{Keyword, Token};
 use crate::variants::add_enum;
-use item_tree::{CtorVisibility, ModContents, ModItemKind, Name, RawVisibility, Seq, sym};
+use item_tree::{
+    CtorVisibility, ExpandTo, ModContents, ModItemKind, Name, RawVisibility, Seq, SyntaxContext,
+    sym,
+};
 
 /// An item: of a module in braces and an extern block, with no items in it yet.
 type Read = Result<ModItemKind, Stop>;
@@ -84,6 +87,33 @@ fn macro_rules(reader: &mut Reader) -> Read {
     let name = reader.name()?;
     skip_piece(reader, End::SemicolonOrBody)?;
     Ok(ModItemKind::MacroRules { name })
+}
+
+/// Takes the arguments of a macro call. Those in braces end it; behind others comes a semicolon.
+fn skip_arguments(reader: &mut Reader) -> Result<(), Stop> {
+    let has_semicolon = match reader.peek(0) {
+        Token::Mark('{') => false,
+        Token::Mark('(' | '[') => true,
+        _ => return Err(Stop::Here),
+    };
+    skip_piece(reader, End::Bracket)?;
+    if has_semicolon {
+        reader.expect(';')
+    } else {
+        Ok(())
+    }
+}
+
+/// A macro call.
+fn macro_call(reader: &mut Reader) -> Read {
+    let path = path(reader)?;
+    reader.expect('!')?;
+    skip_arguments(reader)?;
+    Ok(ModItemKind::MacroCall {
+        path,
+        expand_to: ExpandTo::Items,
+        ctxt: SyntaxContext(0),
+    })
 }
 
 /// Adds the visibilities of the fields in parentheses, each of whose types is one name, and takes
@@ -184,12 +214,8 @@ fn plain_item(reader: &mut Reader, keyword: Keyword, items: &mut Items) -> Read 
     }
 }
 
-/// The item behind a visibility.
-pub fn item_kind(reader: &mut Reader, items: &mut Items) -> Read {
-    let Token::Word(keyword) = reader.peek(0) else {
-        return Err(Stop::Here);
-    };
-    reader.skip(1);
+/// An item that a word begins, from behind that word on.
+fn item_of(reader: &mut Reader, keyword: Keyword, items: &mut Items) -> Read {
     match keyword {
         Keyword::Mod => module(reader, items),
         Keyword::Use => use_item(reader, items),
@@ -199,5 +225,19 @@ pub fn item_kind(reader: &mut Reader, items: &mut Items) -> Read {
         Keyword::Struct => struct_item(reader, items),
         Keyword::Const => const_item(reader, items),
         _ => plain_item(reader, keyword, items),
+    }
+}
+
+/// The item behind a visibility. What begins a path is a macro call.
+pub fn item_kind(reader: &mut Reader, items: &mut Items) -> Read {
+    match reader.peek(0) {
+        Token::Colons
+        | Token::Name(_)
+        | Token::Word(Keyword::Crate | Keyword::SelfWord | Keyword::Super) => macro_call(reader),
+        Token::Word(keyword) => {
+            reader.skip(1);
+            item_of(reader, keyword, items)
+        }
+        _ => Err(Stop::Here),
     }
 }

@@ -4,7 +4,9 @@ use crate::fault::Fault;
 use def_bindings::{ImportOrExternCrate, Visibility};
 use def_ids::{Def, Interner, MacroId, ModuleId, TraitId};
 use def_map::{DefMap, ItemScope, PerNs};
-use def_rules::{Collected, DefDiagnostic, DefDiagnosticKind, Edge, LeftImport};
+use def_rules::{
+    Collected, DefDiagnostic, DefDiagnosticKind, Edge, LeftImport, LeftMacro, LeftMacroKind,
+};
 use item_tree::{Crate, HirFileId, ModPath, Name, PathKind, Text};
 use std::alloc::{AllocError, Global};
 use std::io;
@@ -343,23 +345,32 @@ fn print_segments<W: io::Write>(session: &Interner, path: &ModPath, out: &mut W)
     writeln!(out)
 }
 
+/// Prints a line that ends with a path, behind these words.
+fn print_path_line<W: io::Write>(
+    session: &Interner,
+    words: &[Word<'_>],
+    path: &ModPath,
+    out: &mut W,
+) -> io::Result<()> {
+    print_words(words, out)?;
+    print_word(path_word(path.kind), out)?;
+    for _ in 0..levels(path.kind) {
+        write!(out, "::super")?;
+    }
+    print_segments(session, path, out)
+}
+
 /// Prints an import that a run left over.
 fn print_left_import<W: io::Write>(
     session: &Interner,
     import: &LeftImport,
     out: &mut W,
 ) -> io::Result<()> {
-    let kind = import.path.kind;
     let words = [
         Word::Bare("left import"),
         Word::Number("", import.module.index),
-        path_word(kind),
     ];
-    print_words(&words, out)?;
-    for _ in 0..levels(kind) {
-        write!(out, "::super")?;
-    }
-    print_segments(session, &import.path, out)
+    print_path_line(session, &words, &import.path, out)
 }
 
 /// Prints the imports that a run left over.
@@ -370,6 +381,41 @@ fn print_left_imports<W: io::Write>(
 ) -> io::Result<()> {
     for import in imports {
         print_left_import(session, import, out)?;
+    }
+    Ok(())
+}
+
+/// How a macro that a run left over is called.
+fn call_word(kind: LeftMacroKind) -> Word<'static> {
+    match kind {
+        LeftMacroKind::Fn => Word::Text("fn"),
+        LeftMacroKind::Derive(..) => Word::Text("derive"),
+        LeftMacroKind::Attr(_) => Word::Text("attr"),
+    }
+}
+
+/// Prints a macro call, a derive or an attribute that a run left over.
+fn print_left_macro<W: io::Write>(
+    session: &Interner,
+    left: &LeftMacro,
+    out: &mut W,
+) -> io::Result<()> {
+    let words = [
+        Word::Bare("left macro"),
+        Word::Number("", left.module.index),
+        call_word(left.kind),
+    ];
+    print_path_line(session, &words, &left.path, out)
+}
+
+/// Prints the macro calls, derives and attributes that a run left over.
+fn print_left_macros<W: io::Write>(
+    session: &Interner,
+    macros: &[LeftMacro],
+    out: &mut W,
+) -> io::Result<()> {
+    for left in macros {
+        print_left_macro(session, left, out)?;
     }
     Ok(())
 }
@@ -409,5 +455,6 @@ pub fn print<W: io::Write>(
     print_map(alloc, session, &collected.def_map, out)?;
     print_edges(alloc, collected.outcome.edges.as_slice(), out)?;
     print_diagnostics(collected.diagnostics.as_slice(), out)?;
-    Ok(print_left_imports(session, collected.outcome.imports.as_slice(), out)?)
+    print_left_imports(session, collected.outcome.imports.as_slice(), out)?;
+    Ok(print_left_macros(session, collected.outcome.macros.as_slice(), out)?)
 }

@@ -1,6 +1,7 @@
 //! How scripted workspaces are written down: as constant data, with the text of each file.
 
-use def_ids::Edition;
+use def_ids::{Edition, MacroId, MacroRulesId};
+use item_tree::{FileId, HirFileId};
 
 /// A crate on which another one depends.
 pub struct DependencyText {
@@ -26,6 +27,34 @@ pub struct BuiltinText {
     pub number: u32,
 }
 
+/// A macro call that is answered, where this macro is found for its path.
+#[derive(Clone, Copy)]
+pub struct CallText {
+    /// Where it stands: the file, and the item's number.
+    pub file: HirFileId,
+    pub ast_id: usize,
+    pub of: MacroId,
+    /// The text of its expansion.
+    pub gives: &'static str,
+    pub is_include: bool,
+    /// The error of its answer.
+    pub err: Option<u32>,
+    /// Whether its answer names no call.
+    pub is_silent: bool,
+}
+
+/// The call that is item 1 of file 0, of the first macro by rules, with an empty expansion. Other
+/// calls are this one with what they have in its place.
+pub const CALL: CallText = CallText {
+    file: HirFileId::File(FileId(0)),
+    ast_id: 1,
+    of: MacroId::MacroRules(MacroRulesId(0)),
+    gives: "",
+    is_include: false,
+    err: None,
+    is_silent: false,
+};
+
 /// A scripted workspace: its files by number, and its crates, each behind those that it depends
 /// on. The last one is shown.
 #[derive(Clone, Copy)]
@@ -37,6 +66,8 @@ pub struct Vector {
     pub paths: &'static [(&'static str, usize)],
     pub crates: &'static [CrateText],
     pub builtin_types: &'static [BuiltinText],
+    /// The macro calls that are answered, each with its place as its number.
+    pub calls: &'static [CallText],
 }
 
 /// A crate of edition 2021 on its own, in one file without items. Other vectors are this one with
@@ -52,4 +83,5 @@ pub const ALONE: Vector = Vector {
         deps: &[],
     }],
     builtin_types: &[],
+    calls: &[],
 };

@@ -4,7 +4,8 @@
 use crate::tests::rows::{Row, expect_rows};
 use def_ids::Interner;
 use def_workspace::{ALONE, Fault, ReadFault, Vector, read};
-use std::alloc::Global;
+use item_tree::{FileAstId, ItemTree, ModItemKind, PathKind};
+use std::alloc::{AllocError, Global};
 use std::process::Abort;
 
 static ROWS: [Row; 3] = [
@@ -83,12 +84,79 @@ fn texts_are_read_as_their_items(rt: HostRuntime) -> Result<(), Fault> {
     expect_rows(&rt, rt.alloc(), &ROWS)
 }
 
+/// The macro calls at the top of a text: the number of each, where its path begins, and how many
+/// segments that has.
+type Calls = &'static [(FileAstId, PathKind, usize)];
+
+/// Texts, and their calls.
+static CALLS: [(&str, Calls); 4] = [
+    (
+        "foo!(); foo!{} foo![1, 2]; a::foo!{ struct S; } ::a::foo!(\"a\" => x);",
+        &[
+            (FileAstId(0), PathKind::Plain, 1),
+            (FileAstId(1), PathKind::Plain, 1),
+            (FileAstId(2), PathKind::Plain, 1),
+            (FileAstId(3), PathKind::Plain, 2),
+            (FileAstId(4), PathKind::Abs, 2),
+        ],
+    ),
+    (
+        "crate::foo!(); self::foo!(); super::super::a::foo!{}",
+        &[
+            (FileAstId(0), PathKind::Crate, 1),
+            (FileAstId(1), PathKind::Super(0), 1),
+            (FileAstId(2), PathKind::Super(2), 2),
+        ],
+    ),
+    (
+        "macro_rules! foo {} #[a] #[cfg(2)] foo!(); pub macro bar {}",
+        &[(FileAstId(1), PathKind::Plain, 1)],
+    ),
+    (
+        "mod m { foo!(); } extern { foo!{} } foo!();",
+        &[(FileAstId(4), PathKind::Plain, 1)],
+    ),
+];
+
+/// The macro calls at the top of a tree.
+fn calls(alloc: Global, tree: &ItemTree) -> Result<Vec<(FileAstId, PathKind, usize)>, AllocError> {
+    let mut calls = Vec::new(alloc);
+    for id in tree.top_level_items() {
+        let Some(node) = tree.index(*id) else {
+            continue;
+        };
+        if let ModItemKind::MacroCall { path, .. } = &node.kind {
+            calls.push((node.ast_id, path.kind, path.segments.len()))?;
+        }
+    }
+    Ok(calls)
+}
+
+#[test]
+fn macro_calls_are_items(rt: HostRuntime) -> Result<(), Fault> {
+    for (text, want) in &CALLS {
+        let mut session = Interner::new(rt.alloc())?;
+        match read(rt.alloc(), &mut session, text) {
+            Ok(file) => {
+                let found = calls(rt.alloc(), &file.tree)?;
+                assert_eq!(rt; found.as_slice(), *want, "{text}");
+            }
+            Err(_) => panic!(rt; "{text}"),
+        }
+    }
+    Ok(())
+}
+
 /// Texts, and the byte from which on each cannot be read.
-static UNREADABLE: [(&str, usize); 16] = [
+static UNREADABLE: [(&str, usize); 20] = [
     ("mod a", 5),
     ("mod a {", 7),
     ("mod a {} }", 9),
-    ("foo!();", 0),
+    ("foo();", 3),
+    ("foo!;", 4),
+    ("foo!()", 6),
+    ("foo!{};", 6),
+    ("a::!();", 1),
     ("struct S", 8),
     ("struct S(pub A<B>);", 14),
     ("fn f() { (}", 11),
