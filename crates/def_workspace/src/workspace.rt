@@ -10,9 +10,11 @@ ghost use Rattle.def_workspace.specs.Workspace.{file_tree, setting};
 use def_collector::{Collected, collect_defs};
 use def_database::Database;
 use def_ids::{Interner, VariantId};
-use def_map::{CrateData, DefMap, Dependency, EnumVariant};
-use def_scripted::{CrateText, DependencyText, Fault, ReadEnum, ReadFault, ReadFile, Vector, read};
-use item_tree::{Crate, FileId, HirFileId, InFile, Seq, TreeId};
+use def_map::{CallAnswer, CrateData, DefMap, Dependency, EnumVariant};
+use def_scripted::{
+    CallText, CrateText, DependencyText, Fault, ReadEnum, ReadFault, ReadFile, Vector, read,
+};
+use item_tree::{Crate, FileAstId, FileId, HirFileId, InFile, MacroCallId, Seq, TreeId};
 use std::alloc::{AllocError, Global};
 
 /// A session, and a database whose answers are in its names.
@@ -42,11 +44,14 @@ impl Workspace {
         })
     }
 
-    /// Adds the files and crates of a vector.
+    /// Adds the files, the macro calls and the crates of a vector.
     fn fill(&mut self, vector: &Vector) -> Result<(), Fault> {
         for (number, text) in vector.files.iter().enumerate() {
             self.add_text(tree_id(FileId(number)), text)?;
             self.add_paths(FileId(number), vector.paths)?;
+        }
+        for (number, text) in vector.calls.iter().enumerate() {
+            self.add_call(MacroCallId(number), text)?;
         }
         for krate in vector.crates {
             self.add_crate(krate)?;
@@ -111,6 +116,33 @@ impl Workspace {
             value: read.item,
         };
         self.db.add_variants(position, variants)
+    }
+
+    /// Adds the answer of a macro call.
+    fn add_answer(&mut self, call: MacroCallId, text: &CallText) -> Result<(), AllocError> {
+        let position = InFile {
+            file: text.file,
+            value: FileAstId(text.ast_id),
+        };
+        let answer = CallAnswer {
+            value: if text.is_silent { None } else { Some(call) },
+            err: text.err,
+            inner: Seq::from_vec(Vec::new(self.alloc)),
+        };
+        self.db.add_call(position, text.of, answer)
+    }
+
+    /// Adds a macro call, and the items of its expansion.
+    pub fn add_call(&mut self, call: MacroCallId, text: &CallText) -> Result<(), Fault> {
+        self.add_answer(call, text)?;
+        if text.is_include {
+            self.db.add_include(call)?;
+        }
+        let expansion = TreeId {
+            file: HirFileId::Macro(call),
+            block: None,
+        };
+        self.add_text(expansion, text.gives)
     }
 
     fn dependency(&mut self, text: &DependencyText) -> Result<Dependency, AllocError> {
