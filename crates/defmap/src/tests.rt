@@ -1,7 +1,9 @@
 //! What no contract says: the printed lines, and worked rows over scripted crates.
 
 mod attrs;
+mod calls;
 mod examples;
+mod expansions;
 mod extern_crates;
 mod files;
 mod glob_kinds;

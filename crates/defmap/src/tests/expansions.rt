@@ -1,0 +1,258 @@
+//! What macro calls expand to: its items, the files of its modules, and how deep it may lie.
+#![tactic(auto)]
+
+use crate::tests::rows::{Row, expect_rows};
+use def_ids::{MacroId, MacroRulesId};
+use def_workspace::{ALONE, CALL, CallText, Fault, Vector, Workspace};
+use item_tree::{FileId, HirFileId, MacroCallId};
+use std::alloc::Global;
+use std::process::Abort;
+
+/// A call of the first macro by rules, which gives a struct.
+const GIVES_A: CallText = CallText {
+    gives: "pub struct A;",
+    ..CALL
+};
+
+static ITEMS: [Row; 4] = [
+    (
+        Vector {
+            name: "a call that gives nothing is done",
+            files: &["macro_rules! foo {} foo!();"],
+            calls: &[CallText {
+                is_silent: true,
+                ..GIVES_A
+            }],
+            ..ALONE
+        },
+        "module 0 - crate
+",
+    ),
+    (
+        Vector {
+            name: "what cfg disables is not called",
+            files: &["macro_rules! foo {} #[cfg(7)] foo!();"],
+            calls: &[GIVES_A],
+            ..ALONE
+        },
+        "module 0 - crate
+diag unconfigured 0 0:1 7
+",
+    ),
+    (
+        Vector {
+            name: "items of an expansion are named by its number",
+            files: &["macro_rules! foo {} foo!();"],
+            calls: &[CallText {
+                gives: "#[cfg(7)] struct A; use b::C;",
+                ..CALL
+            }],
+            ..ALONE
+        },
+        "module 0 - crate
+diag unconfigured 0 m0:0 7
+diag unresolved-import 0 m0:1 0
+left import 0 b::C
+",
+    ),
+    (
+        Vector {
+            name: "a call in an extern block gives items of the module",
+            files: &["macro_rules! foo {} extern { foo!(); }"],
+            calls: &[CallText {
+                ast_id: 2,
+                gives: "pub fn f();",
+                ..CALL
+            }],
+            ..ALONE
+        },
+        "module 0 - crate
+binding 0 f values fn:0 pub decl
+",
+    ),
+];
+
+#[test]
+fn items_of_expansions_are_walked(rt: HostRuntime) -> Result<(), Fault> {
+    expect_rows(&rt, rt.alloc(), &ITEMS)
+}
+
+/// A module in a file of its own, with two calls.
+const IN_A_FILE: Vector = Vector {
+    files: &[
+        "mod foo;",
+        "macro_rules! inc {} macro_rules! gen {} inc!(); gen!();",
+    ],
+    paths: &[("foo.rs", 1)],
+    ..ALONE
+};
+
+/// The first of the two, with an empty expansion.
+const INC: CallText = CallText {
+    file: HirFileId::File(FileId(1)),
+    ast_id: 2,
+    ..CALL
+};
+
+/// The second, which gives a module in a file that is not there.
+const GEN: CallText = CallText {
+    file: HirFileId::File(FileId(1)),
+    ast_id: 3,
+    of: MacroId::MacroRules(MacroRulesId(1)),
+    gives: "mod x;",
+    ..CALL
+};
+
+static DIRECTORIES: [Row; 2] = [
+    (
+        Vector {
+            name: "modules of an expansion lie where those of its module do",
+            calls: &[INC, GEN],
+            ..IN_A_FILE
+        },
+        "module 0 - crate
+module 1 0 foo
+module 2 1 x
+binding 0 foo types mod:1 in:0 decl
+binding 1 x types mod:2 in:1 decl
+diag unresolved-module 1 m1:0 foo/x.rs,foo/x/mod.rs
+",
+    ),
+    (
+        Vector {
+            name: "behind an include they lie at the root",
+            calls: &[
+                CallText {
+                    is_include: true,
+                    ..INC
+                },
+                GEN,
+            ],
+            ..IN_A_FILE
+        },
+        "module 0 - crate
+module 1 0 foo
+module 2 1 x
+binding 0 foo types mod:1 in:0 decl
+binding 1 x types mod:2 in:1 decl
+diag unresolved-module 1 m1:0 x.rs,x/mod.rs
+",
+    ),
+];
+
+#[test]
+fn an_include_moves_the_files_of_its_module(rt: HostRuntime) -> Result<(), Fault> {
+    expect_rows(&rt, rt.alloc(), &DIRECTORIES)
+}
+
+static LIMITS: [Row; 2] = [
+    (
+        Vector {
+            name: "expansions lie as deep as the limit says",
+            files: &[r#"#![recursion_limit = "2"] macro_rules! foo {} foo!();"#],
+            calls: &[
+                CallText {
+                    gives: "pub struct A0; foo!();",
+                    ..CALL
+                },
+                CallText {
+                    file: HirFileId::Macro(MacroCallId(0)),
+                    gives: "pub struct A1; foo!();",
+                    ..CALL
+                },
+                CallText {
+                    file: HirFileId::Macro(MacroCallId(1)),
+                    gives: "pub struct A2;",
+                    ..CALL
+                },
+            ],
+            ..ALONE
+        },
+        "module 0 - crate
+binding 0 A0 types struct:0 pub decl
+binding 0 A0 values struct:0 pub decl
+binding 0 A1 types struct:1 pub decl
+binding 0 A1 values struct:1 pub decl
+",
+    ),
+    (
+        Vector {
+            name: "at limit 0 there are none",
+            files: &[r#"#![recursion_limit = "0"] macro_rules! foo {} foo!();"#],
+            calls: &[GIVES_A],
+            ..ALONE
+        },
+        "module 0 - crate
+",
+    ),
+];
+
+#[test]
+fn expansions_end_at_the_limit(rt: HostRuntime) -> Result<(), Fault> {
+    expect_rows(&rt, rt.alloc(), &LIMITS)
+}
+
+/// The call of a chain by its number: the first stands in file 0, each other one in the expansion
+/// of the one before it.
+fn chained(number: usize) -> CallText {
+    let file = match number.checked_sub(1) {
+        Some(before) => HirFileId::Macro(MacroCallId(before)),
+        None => HirFileId::File(FileId(0)),
+    };
+    CallText {
+        file,
+        gives: "struct A; foo!();",
+        ..CALL
+    }
+}
+
+/// How many calls the root of a crate records, where each expansion holds the next call.
+fn recorded(alloc: Global, vector: &Vector) -> Result<Option<usize>, Fault> {
+    let mut workspace = Workspace::new(alloc, vector)?;
+    for number in 0..140 {
+        workspace.add_call(MacroCallId(number), &chained(number))?;
+    }
+    let Some(krate) = vector.crates.first() else {
+        return Ok(None);
+    };
+    let collected = workspace.collect(krate)?;
+    let root = collected.def_map.scope(0);
+    Ok(root.map(|scope| scope.invocations().len()))
+}
+
+/// Crates, and how many calls are recorded: those that are expanded, and the first that is not.
+static ENDLESS: [(Vector, usize); 3] = [
+    (
+        Vector {
+            name: "the limit is 128 where none is written",
+            files: &["macro_rules! foo {} foo!();"],
+            ..ALONE
+        },
+        129,
+    ),
+    (
+        Vector {
+            name: "another one",
+            files: &[r#"#![recursion_limit = "7"] macro_rules! foo {} foo!();"#],
+            ..ALONE
+        },
+        8,
+    ),
+    (
+        Vector {
+            name: "none",
+            files: &[r#"#![recursion_limit = "0"] macro_rules! foo {} foo!();"#],
+            ..ALONE
+        },
+        1,
+    ),
+];
+
+#[test]
+fn a_macro_without_an_end_stops(rt: HostRuntime) -> Result<(), Fault> {
+    for (vector, want) in &ENDLESS {
+        let name = vector.name;
+        assert_eq!(rt; recorded(rt.alloc(), vector)?, Some(*want), "{name}");
+    }
+    Ok(())
+}
