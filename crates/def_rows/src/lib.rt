@@ -1,4 +1,5 @@
-//! Worked rows of the lower layers, of globs and of dependencies. The rows of `defmap` hold the others.
+//! Worked rows of globs, blocks and dependencies over scripted crates. The rows of `defmap` hold
+//! the others.
 #![tactic(auto)]
 
 #[cfg(test)]

@@ -22,7 +22,7 @@ trait Ranked {
 }
 
 impl Ranked for Level {
-    ghost use Rattle.def_rows.specs.declared.tests.globs.levels.Level.TheVariants.{Low, Middle, High};
+    ghost use Rattle.layer_rows.specs.declared.tests.globs.levels.Level.TheVariants.{Low, Middle, High};
 
     ghost rank = { elim [ Low ↦ 0 | Middle ↦ 1 | High ↦ 2 ] };
 
@@ -40,8 +40,8 @@ pub struct Levels;
 
 impl VisOrder for Levels {
     ghost use Rattle.std.specs.Prelude.{◌==◌, if◌then◌else◌, refl};
-    ghost use Rattle.def_rows.specs.declared.tests.globs.levels.Level.TheVariants.{Low, Middle, High};
-    ghost use Rattle.def_rows.specs.Levels.{order_by, order_by_is_lawful};
+    ghost use Rattle.layer_rows.specs.declared.tests.globs.levels.Level.TheVariants.{Low, Middle, High};
+    ghost use Rattle.layer_rows.specs.Levels.{order_by, order_by_is_lawful};
 
     type Vis = Level;
 
