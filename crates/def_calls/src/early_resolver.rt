@@ -10,7 +10,8 @@ ghost use Rattle.def_map.specs.Paths.{macro_named, scope};
 ghost use Rattle.def_rules.specs.Calls as calls;
 
 use def_bindings::{BindingTable, Namespace};
-use def_ids::{Def, MacroDefId, MacroId, ModuleId};
+use def_ids::{Def, MacroId, ModuleId};
+use def_interner::MacroDefId;
 use def_map::{MacroResolver, SourceDatabase, Table, World, finished_map, is_map_among};
 use item_tree::{ModPath, Name};
 

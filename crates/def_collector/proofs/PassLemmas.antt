@@ -2,7 +2,7 @@
 use Rattle.std.proofs.Common.{◌≡◌, ◌<◌, ◌≤◌, ◌+◌, ℕ, Bool, false, true, [], arith, refl, sym, subst, below_more, inl, inr}
 use Rattle.std.proofs.lemmas.Bool.{cases_lt}
 use Rattle.def_map.specs.Oracle.{Oracle}
-use Rattle.def_ids.specs.declared.interner.Interner.{Interner}
+use Rattle.def_interner.specs.declared.interner.Interner.{Interner}
 use Rattle.def_collector.specs.declared.collector.DefCollector.{DefCollector}
 use Rattle.def_laws.specs.Turns.{Moves, turns_left}
 use Rattle.def_collector.specs.Passes.{IsUnready}

@@ -2,7 +2,7 @@
 use Rattle.std.proofs.Common.{◌≡◌, ◌<◌, ◌||◌, ℕ, Bool, false, true, List, ◌++◌, Option, Some, None, slice_get, get_or, length, refl, sym, ap, subst, arith, ◌∙◌, inl, inr, Contains, IsPermutation, sum_by}
 use Rattle.std.proofs.lemmas.List.Elements.{All-contains, All-map, Contains-append_cases}
 use Rattle.std.proofs.lemmas.Option.{none-some, same_Some, slice_get-get_or}
-use Rattle.def_ids.specs.declared.interner.Interner.{Interner}
+use Rattle.def_interner.specs.declared.interner.Interner.{Interner}
 use Rattle.def_paths.specs.declared.asked.ResolvePathResult.{ResolvePathResult}
 use Rattle.def_map.specs.Oracle.{Oracle}
 use Rattle.def_collector.specs.declared.collector.DefCollector.{DefCollector}

@@ -11,8 +11,8 @@ use Rattle.item_tree.specs.Trees.{item_at}
 use Rattle.std.specs.declared.alloc.Global.{Global}
 use Rattle.std.specs.Prelude.{IfSome, is_some, Vec}
 use Rattle.def_ids.specs.declared.ids.ModuleId.{ModuleId}
-use Rattle.def_ids.specs.Session.{AddsLocations}
-use Rattle.def_ids.specs.SessionLaws.{adds_refl, adds_trans}
+use Rattle.def_interner.specs.Session.{AddsLocations}
+use Rattle.def_interner.specs.SessionLaws.{adds_refl, adds_trans}
 use Rattle.def_map.specs.Oracle.{Oracle}
 use Rattle.def_items.specs.declared.lists.Frame.{Frame}
 use Rattle.def_items.specs.declared.lists.ItemList.{ItemList}

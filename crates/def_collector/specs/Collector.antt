@@ -1,8 +1,8 @@
 -- What the collector's parts stand for.
 use Rattle.std.specs.Prelude.{◌++◌, map, option_map}
-use Rattle.def_ids.specs.declared.interner.Interner.{Interner}
+use Rattle.def_interner.specs.declared.interner.Interner.{Interner}
 use Rattle.def_ids.specs.Equality.{glob_eq}
-use Rattle.def_ids.specs.Session.{session_of}
+use Rattle.def_interner.specs.Session.{session_of}
 use Rattle.def_calls.specs.Shown.{macro_directive_of}
 use Rattle.def_crates.specs.Missing.{missing_in}
 use Rattle.def_items.specs.Parts.{directories_of}

@@ -1,6 +1,6 @@
 -- What a pass over the imports leaves.
 use Rattle.std.specs.Prelude.{◌≡◌, ℕ, false, List, Option, Some, slice_get}
-use Rattle.def_ids.specs.declared.interner.Interner.{Interner}
+use Rattle.def_interner.specs.declared.interner.Interner.{Interner}
 use Rattle.def_map.specs.Oracle.{Oracle}
 use Rattle.def_rules.specs.Imports.{answer_now, is_ready}
 use Rattle.def_collector.specs.declared.collector.DefCollector.{DefCollector}

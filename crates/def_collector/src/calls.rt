@@ -1,6 +1,6 @@
 //! Macro calls among items.
 ghost use Rattle.std.specs.Prelude.{◌≡◌, Ok, IfOk};
-ghost use Rattle.def_ids.specs.declared.interner.Interner.{Interner};
+ghost use Rattle.def_interner.specs.declared.interner.Interner.{Interner};
 ghost use Rattle.def_calls.specs.Shown.{written_of};
 ghost use Rattle.def_items.specs.Parts.{site_of};
 ghost use Rattle.def_collector.specs.Collector.{state_of};
@@ -14,7 +14,7 @@ use def_calls::{
     WrittenCall, call_query, deeper, early_answer, expansion_dir, is_too_deep, queue_call,
     record_calls,
 };
-use def_ids::Interner;
+use def_interner::Interner;
 use def_items::{ItemList, Site, top_items};
 use def_map::{CallAnswer, SourceDatabase};
 use item_tree::{HirFileId, ItemNode, MacroCallId, TreeId};

@@ -9,8 +9,8 @@ ghost use Rattle.def_rules.specs.State.{world};
 
 use crate::collector::DefCollector;
 use def_bindings::EdgeTo;
-use def_ids::Interner;
 use def_imports::{glob_entries, put_glob};
+use def_interner::Interner;
 use def_map::{ResolvePathResult, SourceDatabase};
 use def_steps::{Import, add_target, kept_item};
 use std::alloc::AllocError;

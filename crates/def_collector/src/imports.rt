@@ -1,6 +1,6 @@
 //! Imports: each pass records those that are ready.
 ghost use Rattle.std.specs.Prelude.{◌≡◌, ◌<◌, [], ℕ, true, false, length, IfOk, OnOk};
-ghost use Rattle.def_ids.specs.declared.interner.Interner.{Interner};
+ghost use Rattle.def_interner.specs.declared.interner.Interner.{Interner};
 ghost use Rattle.def_collector.specs.Collector.{state_of};
 ghost use Rattle.def_collector.specs.Passes.{IsUnready, entries_of};
 ghost use Rattle.def_steps.specs.Shown.{import_of};
@@ -11,8 +11,8 @@ ghost use Rattle.def_laws.specs.Runs.{Leads};
 
 use crate::collector::DefCollector;
 use crate::globs::record_glob;
-use def_ids::Interner;
 use def_imports::{record_named, resolve_import};
+use def_interner::Interner;
 use def_map::{ResolvePathResult, SourceDatabase};
 use def_steps::{
     Import, ImportDirective, ImportList, drop_left, is_ready, new_prelude, next_tried, retire,

@@ -1,7 +1,7 @@
 //! What each kind of item does.
 ghost use Rattle.std.specs.Prelude.{◌≡◌, [], false, Some, IfOk, OnOk};
 ghost use Rattle.item_tree.specs.declared.items.ModItemKind.TheVariants as kinds;
-ghost use Rattle.def_ids.specs.Session.{AddsLocations, session_of};
+ghost use Rattle.def_interner.specs.Session.{AddsLocations, session_of};
 ghost use Rattle.def_items.specs.Parts.{site_of};
 ghost use Rattle.def_collector.specs.Collector.{state_of};
 ghost use Rattle.def_collector.specs.Walk.{AreKnown, inner_of, is_known, opens_list};
@@ -12,8 +12,10 @@ use crate::collector::{DefCollector, WrittenCrate, WrittenStruct};
 use crate::macros::{WrittenMacro, collect_macro, collect_macro_rules};
 use crate::modules::{ModuleItem, collect_module};
 use def_calls::WrittenCall;
-use def_ids::{ExternBlockLoc, Interner, ItemContainerId, Location};
+use def_ids::ItemContainerId;
+use def_interner::{Interner, Location};
 use def_items::{ItemList, Site, define_impl};
+use def_locs::ExternBlockLoc;
 use def_map::SourceDatabase;
 use item_tree::{ItemNode, ModItemId, ModItemKind, Seq};
 use std::alloc::AllocError;

@@ -3,8 +3,8 @@ ghost use Rattle.std.specs.Prelude.{◌≡◌, ◌∷◌, [], Ok, map, string_by
 ghost use Rattle.item_tree.specs.declared.items.ModContents.TheVariants as contents_kind;
 ghost use Rattle.def_bindings.specs.declared.bindings.Namespace.TheVariants.{Types};
 ghost use Rattle.def_ids.specs.declared.ids.Def.TheVariants as def_kind;
-ghost use Rattle.def_ids.specs.declared.interner.Interner.{Interner};
-ghost use Rattle.def_ids.specs.Session as sessions;
+ghost use Rattle.def_interner.specs.declared.interner.Interner.{Interner};
+ghost use Rattle.def_interner.specs.Session as sessions;
 ghost use Rattle.def_modules.specs.declared.module_data.ModuleOrigin.TheVariants as origin_kind;
 ghost use Rattle.def_items.specs.Parts.{site_of};
 ghost use Rattle.def_collector.specs.Collector.{state_of};
@@ -16,7 +16,8 @@ ghost use Rattle.def_rules.specs.Modules.{module_item, outline_item};
 
 use crate::collector::DefCollector;
 use def_bindings::Visibility;
-use def_ids::{Interner, ItemContainerId, ModuleId};
+use def_ids::{ItemContainerId, ModuleId};
+use def_interner::Interner;
 use def_items::{
     ChildModule, ItemList, Site, disabled_by, hands_on, into_if, is_macro_use, push_child_module,
     report, top_items,

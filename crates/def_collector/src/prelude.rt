@@ -6,7 +6,8 @@ ghost use Rattle.def_rules.specs.Start.{head_of, with_head, with_prelude};
 
 use crate::collector::DefCollector;
 use def_crates::prelude_path;
-use def_ids::{Interner, ModuleId};
+use def_ids::ModuleId;
+use def_interner::Interner;
 use def_map::{SourceDatabase, resolve_module};
 use std::alloc::AllocError;
 

@@ -2,8 +2,8 @@
 //! until none resolves any further.
 ghost use Rattle.std.specs.Prelude.{◌≡◌, [], is_some, option_map, IfOk, OnOk};
 ghost use Rattle.item_tree.specs.declared.ids.TreeId.{TreeId};
-ghost use Rattle.def_ids.specs.declared.interner.Interner.{Interner};
-ghost use Rattle.def_ids.specs.Session.{AddsLocations, session_of};
+ghost use Rattle.def_interner.specs.declared.interner.Interner.{Interner};
+ghost use Rattle.def_interner.specs.Session.{AddsLocations, session_of};
 ghost use Rattle.def_map.specs.DefMaps as whole;
 ghost use Rattle.def_map.specs.Fresh.{IsFresh};
 ghost use Rattle.def_modules.specs.Locals.{local_view};
@@ -23,7 +23,8 @@ use crate::imports::resolve_imports;
 use crate::seeding::seed;
 use crate::stack::walk;
 use def_crates::{MissingCrates, deps_by_name, is_proc_macro_crate, top_attrs};
-use def_ids::{Interner, ItemContainerId, MapId, ModuleId};
+use def_ids::{ItemContainerId, MapId, ModuleId};
+use def_interner::Interner;
 use def_items::{ItemList, ModDirs, disabled_by, report_disabled, top_items};
 use def_map::{DefMap, LocalDefMap, SourceDatabase};
 use def_parts::{Globs, ModDir};

@@ -1,14 +1,14 @@
 //! What is known of a crate before its items: what its root file says, and the crates that it
 //! depends on.
 ghost use Rattle.std.specs.Prelude.{◌≡◌, OnOk};
-ghost use Rattle.def_ids.specs.declared.interner.Interner.{Interner};
+ghost use Rattle.def_interner.specs.declared.interner.Interner.{Interner};
 ghost use Rattle.def_collector.specs.Collector.{state_of};
 ghost use Rattle.def_rules.specs.Start.{block_head, crate_head, first_head, head_of, with_attrs, with_deps, with_head};
 
 use crate::collector::DefCollector;
 use crate::prelude::inject_prelude;
 use def_crates::{is_proc_macro_with, read_root_file};
-use def_ids::Interner;
+use def_interner::Interner;
 use def_map::SourceDatabase;
 use item_tree::{Attr, CfgExpr};
 use std::alloc::AllocError;

@@ -2,8 +2,8 @@
 ghost use Rattle.std.specs.Prelude.{◌≡◌, ◌<◌, ◌+◌, ◌++◌, ◌∷◌, [], true, false, List, is_some, option_and_then, IfOk, OnOk};
 ghost use Rattle.std.specs.Option.{option_copied};
 ghost use Rattle.item_tree.specs.Trees.{item_at};
-ghost use Rattle.def_ids.specs.declared.interner.Interner.{Interner};
-ghost use Rattle.def_ids.specs.Session.{AddsLocations, session_of};
+ghost use Rattle.def_interner.specs.declared.interner.Interner.{Interner};
+ghost use Rattle.def_interner.specs.Session.{AddsLocations, session_of};
 ghost use Rattle.def_items.specs.Lists.{left_of};
 ghost use Rattle.def_items.specs.Parts.{list_site};
 ghost use Rattle.def_collector.specs.Collector.{state_of};
@@ -14,7 +14,7 @@ ghost use Rattle.def_laws.specs.Runs.{Leads};
 
 use crate::collector::DefCollector;
 use crate::items::collect_item;
-use def_ids::Interner;
+use def_interner::Interner;
 use def_items::{
     Frame, ItemList, Site, bring_macros, push_list, push_opened, report_disabled_item,
 };

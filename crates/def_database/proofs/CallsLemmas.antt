@@ -1,7 +1,7 @@
 -- What macro calls are answered after a write.
 use Rattle.std.proofs.Common.{◌≡◌, refl, sym, ap, ◌∙◌, Bool, true, false, ◌&&◌, cond, List, [], ◌∷◌, Option, Some, None}
 use Rattle.std.specs.Prelude.{Result, Ok, unwrap_or}
-use Rattle.def_ids.specs.declared.macro_def.MacroDefId.{MacroDefId}
+use Rattle.def_interner.specs.declared.macro_def.MacroDefId.{MacroDefId}
 use Rattle.def_ids.specs.contracts.ids.MacroIdPartialEq.TheImpl as macros
 use Rattle.def_modules.specs.Equality.{position_eq}
 use Rattle.def_modules.specs.EqualityLaws.{macros_same, positions_same}

@@ -2,7 +2,7 @@
 use Rattle.std.specs.Prelude.{Bool, false, true, ◌==◌, ◌&&◌, cond, List, [], ◌∷◌, Option, Some, None, unwrap_or, Result, Ok, Err}
 use Rattle.item_tree.specs.declared.ids.MacroCallId.{MacroCallId}
 use Rattle.def_ids.specs.declared.ids.MacroId.{MacroId}
-use Rattle.def_ids.specs.declared.macro_def.MacroDefId.{MacroDefId}
+use Rattle.def_interner.specs.declared.macro_def.MacroDefId.{MacroDefId}
 use Rattle.def_ids.specs.Equality.{macro_eq}
 use Rattle.def_modules.specs.Equality.{position_eq}
 use Rattle.def_modules.specs.MapState.{Position}

@@ -2,7 +2,8 @@
 ghost use Rattle.std.specs.Prelude.{◌≡◌, IfOk};
 ghost use Rattle.def_database.specs.Database.{answers_of};
 
-use def_ids::{BuiltinAttr, EnumLoc, MacroId};
+use def_ids::MacroId;
+use def_locs::{BuiltinAttr, EnumLoc};
 use def_map::{
     AssocItemsOwner, AssocList, AttrCallQuery, CallAnswer, CallQuery, CrateData, DefMap,
     DeriveCallQuery, EnumVariant, LocalDefMap, MacroResolver, SourceDatabase, UnresolvedMacro,

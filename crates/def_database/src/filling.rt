@@ -7,7 +7,8 @@ ghost use Rattle.def_database.specs.Database.{answers_of, leads};
 ghost use Rattle.def_database.specs.Filling.{with_tree, with_path, with_crate, with_maps, with_outer_map, with_variants, with_builtin, with_builtin_attr, with_builtin_derive, with_builtin_macro, with_lead};
 
 use crate::database::{CallKey, Database};
-use def_ids::{BuiltinAttr, MacroId};
+use def_ids::MacroId;
+use def_locs::BuiltinAttr;
 use def_map::{CallAnswer, CrateData, DefMap, EnumVariant, LocalDefMap};
 use either::Either;
 use indexmap::IndexMap;

@@ -1,6 +1,1 @@
 mod IdsFacts
-mod MacroKindsFacts
-mod NumberingLemmas
-mod SessionFacts
-mod SessionLemmas
-mod TableLemmas

@@ -1,8 +1,2 @@
 pub mod Ids
 pub mod Equality
-pub mod Exact
-pub mod ExactLaws
-pub mod MacroKinds
-pub mod Interner
-pub mod Session
-pub mod SessionLaws

@@ -11,7 +11,8 @@ ghost use Rattle.def_rules.specs.State.{State, world};
 
 use def_bindings::{EdgeTo, Entry, Visibility};
 use def_globs::Globs;
-use def_ids::{Def, EnumId, LocationId, MapId, ModuleId};
+use def_ids::{Def, EnumId, MapId, ModuleId};
+use def_interner::LocationId;
 use def_items::put;
 use def_map::{MapData, SourceDatabase, Table, World, finished_map};
 use def_steps::{GlobScope, variants_entries};

@@ -15,8 +15,8 @@ use Rattle.def_ids.specs.declared.ids.Def.TheVariants.{Module}
 use Rattle.def_ids.specs.declared.ids.Def.TheVariants as def
 use Rattle.def_ids.specs.declared.ids.MacroId.{MacroId}
 use Rattle.def_ids.specs.declared.ids.ModuleId.{ModuleId}
-use Rattle.def_ids.specs.Session.{Session, AddsLocations, StructItem, UseItem, in_module, ImplItem, ExternCrateItem, ExternBlockItem}
-use Rattle.def_ids.specs.SessionLaws.{adds_refl}
+use Rattle.def_interner.specs.Session.{Session, AddsLocations, StructItem, UseItem, in_module, ImplItem, ExternCrateItem, ExternBlockItem}
+use Rattle.def_interner.specs.SessionLaws.{adds_refl}
 use Rattle.def_bindings.specs.declared.bindings.Entry.{Entry}
 use Rattle.def_bindings.specs.declared.bindings.Namespace.TheVariants.{Types, Values}
 use Rattle.def_bindings.specs.declared.visibility.Visibility.{Visibility}

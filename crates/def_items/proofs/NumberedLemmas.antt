@@ -3,7 +3,7 @@ use Rattle.std.proofs.Common.{◌≡◌, [], ap, append-nil, refl, subst, sym, t
 use Rattle.item_tree.specs.declared.items.ItemNode.{ItemNode}
 use Rattle.def_ids.specs.declared.ids.ConstId.{ConstId}
 use Rattle.def_ids.specs.declared.ids.Def.{Def}
-use Rattle.def_ids.specs.Session.{AddsLocations, Session}
+use Rattle.def_interner.specs.Session.{AddsLocations, Session}
 use Rattle.def_items.specs.declared.numbered.Declaration.{Declaration}
 use Rattle.def_items.specs.declared.numbered.Declared.TheVariants.{Name, UnnamedConst}
 use Rattle.def_items.specs.Numbered.{IsDeclared, declares_one, is_declaring}

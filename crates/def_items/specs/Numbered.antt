@@ -3,7 +3,7 @@ use Rattle.std.specs.Prelude.{◌≡◌, ℕ, Bool, false, true, Some}
 use Rattle.item_tree.specs.declared.items.ItemNode.{ItemNode}
 use Rattle.item_tree.specs.declared.items.ModItemKind.{ModItemKind}
 use Rattle.def_ids.specs.declared.ids.Def.{Def}
-use Rattle.def_ids.specs.Session.{ConstItem, ItemKind, Session}
+use Rattle.def_interner.specs.Session.{ConstItem, ItemKind, Session}
 use Rattle.def_items.specs.declared.numbered.Declared.{Declared}
 use Rattle.def_items.specs.declared.numbered.Declared.TheVariants.{Name, UnnamedConst, Nothing}
 use Rattle.def_rules.specs.Imports.{is_types}

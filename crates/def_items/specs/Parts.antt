@@ -2,9 +2,9 @@
 use Rattle.std.specs.Prelude.{Option, option_map}
 use Rattle.item_tree.specs.declared.tree.ItemTree.{ItemTree}
 use Rattle.def_ids.specs.declared.ids.ModuleId.{ModuleId}
-use Rattle.def_ids.specs.declared.interner.Interner.{Interner}
+use Rattle.def_interner.specs.declared.interner.Interner.{Interner}
 use Rattle.def_ids.specs.Ids.{is_same_module}
-use Rattle.def_ids.specs.Session.{session_of}
+use Rattle.def_interner.specs.Session.{session_of}
 use Rattle.def_items.specs.declared.lists.ItemList.{ItemList}
 use Rattle.def_items.specs.declared.lists.Site.{Site as SiteInCode}
 use Rattle.def_items.specs.declared.mod_dirs.ModDirs.{ModDirs}

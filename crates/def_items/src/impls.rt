@@ -1,14 +1,15 @@
 //! Impls, which declare no name.
 ghost use Rattle.std.specs.Prelude.{◌≡◌, [], OnOk};
 ghost use Rattle.item_tree.specs.declared.items.ModItemKind.TheVariants as kinds;
-ghost use Rattle.def_ids.specs.Session.{AddsLocations, session_of};
+ghost use Rattle.def_interner.specs.Session.{AddsLocations, session_of};
 ghost use Rattle.def_map.specs.Oracle.{Oracle};
 ghost use Rattle.def_items.specs.Parts.{site_of, with_session};
 ghost use Rattle.def_laws.specs.Performs.{Handled};
 ghost use Rattle.def_rules.specs.State.{State};
 
 use crate::lists::Site;
-use def_ids::{ImplLoc, Interner, Location};
+use def_interner::{Interner, Location};
+use def_locs::ImplLoc;
 use def_map::MapData;
 use item_tree::ItemNode;
 use std::alloc::AllocError;

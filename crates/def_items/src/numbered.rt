@@ -1,15 +1,14 @@
 //! Items that declare one name: each gets its number, and with it a definition.
 ghost use Rattle.std.specs.Prelude.{◌≡◌, false, IfOk, OnOk};
-ghost use Rattle.def_ids.specs.Session.{AddsLocations, session_of};
+ghost use Rattle.def_interner.specs.Session.{AddsLocations, session_of};
 ghost use Rattle.def_items.specs.Numbered.{IsDeclared, is_declaring, is_type};
 ghost use Rattle.def_items.specs.Parts.{site_of};
 
 use crate::lists::Site;
 use def_bindings::Namespace;
-use def_ids::{
-    ConstId, ConstLoc, Def, EnumLoc, FunctionLoc, Interner, Location, StaticLoc, TraitLoc,
-    TypeAliasLoc, UnionLoc,
-};
+use def_ids::{ConstId, Def};
+use def_interner::{Interner, Location};
+use def_locs::{ConstLoc, EnumLoc, FunctionLoc, StaticLoc, TraitLoc, TypeAliasLoc, UnionLoc};
 use item_tree::{ItemNode, ModItemKind, Name, RawVisibility};
 use std::alloc::AllocError;
 

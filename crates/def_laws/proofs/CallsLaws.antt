@@ -5,7 +5,7 @@ use Rattle.item_tree.specs.declared.items.ExpandTo.{ExpandTo}
 use Rattle.item_tree.specs.declared.items.ItemNode.{ItemNode}
 use Rattle.item_tree.specs.declared.items.ModItemKind.TheVariants.{MacroCall}
 use Rattle.item_tree.specs.declared.mod_path.ModPath.{ModPath}
-use Rattle.def_ids.specs.SessionLaws.{adds_refl}
+use Rattle.def_interner.specs.SessionLaws.{adds_refl}
 use Rattle.def_oracle.specs.Oracle.{Oracle}
 use Rattle.def_rules.specs.Calls.{call_effect}
 use Rattle.def_rules.specs.Rules.{Handles}

@@ -1,6 +1,6 @@
 -- What is answered ends a run of the machine.
 use Rattle.std.proofs.Common.{◌≡◌, [], refl, sym, subst}
-use Rattle.def_ids.specs.Session.{Session}
+use Rattle.def_interner.specs.Session.{Session}
 use Rattle.def_bindings.specs.Closure.{IsClosed, IsCoherent}
 use Rattle.def_globs.specs.Raised.{IsRaisedAt}
 use Rattle.def_laws.specs.Sound.{IsSoundWith}

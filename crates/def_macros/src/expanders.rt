@@ -1,12 +1,13 @@
 //! What expands a macro.
 ghost use Rattle.std.specs.Prelude.{◌≡◌};
 ghost use Rattle.item_tree.specs.Attrs.{attrs_of};
-ghost use Rattle.def_ids.specs.Session.{session_of};
+ghost use Rattle.def_interner.specs.Session.{session_of};
 ghost use Rattle.def_items.specs.Parts.{site_of};
 ghost use Rattle.def_rules.specs.Macros as macros;
 
-use def_ids::{Interner, MacroExpander};
+use def_interner::Interner;
 use def_items::Site;
+use def_locs::MacroExpander;
 use def_map::SourceDatabase;
 use either::Either;
 use item_tree::{Crate, ItemNode, Name, TopSubtree, sym};

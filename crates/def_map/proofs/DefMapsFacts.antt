@@ -2,7 +2,7 @@
 use Rattle.std.proofs.Common.{◌≡◌, ℕ, [], ◌∷◌, Some, None, refl}
 use Rattle.def_ids.specs.declared.ids.Def.TheVariants.{Builtin}
 use Rattle.def_ids.specs.declared.ids.ModuleId.{ModuleId}
-use Rattle.def_ids.specs.declared.macro_def.Edition.TheVariants.{Edition2015}
+use Rattle.def_ids.specs.declared.edition.Edition.TheVariants.{Edition2015}
 use Rattle.def_bindings.specs.Content.{Content, empty, with_binding, with_unnamed}
 use Rattle.def_bindings.specs.declared.bindings.Namespace.TheVariants.{Types, Values}
 use Rattle.def_bindings.specs.declared.visibility.Visibility.{Visibility}

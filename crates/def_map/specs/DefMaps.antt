@@ -2,7 +2,7 @@
 use Rattle.std.specs.Prelude.{[], Option, None, Some}
 use Rattle.item_tree.specs.declared.ids.Crate.{Crate}
 use Rattle.def_ids.specs.declared.ids.MapId.{MapId}
-use Rattle.def_ids.specs.declared.macro_def.Edition.{Edition}
+use Rattle.def_ids.specs.declared.edition.Edition.{Edition}
 use Rattle.def_bindings.specs.declared.visibility.Visibility.{Visibility}
 use Rattle.def_bindings.specs.Content.{Content}
 use Rattle.def_map.specs.declared.block.BlockInfo.{BlockInfo}

@@ -1,7 +1,7 @@
 //! What the map of a block begins with.
 ghost use Rattle.std.specs.Prelude.{◌≡◌, false, IfOk, MatchOption};
 ghost use Rattle.def_bindings.specs.Tree.{are_apart};
-ghost use Rattle.def_ids.specs.declared.macro_def.Edition.{Edition};
+ghost use Rattle.def_ids.specs.declared.edition.Edition.{Edition};
 ghost use Rattle.def_map.specs.DefMaps.{state_of, info_state};
 ghost use Rattle.def_seed.specs.Fresh.{fresh_state, block_crate};
 ghost use Rattle.def_seed.specs.Seeds.{block_map_id};

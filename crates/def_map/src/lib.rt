@@ -39,12 +39,14 @@ pub use def_bindings::{
     NumberedTable, Slot, VisOrder, Visibility,
 };
 pub use def_ids::{
-    Adt, BuiltinAttr, BuiltinDeriveImplId, BuiltinDeriveImplLoc, ConstId, ConstLoc,
-    CustomProcMacroExpander, Def, Edition, EnumId, EnumLoc, ExternBlockId, ExternBlockLoc,
-    ExternCrateId, ExternCrateLoc, FunctionId, FunctionLoc, GlobId, ImplId, ImplLoc, ImportId,
-    Interner, ItemContainerId, Location, LocationId, Macro2Id, Macro2Loc, MacroDefId, MacroDefKind,
-    MacroExpander, MacroId, MacroRulesId, MacroRulesLoc, MapId, ModuleId, ProcMacroId,
-    ProcMacroLoc, ProcMacroUse, StaticId, StaticLoc, StructId, StructLoc, TraitId, TraitLoc,
-    TypeAliasId, TypeAliasLoc, UnionId, UnionLoc, UseId, UseLoc, VariantId,
+    Adt, BuiltinDeriveImplId, ConstId, Def, Edition, EnumId, ExternBlockId, ExternCrateId,
+    FunctionId, GlobId, ImplId, ImportId, ItemContainerId, Macro2Id, MacroId, MacroRulesId, MapId,
+    ModuleId, ProcMacroId, StaticId, StructId, TraitId, TypeAliasId, UnionId, UseId, VariantId,
+};
+pub use def_interner::{Interner, Location, LocationId, MacroDefId, MacroDefKind};
+pub use def_locs::{
+    BuiltinAttr, BuiltinDeriveImplLoc, ConstLoc, CustomProcMacroExpander, EnumLoc, ExternBlockLoc,
+    ExternCrateLoc, FunctionLoc, ImplLoc, Macro2Loc, MacroExpander, MacroRulesLoc, ProcMacroLoc,
+    ProcMacroUse, StaticLoc, StructLoc, TraitLoc, TypeAliasLoc, UnionLoc, UseLoc,
 };
 pub use scope_table::ScopeTable;

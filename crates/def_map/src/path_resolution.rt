@@ -1,6 +1,6 @@
 //! What paths mean, in finished maps and in the map that is being made.
 ghost use Rattle.std.specs.Prelude.{◌≡◌, option_map};
-ghost use Rattle.def_ids.specs.Session.{session_of};
+ghost use Rattle.def_interner.specs.Session.{session_of};
 ghost use Rattle.def_map.specs.DefMaps.{view_of};
 ghost use Rattle.def_modules.specs.Locals.{local_view};
 ghost use Rattle.def_paths.specs.declared.asked.ResolveMode.TheVariants.{Other};
@@ -12,7 +12,9 @@ ghost use Rattle.def_paths.specs.Sources.{world_of, finished_map as finished_map
 use crate::def_map::DefMap;
 use crate::source_database::SourceDatabase;
 use def_bindings::{BindingTable, Visibility};
-use def_ids::{EnumLoc, Interner, MapId, ModuleId};
+use def_ids::{MapId, ModuleId};
+use def_interner::Interner;
+use def_locs::EnumLoc;
 use def_modules::{LocalDefMap, MapData};
 use def_oracle::EnumVariant;
 use def_paths::{

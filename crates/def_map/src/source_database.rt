@@ -4,7 +4,7 @@ ghost use Rattle.std.specs.Option.{option_copied};
 
 use crate::def_map::DefMap;
 use crate::macro_resolver::MacroResolver;
-use def_ids::{BuiltinAttr, EnumLoc};
+use def_locs::{BuiltinAttr, EnumLoc};
 use def_modules::LocalDefMap;
 use def_oracle::{
     AssocItemsOwner, AssocList, AttrCallQuery, CallAnswer, CallQuery, CrateData, DeriveCallQuery,
@@ -22,7 +22,7 @@ use std::alloc::{AllocError, Global};
 /// A macro call asks the resolver only for paths that the call itself determines, and its answer
 /// follows from what the resolver finds for them: resolvers of equal meaning get equal answers.
 pub trait SourceDatabase {
-    ghost use Rattle.def_ids.specs.Session.{in_module};
+    ghost use Rattle.def_interner.specs.Session.{in_module};
     ghost use Rattle.def_map.specs.DefMaps.{view_of};
     ghost use Rattle.def_modules.specs.Locals.{local_view};
     ghost use Rattle.def_oracle.specs.Oracle.{Oracle};

@@ -5,7 +5,7 @@ use Rattle.item_tree.specs.declared.ids.HirFileId.TheVariants.{File, Macro}
 use Rattle.item_tree.specs.declared.name.Name.{Name}
 use Rattle.def_ids.specs.declared.ids.MacroId.{MacroId}
 use Rattle.def_ids.specs.declared.ids.MacroId.TheVariants.{MacroRules, Macro2}
-use Rattle.def_ids.specs.declared.macro_def.Edition.TheVariants.{Edition2021}
+use Rattle.def_ids.specs.declared.edition.Edition.TheVariants.{Edition2021}
 use Rattle.def_bindings.specs.declared.visibility.Visibility.TheVariants.{Public}
 use Rattle.def_modules.specs.declared.local_def_map.ExternPreludeEntry.{ExternPreludeEntry}
 use Rattle.def_modules.specs.declared.module_data.ModuleOrigin.TheVariants.{CrateRoot}

@@ -17,7 +17,7 @@ use Rattle.def_ids.specs.declared.ids.MacroId.{MacroId}
 use Rattle.def_ids.specs.declared.ids.MapId.{MapId}
 use Rattle.def_ids.specs.declared.ids.ModuleId.{ModuleId}
 use Rattle.def_ids.specs.declared.ids.ProcMacroId.{ProcMacroId}
-use Rattle.def_ids.specs.declared.macro_def.Edition.{Edition}
+use Rattle.def_ids.specs.declared.edition.Edition.{Edition}
 use Rattle.def_bindings.specs.declared.visibility.Visibility.{Visibility}
 use Rattle.def_modules.specs.declared.module_data.ModuleOrigin.{ModuleOrigin}
 

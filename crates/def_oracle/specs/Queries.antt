@@ -6,7 +6,7 @@ use Rattle.item_tree.specs.declared.ids.Crate.{Crate}
 use Rattle.item_tree.specs.declared.ids.SyntaxContext.{SyntaxContext}
 use Rattle.item_tree.specs.declared.items.ExpandTo.{ExpandTo}
 use Rattle.item_tree.specs.declared.mod_path.ModPath.{ModPath}
-use Rattle.def_ids.specs.declared.macro_def.MacroDefId.{MacroDefId}
+use Rattle.def_interner.specs.declared.macro_def.MacroDefId.{MacroDefId}
 use Rattle.def_oracle.specs.declared.source_database.AttrCallQuery.{AttrCallQuery}
 use Rattle.def_oracle.specs.declared.source_database.CallQuery.{CallQuery}
 use Rattle.def_modules.specs.MapState.{Position}

@@ -1,6 +1,7 @@
 //! What is asked of a database, and what it answers.
 
-use def_ids::{ImplId, MacroDefId, TraitId, VariantId};
+use def_ids::{ImplId, TraitId, VariantId};
+use def_interner::MacroDefId;
 use item_tree::{
     AttrId, AttrInput, AttrsOrCfg, Crate, ExpandTo, FileAstId, FileId, InFile, MacroCallId,
     ModPath, Name, Seq, SyntaxContext,

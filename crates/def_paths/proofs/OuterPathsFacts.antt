@@ -10,12 +10,12 @@ use Rattle.def_ids.specs.declared.ids.MacroId.{MacroId}
 use Rattle.def_ids.specs.declared.ids.MacroId.TheVariants.{MacroRules, Macro2, ProcMacro}
 use Rattle.def_ids.specs.declared.ids.MapId.{MapId}
 use Rattle.def_ids.specs.declared.ids.ModuleId.{ModuleId}
-use Rattle.def_ids.specs.declared.macro_def.BuiltinAttr.TheVariants.{Test}
-use Rattle.def_ids.specs.declared.macro_def.Edition.TheVariants.{Edition2021}
-use Rattle.def_ids.specs.declared.macro_def.MacroDefKind.{MacroDefKind}
-use Rattle.def_ids.specs.declared.macro_def.MacroDefKind.TheVariants.{BuiltIn, BuiltInAttr, BuiltInDerive}
+use Rattle.def_locs.specs.declared.expander.BuiltinAttr.TheVariants.{Test}
+use Rattle.def_ids.specs.declared.edition.Edition.TheVariants.{Edition2021}
+use Rattle.def_interner.specs.declared.macro_def.MacroDefKind.{MacroDefKind}
+use Rattle.def_interner.specs.declared.macro_def.MacroDefKind.TheVariants.{BuiltIn, BuiltInAttr, BuiltInDerive}
 use Rattle.def_ids.specs.Ids.{is_same_module}
-use Rattle.def_ids.specs.Session.{ItemKind, EnumItem, ItemLoc, MacroLoc, in_module}
+use Rattle.def_interner.specs.Session.{ItemKind, EnumItem, ItemLoc, MacroLoc, in_module}
 use Rattle.def_bindings.specs.Content.{is_namespace}
 use Rattle.def_bindings.specs.declared.bindings.ImportOrExternCrate.TheVariants.{ExternCrate}
 use Rattle.def_bindings.specs.declared.bindings.Namespace.{Namespace}

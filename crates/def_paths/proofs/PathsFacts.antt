@@ -8,8 +8,8 @@ use Rattle.item_tree.specs.declared.name.Name.{Name}
 use Rattle.def_ids.specs.declared.ids.Def.TheVariants as def
 use Rattle.def_ids.specs.declared.ids.MapId.{MapId}
 use Rattle.def_ids.specs.declared.ids.ModuleId.{ModuleId}
-use Rattle.def_ids.specs.declared.macro_def.Edition.{Edition}
-use Rattle.def_ids.specs.declared.macro_def.Edition.TheVariants.{Edition2015, Edition2021}
+use Rattle.def_ids.specs.declared.edition.Edition.{Edition}
+use Rattle.def_ids.specs.declared.edition.Edition.TheVariants.{Edition2015, Edition2021}
 use Rattle.def_ids.specs.Ids.{is_same_module}
 use Rattle.def_bindings.specs.declared.bindings.Namespace.{Namespace}
 use Rattle.def_bindings.specs.declared.bindings.Namespace.TheVariants.{Types, Values, Macros}

@@ -1,5 +1,5 @@
 -- What the code of a resolution reads, as its definitions take it.
-use Rattle.def_ids.specs.Session.{session_of}
+use Rattle.def_interner.specs.Session.{session_of}
 use Rattle.def_bindings.specs.Content.{Content}
 use Rattle.def_bindings.specs.declared.visibility.Visibility.{Visibility}
 use Rattle.def_paths.specs.declared.world.Asking.{Asking}

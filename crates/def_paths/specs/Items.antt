@@ -4,10 +4,10 @@ use Rattle.def_ids.specs.declared.ids.Def.{Def}
 use Rattle.def_ids.specs.declared.ids.Def.TheVariants.{Module, Macro}
 use Rattle.def_ids.specs.declared.ids.MacroId.{MacroId}
 use Rattle.def_ids.specs.declared.ids.ModuleId.{ModuleId}
-use Rattle.def_ids.specs.declared.macro_def.Edition.{Edition}
-use Rattle.def_ids.specs.declared.macro_def.Edition.TheVariants.{Edition2015, Edition2018, Edition2021, Edition2024}
-use Rattle.def_ids.specs.declared.macro_def.MacroDefKind.{MacroDefKind}
-use Rattle.def_ids.specs.MacroKinds.{is_fn_like, is_attribute, is_derive}
+use Rattle.def_ids.specs.declared.edition.Edition.{Edition}
+use Rattle.def_ids.specs.declared.edition.Edition.TheVariants.{Edition2015, Edition2018, Edition2021, Edition2024}
+use Rattle.def_interner.specs.declared.macro_def.MacroDefKind.{MacroDefKind}
+use Rattle.def_interner.specs.MacroKinds.{is_fn_like, is_attribute, is_derive}
 use Rattle.def_bindings.specs.declared.bindings.ImportOrExternCrate.TheVariants.{ExternCrate}
 use Rattle.def_bindings.specs.declared.visibility.Visibility.TheVariants.{Public}
 use Rattle.def_paths.specs.declared.asked.BuiltinShadowMode.{BuiltinShadowMode}

@@ -21,7 +21,7 @@ use Rattle.def_oracle.specs.Oracle.{Meaning}
 use Rattle.def_paths.specs.OuterMaps.{answer_of}
 use Rattle.def_paths.specs.PerNs.{per_namespace}
 use Rattle.def_paths.specs.Sources.{map_of_id, scope_source}
-pub use Rattle.def_ids.specs.Session.{macro_def}
+pub use Rattle.def_interner.specs.Session.{macro_def}
 pub use Rattle.def_paths.specs.Modes.{asked_by, for_import, for_macro, for_module}
 pub use Rattle.def_paths.specs.Sources.{World, Question, question, world_of}
 

@@ -8,9 +8,9 @@ use Rattle.def_ids.specs.declared.ids.Def.TheVariants.{Builtin, Macro}
 use Rattle.def_ids.specs.declared.ids.MacroId.{MacroId}
 use Rattle.def_ids.specs.declared.ids.MapId.{MapId}
 use Rattle.def_ids.specs.declared.ids.ModuleId.{ModuleId}
-use Rattle.def_ids.specs.declared.macro_def.MacroDefKind.{MacroDefKind}
+use Rattle.def_interner.specs.declared.macro_def.MacroDefKind.{MacroDefKind}
 use Rattle.def_ids.specs.Ids.{is_same_map, is_block_root, crate_root}
-use Rattle.def_ids.specs.Session.{Session, ItemLoc, EnumItem, macro_kind}
+use Rattle.def_interner.specs.Session.{Session, ItemLoc, EnumItem, macro_kind}
 use Rattle.def_bindings.specs.declared.bindings.Namespace.{Namespace}
 use Rattle.def_bindings.specs.declared.bindings.Namespace.TheVariants.{Types, Values, Macros}
 use Rattle.def_paths.specs.declared.asked.Asked.{Asked}

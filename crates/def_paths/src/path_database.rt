@@ -3,14 +3,15 @@ ghost use Rattle.std.specs.Prelude.{◌≡◌, option_map};
 ghost use Rattle.std.specs.Option.{option_copied};
 
 use crate::table::Table;
-use def_ids::{EnumLoc, MapId};
+use def_ids::MapId;
+use def_locs::EnumLoc;
 use def_modules::MapData;
 use def_oracle::EnumVariant;
 use item_tree::Name;
 
 /// The answers that paths ask for. Each is a function of its arguments.
 pub trait PathDatabase {
-    ghost use Rattle.def_ids.specs.Session.{in_module};
+    ghost use Rattle.def_interner.specs.Session.{in_module};
     ghost use Rattle.def_modules.specs.Tables.{bound_by};
     ghost use Rattle.def_oracle.specs.Oracle.{Oracle};
     ghost use Rattle.def_paths.specs.Asking.{map_with};

@@ -1,11 +1,12 @@
 //! What a name means in each namespace.
 ghost use Rattle.std.specs.Prelude.{◌≡◌, not};
-ghost use Rattle.def_ids.specs.Session.{session_of, macro_kind};
+ghost use Rattle.def_interner.specs.Session.{session_of, macro_kind};
 ghost use Rattle.def_paths.specs.Items.{public_item as item_of, is_fitting, is_module_item, does_fit};
 ghost use Rattle.def_paths.specs.PerNs.{kept, kept_in};
 
 use def_bindings::{Binding, Visibility};
-use def_ids::{Def, Interner, MacroDefKind, MacroId};
+use def_ids::{Def, MacroId};
+use def_interner::{Interner, MacroDefKind};
 
 /// A definition under a visibility of the language, and what brought it: `None` for a declaration.
 pub type Item = Binding<Visibility>;

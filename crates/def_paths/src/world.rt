@@ -1,7 +1,7 @@
 //! What paths are read against.
 
 use crate::asked::Asked;
-use def_ids::Interner;
+use def_interner::Interner;
 use def_modules::{LocalDefMap, MapData};
 
 /// What paths are read against: a map, which is its data and its table, the names of its crate for

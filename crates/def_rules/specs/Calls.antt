@@ -12,9 +12,9 @@ use Rattle.item_tree.specs.declared.name.Name.{Name}
 use Rattle.item_tree.specs.Paths.{as_ident}
 use Rattle.def_ids.specs.declared.ids.MacroId.{MacroId}
 use Rattle.def_ids.specs.declared.ids.ModuleId.{ModuleId}
-use Rattle.def_ids.specs.declared.macro_def.MacroDefId.{MacroDefId}
-use Rattle.def_ids.specs.MacroKinds.{is_fn_like}
-use Rattle.def_ids.specs.Session.{macro_def}
+use Rattle.def_interner.specs.declared.macro_def.MacroDefId.{MacroDefId}
+use Rattle.def_interner.specs.MacroKinds.{is_fn_like}
+use Rattle.def_interner.specs.Session.{macro_def}
 use Rattle.def_modules.specs.Maps.{limit_of, with_module}
 use Rattle.def_modules.specs.MapState.{MapState}
 use Rattle.def_modules.specs.Scopes.{with_invocation}

@@ -16,8 +16,8 @@ use Rattle.item_tree.specs.KnownNames as known
 use Rattle.item_tree.specs.Lists.{only_of_list}
 use Rattle.item_tree.specs.TokenTrees.{TokenTrees, elements, element_ident}
 use Rattle.def_ids.specs.declared.ids.ModuleId.{ModuleId}
-use Rattle.def_ids.specs.declared.macro_def.Edition.{Edition}
-use Rattle.def_ids.specs.declared.macro_def.Edition.TheVariants.{Edition2015, Edition2018, Edition2021, Edition2024}
+use Rattle.def_ids.specs.declared.edition.Edition.{Edition}
+use Rattle.def_ids.specs.declared.edition.Edition.TheVariants.{Edition2015, Edition2018, Edition2021, Edition2024}
 use Rattle.def_ids.specs.Ids.{crate_root}
 use Rattle.def_bindings.specs.Content.{is_name}
 use Rattle.def_oracle.specs.declared.source_database.Dependency.{Dependency}

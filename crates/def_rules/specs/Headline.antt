@@ -1,6 +1,6 @@
 -- The headline: what `collect_defs` answers ends a run of the machine.
 use Rattle.std.specs.Prelude.{◌≡◌, []}
-use Rattle.def_ids.specs.Session.{Session}
+use Rattle.def_interner.specs.Session.{Session}
 use Rattle.def_ids.specs.declared.ids.ModuleId.{ModuleId}
 use Rattle.def_bindings.specs.declared.bindings.Slot.{Slot}
 use Rattle.def_bindings.specs.Closure.{IsClosed, IsCoherent}

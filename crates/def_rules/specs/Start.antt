@@ -8,7 +8,7 @@ use Rattle.item_tree.specs.declared.ids.ModItemId.{ModItemId}
 use Rattle.item_tree.specs.declared.ids.TreeId.{TreeId}
 use Rattle.def_ids.specs.declared.ids.MapId.{MapId}
 use Rattle.def_ids.specs.declared.ids.ModuleId.{ModuleId}
-use Rattle.def_ids.specs.Session.{Session}
+use Rattle.def_interner.specs.Session.{Session}
 use Rattle.def_bindings.specs.Content.{empty}
 use Rattle.def_oracle.specs.declared.source_database.CrateData.{CrateData}
 use Rattle.def_modules.specs.MapState.{CrateState, MapState}

@@ -15,7 +15,7 @@ use Rattle.def_ids.specs.declared.ids.ItemContainerId.TheVariants.{Module}
 use Rattle.def_ids.specs.declared.ids.ModuleId.{ModuleId}
 use Rattle.def_ids.specs.declared.ids.UseId.{UseId}
 use Rattle.def_ids.specs.Ids.{is_same_module}
-use Rattle.def_ids.specs.Session.{Session}
+use Rattle.def_interner.specs.Session.{Session}
 use Rattle.def_bindings.specs.declared.bindings.Binding.{Binding}
 use Rattle.def_bindings.specs.declared.bindings.EdgeTo.{EdgeTo}
 use Rattle.def_bindings.specs.declared.bindings.Entry.{Entry}

@@ -14,10 +14,10 @@ use Rattle.def_ids.specs.declared.ids.Def.TheVariants.{Struct as StructDef}
 use Rattle.def_ids.specs.declared.ids.ItemContainerId.TheVariants.{Module}
 use Rattle.def_ids.specs.declared.ids.MacroId.{MacroId}
 use Rattle.def_ids.specs.declared.ids.MacroId.TheVariants.{MacroRules, Macro2, ProcMacro}
-use Rattle.def_ids.specs.declared.macro_def.Edition.TheVariants.{Edition2021}
-use Rattle.def_ids.specs.declared.macro_def.MacroDefId.{MacroDefId}
-use Rattle.def_ids.specs.declared.macro_def.MacroDefKind.TheVariants.{Declarative}
-use Rattle.def_ids.specs.Session.{Session, AddsLocations, ItemKind, ItemLoc, MacroLoc, StructItem}
+use Rattle.def_ids.specs.declared.edition.Edition.TheVariants.{Edition2021}
+use Rattle.def_interner.specs.declared.macro_def.MacroDefId.{MacroDefId}
+use Rattle.def_interner.specs.declared.macro_def.MacroDefKind.TheVariants.{Declarative}
+use Rattle.def_interner.specs.Session.{Session, AddsLocations, ItemKind, ItemLoc, MacroLoc, StructItem}
 use Rattle.def_bindings.specs.declared.bindings.Binding.{Binding}
 use Rattle.def_bindings.specs.declared.bindings.Namespace.TheVariants.{Types, Values}
 use Rattle.def_bindings.specs.declared.visibility.Visibility.{Visibility}
@@ -104,14 +104,14 @@ walked = (
   _,
   join (one (performs _ _ _ refl refl refl))
       (join (one (performs _ _ _ refl (session, more, (0, Some foo, refl, refl, refl)) refl))
-          (join (one (performs _ _ _ refl (session, unchanged session, refl) refl))
-              (join (one (performs _ _ _ refl refl refl))
-                  (join (one (performs _ _ _ refl (session, unchanged session, (0, refl, refl)) refl))
-                      (join (one (performs _ _ _ refl refl refl))
-                          (join (one (performs _ _ _ refl refl refl))
-                              (join (one (performs _ _ _ refl (session, unchanged session, (1, refl, refl)) refl))
-                                  (join (one (performs _ _ _ refl refl refl))
-                                  (one (performs _ _ _ refl refl refl)))))))))),
+      (join (one (performs _ _ _ refl (session, unchanged session, refl) refl))
+      (join (one (performs _ _ _ refl refl refl))
+      (join (one (performs _ _ _ refl (session, unchanged session, (0, refl, refl)) refl))
+      (join (one (performs _ _ _ refl refl refl))
+      (join (one (performs _ _ _ refl refl refl))
+      (join (one (performs _ _ _ refl (session, unchanged session, (1, refl, refl)) refl))
+      (join (one (performs _ _ _ refl refl refl))
+      (one (performs _ _ _ refl refl refl)))))))))),
 )
 
 abbrev pub last : Moment

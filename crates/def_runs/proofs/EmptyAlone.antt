@@ -1,6 +1,6 @@
 -- A crate without items has no other answer: whatever run is taken, one module is answered in which nothing is bound, and nothing is reported.
 use Rattle.std.proofs.Common.{◌≡◌, ◌⊎◌, inl, inr, flat_map, [], ◌∷◌, ◌++◌, None, slice_get, IsPermutation, refl, sym, subst, ap, ◌∙◌}
-use Rattle.def_ids.specs.Session.{Session}
+use Rattle.def_interner.specs.Session.{Session}
 use Rattle.def_bindings.specs.declared.visibility.Visibility.{Visibility}
 use Rattle.def_bindings.specs.declared.visibility.Visibility.TheVariants.{Public}
 use Rattle.def_bindings.specs.Content.{Content, empty}

@@ -9,7 +9,7 @@ use Rattle.item_tree.specs.declared.mod_path.PathKind.{PathKind}
 use Rattle.item_tree.specs.declared.mod_path.PathKind.TheVariants.{Abs, Plain, Super}
 use Rattle.item_tree.specs.declared.name.Name.{Name}
 use Rattle.item_tree.specs.declared.tree.ItemTree.{ItemTree}
-use Rattle.def_ids.specs.Session.{Session, ItemKind, ItemLoc, ExternCrateItem, UseItem}
+use Rattle.def_interner.specs.Session.{Session, ItemKind, ItemLoc, ExternCrateItem, UseItem}
 use Rattle.def_bindings.specs.Content.{empty}
 use Rattle.def_rules.specs.declared.diagnostics.DefDiagnosticKind.TheVariants.{UnresolvedExternCrate, UnresolvedImport}
 use Rattle.def_rules.specs.declared.outcome.LeftImport.{LeftImport}

@@ -11,7 +11,7 @@ use Rattle.item_tree.specs.declared.tree.ItemTree.{ItemTree}
 use Rattle.item_tree.specs.KnownNames.{macro_use_name}
 use Rattle.def_ids.specs.declared.ids.MacroId.{MacroId}
 use Rattle.def_ids.specs.declared.ids.MacroId.TheVariants.{MacroRules, Macro2, ProcMacro}
-use Rattle.def_ids.specs.Session.{Session, AddsLocations, ItemKind, ItemLoc, MacroLoc, UseItem}
+use Rattle.def_interner.specs.Session.{Session, AddsLocations, ItemKind, ItemLoc, MacroLoc, UseItem}
 use Rattle.def_bindings.specs.declared.bindings.Namespace.TheVariants.{Types, Macros}
 use Rattle.def_modules.specs.Maps.{textual_at}
 use Rattle.def_rules.specs.Headline.{Answers}

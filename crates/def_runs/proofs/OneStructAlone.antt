@@ -1,7 +1,7 @@
 -- Each answer of `pub struct S;` binds S, whatever run is taken: so the map as it was seeded, with nothing bound, is no answer.
 use Rattle.std.proofs.Common.{◌≡◌, inl, inr, ℕ, Some, None, List, [], ◌∷◌, ◌++◌, IsPermutation, refl, sym, subst, ap, ◌∙◌, append-nil}
 use Rattle.def_ids.specs.declared.ids.Def.TheVariants.{Struct}
-use Rattle.def_ids.specs.Session.{Session}
+use Rattle.def_interner.specs.Session.{Session}
 use Rattle.def_bindings.specs.declared.bindings.Binding.{Binding}
 use Rattle.def_bindings.specs.declared.bindings.Namespace.{Namespace}
 use Rattle.def_bindings.specs.declared.bindings.Namespace.TheVariants.{Types, Values}

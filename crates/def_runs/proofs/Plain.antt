@@ -7,7 +7,7 @@ use Rattle.item_tree.specs.declared.mod_path.PathKind.TheVariants.{Plain}
 use Rattle.item_tree.specs.declared.name.Name.{Name}
 use Rattle.item_tree.specs.declared.tree.ItemTree.{ItemTree}
 use Rattle.def_ids.specs.declared.ids.Def.TheVariants.{Struct}
-use Rattle.def_ids.specs.Session.{Session, ItemKind, ItemLoc, StructItem, UseItem}
+use Rattle.def_interner.specs.Session.{Session, ItemKind, ItemLoc, StructItem, UseItem}
 use Rattle.def_bindings.specs.declared.bindings.Binding.{Binding}
 use Rattle.def_bindings.specs.declared.bindings.ImportOrExternCrate.TheVariants.{Import as ByImport}
 use Rattle.def_bindings.specs.declared.bindings.Namespace.TheVariants.{Types, Values}

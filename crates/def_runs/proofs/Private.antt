@@ -10,7 +10,7 @@ use Rattle.item_tree.specs.declared.name.Name.{Name}
 use Rattle.item_tree.specs.declared.tree.ItemTree.{ItemTree}
 use Rattle.def_ids.specs.declared.ids.Def.TheVariants.{Module as ModuleDef, Struct}
 use Rattle.def_ids.specs.declared.ids.GlobId.{GlobId}
-use Rattle.def_ids.specs.Session.{Session, ItemKind, ItemLoc, StructItem, UseItem}
+use Rattle.def_interner.specs.Session.{Session, ItemKind, ItemLoc, StructItem, UseItem}
 use Rattle.def_bindings.specs.declared.bindings.Binding.{Binding}
 use Rattle.def_bindings.specs.declared.bindings.EdgeTo.{EdgeTo}
 use Rattle.def_bindings.specs.declared.bindings.ImportOrExternCrate.{ImportOrExternCrate}

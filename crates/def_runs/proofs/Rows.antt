@@ -10,8 +10,8 @@ use Rattle.def_ids.specs.declared.ids.GlobId.{GlobId}
 use Rattle.def_ids.specs.declared.ids.ItemContainerId.TheVariants.{Module}
 use Rattle.def_ids.specs.declared.ids.MapId.{MapId}
 use Rattle.def_ids.specs.declared.ids.ModuleId.{ModuleId}
-use Rattle.def_ids.specs.declared.macro_def.Edition.TheVariants.{Edition2021}
-use Rattle.def_ids.specs.Session.{Session, AddsLocations, ItemKind, ItemLoc}
+use Rattle.def_ids.specs.declared.edition.Edition.TheVariants.{Edition2021}
+use Rattle.def_interner.specs.Session.{Session, AddsLocations, ItemKind, ItemLoc}
 use Rattle.def_bindings.specs.declared.bindings.Binding.{Binding}
 use Rattle.def_bindings.specs.declared.bindings.Namespace.{Namespace}
 use Rattle.def_bindings.specs.declared.visibility.Visibility.{Visibility}

@@ -12,9 +12,9 @@ use Rattle.item_tree.specs.declared.tree.ItemTree.{ItemTree}
 use Rattle.def_ids.specs.declared.ids.Def.TheVariants.{Macro}
 use Rattle.def_ids.specs.declared.ids.MacroId.{MacroId}
 use Rattle.def_ids.specs.declared.ids.MacroId.TheVariants.{MacroRules, Macro2, ProcMacro}
-use Rattle.def_ids.specs.declared.macro_def.Edition.TheVariants.{Edition2021}
-use Rattle.def_ids.specs.declared.macro_def.MacroDefKind.TheVariants.{Declarative}
-use Rattle.def_ids.specs.Session.{Session, AddsLocations, ItemKind, ItemLoc, MacroLoc, UseItem}
+use Rattle.def_ids.specs.declared.edition.Edition.TheVariants.{Edition2021}
+use Rattle.def_interner.specs.declared.macro_def.MacroDefKind.TheVariants.{Declarative}
+use Rattle.def_interner.specs.Session.{Session, AddsLocations, ItemKind, ItemLoc, MacroLoc, UseItem}
 use Rattle.def_bindings.specs.declared.bindings.Binding.{Binding}
 use Rattle.def_bindings.specs.declared.bindings.ImportOrExternCrate.TheVariants.{Import as ByImport}
 use Rattle.def_bindings.specs.declared.bindings.Namespace.TheVariants.{Types, Values, Macros}

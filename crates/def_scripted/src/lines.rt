@@ -2,7 +2,8 @@
 
 use crate::fault::Fault;
 use def_bindings::{ImportOrExternCrate, Visibility};
-use def_ids::{Def, Interner, MacroId, ModuleId, TraitId};
+use def_ids::{Def, MacroId, ModuleId, TraitId};
+use def_interner::Interner;
 use def_map::{DefMap, ItemScope, PerNs};
 use def_rules::{
     Collected, DefDiagnostic, DefDiagnosticKind, Edge, LeftImport, LeftMacro, LeftMacroKind,

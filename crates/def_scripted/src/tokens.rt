@@ -2,7 +2,7 @@
 
 use crate::fault::ReadFault;
 use crate::reader::Reader;
-use def_ids::Interner;
+use def_interner::Interner;
 use item_tree::Name;
 use std::alloc::AllocError;
 

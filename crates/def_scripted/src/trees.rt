@@ -7,7 +7,7 @@ use crate::kinds::item_kind;
 use crate::paths::visibility;
 use crate::reader::Reader;
 use crate::tokens::{Token, add_tokens};
-use def_ids::Interner;
+use def_interner::Interner;
 use std::alloc::Global;
 
 /// Adds the item that begins here, with its attributes.

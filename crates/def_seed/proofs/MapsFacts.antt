@@ -5,7 +5,7 @@ use Rattle.item_tree.specs.declared.name.Name.{Name}
 use Rattle.def_ids.specs.declared.ids.Def.TheVariants.{Builtin}
 use Rattle.def_ids.specs.declared.ids.MacroId.{MacroId}
 use Rattle.def_ids.specs.declared.ids.MacroId.TheVariants.{MacroRules}
-use Rattle.def_ids.specs.declared.macro_def.Edition.TheVariants.{Edition2018, Edition2021}
+use Rattle.def_ids.specs.declared.edition.Edition.TheVariants.{Edition2018, Edition2021}
 use Rattle.def_bindings.specs.declared.visibility.Visibility.TheVariants.{Public}
 use Rattle.def_modules.specs.declared.module_data.ModuleOrigin.TheVariants.{CrateRoot, Block}
 use Rattle.def_modules.specs.Equality.{file_eq, position_eq}

@@ -4,7 +4,7 @@ use Rattle.item_tree.specs.declared.ids.BlockId.{BlockId}
 use Rattle.item_tree.specs.declared.name.Name.{Name}
 use Rattle.def_ids.specs.declared.ids.MapId.{MapId}
 use Rattle.def_ids.specs.declared.ids.ModuleId.{ModuleId}
-use Rattle.def_ids.specs.declared.macro_def.Edition.{Edition}
+use Rattle.def_ids.specs.declared.edition.Edition.{Edition}
 use Rattle.def_bindings.specs.declared.visibility.Visibility.{Visibility}
 use Rattle.def_bindings.specs.declared.visibility.Visibility.TheVariants.{Public}
 use Rattle.def_bindings.specs.Content.{Content, empty}

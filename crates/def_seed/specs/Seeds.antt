@@ -3,7 +3,7 @@ use Rattle.std.specs.Prelude.{None, Some}
 use Rattle.item_tree.specs.declared.ids.BlockId.{BlockId}
 use Rattle.item_tree.specs.declared.ids.Crate.{Crate}
 use Rattle.def_ids.specs.declared.ids.MapId.{MapId}
-use Rattle.def_ids.specs.declared.macro_def.Edition.{Edition}
+use Rattle.def_ids.specs.declared.edition.Edition.{Edition}
 use Rattle.def_modules.specs.MapState.{MapState}
 use Rattle.def_modules.specs.Maps.{crate_state}
 use Rattle.def_seed.specs.declared.block.BlockData.{BlockData}

@@ -24,7 +24,7 @@ impl BlockData {
     ghost use Rattle.def_seed.specs.Seeds.{block_map_id, block_state};
     ghost use Rattle.def_seed.specs.Fresh.{fresh_state, block_crate};
     ghost use Rattle.def_modules.specs.Maps.{map_state};
-    ghost use Rattle.def_ids.specs.declared.macro_def.Edition.{Edition};
+    ghost use Rattle.def_ids.specs.declared.edition.Edition.{Edition};
 
     /// A block of a map's crate, within these modules, the innermost first. None where two of them
     /// are equal or one is of the block's own map.

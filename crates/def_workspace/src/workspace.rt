@@ -1,7 +1,7 @@
 //! A scripted workspace at work: a session, and the database of its files and crates.
 
 ghost use Rattle.std.specs.Prelude.{◌≡◌, IfOk};
-ghost use Rattle.def_ids.specs.Session.{AddsLocations, session_of};
+ghost use Rattle.def_interner.specs.Session.{AddsLocations, session_of};
 ghost use Rattle.def_database.specs.Database.{answers_of};
 ghost use Rattle.def_laws.specs.Finished.{shown};
 ghost use Rattle.def_rules.specs.Headline.{Answers};
@@ -9,7 +9,8 @@ ghost use Rattle.def_workspace.specs.Workspace.{file_tree, setting};
 
 use def_collector::{Collected, collect_defs};
 use def_database::Database;
-use def_ids::{Interner, VariantId};
+use def_ids::VariantId;
+use def_interner::Interner;
 use def_map::{CallAnswer, CrateData, DefMap, Dependency, EnumVariant};
 use def_scripted::{
     CallText, CrateText, DependencyText, Fault, ReadEnum, ReadFault, ReadFile, Vector, read,

@@ -1,7 +1,7 @@
 //! A database that answers from fields, so that no time goes into its answers.
 ghost use Rattle.defmap_bench.specs.Database.{answers_of};
 
-use def_ids::{BuiltinAttr, EnumLoc};
+use def_locs::{BuiltinAttr, EnumLoc};
 use def_map::{
     AssocItemsOwner, AssocList, AttrCallQuery, CallAnswer, CallQuery, CrateData, DefMap,
     DeriveCallQuery, EnumVariant, LocalDefMap, MacroResolver, SourceDatabase, UnresolvedMacro,

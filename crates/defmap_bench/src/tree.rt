@@ -1,7 +1,7 @@
 //! Item trees of texts.
 
 use crate::text::{Item, Kind, Line, Seen, Taken};
-use def_ids::Interner;
+use def_interner::Interner;
 use item_tree::{
     Attrs, AttrsOrCfg, CtorVisibility, FileAstId, ImportKind, ItemNode, ItemTree, ModContents,
     ModItemId, ModItemKind, ModPath, Name, PathKind, RawVisibility, Seq, UseImport,

@@ -4,7 +4,7 @@ use Rattle.item_tree.specs.declared.ids.Crate.{Crate}
 use Rattle.item_tree.specs.declared.ids.FileId.{FileId}
 use Rattle.item_tree.specs.declared.ids.HirFileId.TheVariants.{File}
 use Rattle.item_tree.specs.declared.ids.TreeId.{TreeId}
-use Rattle.def_ids.specs.declared.macro_def.Edition.TheVariants.{Edition2021}
+use Rattle.def_ids.specs.declared.edition.Edition.TheVariants.{Edition2021}
 use Rattle.def_map.specs.DefMaps.{seeded}
 use Rattle.def_map.specs.Oracle.{Oracle}
 use Rattle.def_rules.specs.State.{Setting}

@@ -1,7 +1,7 @@
 //! Collecting a crate, and what is done with its maps.
 
 ghost use Rattle.std.specs.Prelude.{◌≡◌, IfOk};
-ghost use Rattle.def_ids.specs.Session.{AddsLocations, session_of};
+ghost use Rattle.def_interner.specs.Session.{AddsLocations, session_of};
 ghost use Rattle.def_rules.specs.Headline.{Answers};
 ghost use Rattle.def_laws.specs.Finished.{shown};
 ghost use Rattle.uses.specs.Setting.{file_tree, setting};

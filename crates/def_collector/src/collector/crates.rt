@@ -1,8 +1,8 @@
 //! Extern crates.
 ghost use Rattle.std.specs.Prelude.{◌≡◌, ◌∷◌, [], None, Some, IfOk, OnOk};
 ghost use Rattle.item_tree.specs.declared.items.ModItemKind.TheVariants as kinds;
-ghost use Rattle.def_ids.specs.declared.interner.Interner.{Interner};
-ghost use Rattle.def_ids.specs.Session.{AddsLocations, session_of};
+ghost use Rattle.def_interner.specs.declared.interner.Interner.{Interner};
+ghost use Rattle.def_interner.specs.Session.{AddsLocations, session_of};
 ghost use Rattle.def_map.specs.Oracle.{Oracle};
 ghost use Rattle.def_items.specs.Parts.{site_of};
 ghost use Rattle.def_collector.specs.Collector.{state_of};
@@ -15,8 +15,10 @@ ghost use Rattle.def_rules.specs.State.{reported, with_missing};
 
 use super::DefCollector;
 use def_bindings::{Entry, ImportOrExternCrate, Namespace, Visibility};
-use def_ids::{Def, ExternCrateId, ExternCrateLoc, Interner, Location, MacroId, ModuleId};
+use def_ids::{Def, ExternCrateId, MacroId, ModuleId};
+use def_interner::{Interner, Location};
 use def_items::{Site, is_crate_root, name_crate, report};
+use def_locs::ExternCrateLoc;
 use def_macros::{macros_brought, take_at_root};
 use def_map::SourceDatabase;
 use def_rules::DefDiagnosticKind;

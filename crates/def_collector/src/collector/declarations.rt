@@ -1,8 +1,8 @@
 //! Names that items declare.
 ghost use Rattle.std.specs.Prelude.{◌≡◌, [], false, true, OnOk};
 ghost use Rattle.item_tree.specs.declared.items.ModItemKind.TheVariants as kinds;
-ghost use Rattle.def_ids.specs.declared.interner.Interner.{Interner};
-ghost use Rattle.def_ids.specs.Session.{AddsLocations, session_of};
+ghost use Rattle.def_interner.specs.declared.interner.Interner.{Interner};
+ghost use Rattle.def_interner.specs.Session.{AddsLocations, session_of};
 ghost use Rattle.def_items.specs.Parts.{site_of};
 ghost use Rattle.def_collector.specs.Collector.{state_of};
 ghost use Rattle.def_items.specs.Numbered.{is_declaring};
@@ -11,8 +11,10 @@ ghost use Rattle.def_rules.specs.Items.{declared_effect, written_vis};
 
 use super::DefCollector;
 use def_bindings::{Entry, Visibility};
-use def_ids::{Def, Interner, Location, ModuleId, StructLoc};
+use def_ids::{Def, ModuleId};
+use def_interner::{Interner, Location};
 use def_items::{Declaration, Declared, Definition, Site, define, define_struct, number_item, put};
+use def_locs::StructLoc;
 use def_map::SourceDatabase;
 use item_tree::{CtorVisibility, ItemNode, Name, RawVisibility};
 use std::alloc::AllocError;

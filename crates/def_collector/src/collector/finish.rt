@@ -1,7 +1,7 @@
 //! The end of a run: what is left over is marked, answered and reported.
 ghost use Rattle.std.specs.Prelude.{◌≡◌, ◌++◌, map, IfOk};
 ghost use Rattle.std.specs.List.{flat_map};
-ghost use Rattle.def_ids.specs.declared.interner.Interner.{Interner};
+ghost use Rattle.def_interner.specs.declared.interner.Interner.{Interner};
 ghost use Rattle.def_crates.specs.Missing.{missing_in};
 ghost use Rattle.def_modules.specs.Maps.{map_state};
 ghost use Rattle.def_collector.specs.Collector.{state_of};

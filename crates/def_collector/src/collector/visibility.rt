@@ -8,7 +8,8 @@ ghost use Rattle.def_map.specs.Asking.{world_lent};
 
 use super::DefCollector;
 use def_bindings::{VisOrder, Visibility};
-use def_ids::{Interner, ModuleId};
+use def_ids::ModuleId;
+use def_interner::Interner;
 use def_items::meant_or_public;
 use def_map::{SourceDatabase, Table, World, resolve_visibility};
 use item_tree::{CtorVisibility, RawVisibility};

@@ -2,7 +2,7 @@
 #![tactic(auto)]
 
 use crate::tests::rows::{Row, expect_rows};
-use def_ids::Interner;
+use def_interner::Interner;
 use def_workspace::{ALONE, Fault, ReadFault, Vector, read};
 use item_tree::{FileAstId, ItemTree, ModItemKind, PathKind};
 use std::alloc::{AllocError, Global};

@@ -1,6 +1,7 @@
 //! The examples of the library's use, at work.
 
-use def_ids::{Def, Interner, StructId};
+use def_ids::{Def, StructId};
+use def_interner::Interner;
 use def_workspace::Collected;
 use item_tree::Name;
 use std::process::Abort;

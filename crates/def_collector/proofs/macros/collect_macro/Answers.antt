@@ -1,4 +1,4 @@
-use Rattle.def_ids.specs.Session.{session_of}
+use Rattle.def_interner.specs.Session.{session_of}
 use Rattle.def_items.specs.Parts.{site_of}
 use Rattle.def_collector.specs.Collector.{state_of}
 use Rattle.def_rules.specs.State.{State}

@@ -1,6 +1,6 @@
 use Rattle.std.proofs.Common.{ap, map as map_of, option_map, ◌∙◌}
 use Rattle.def_calls.specs.Shown.{macro_directive_of}
-use Rattle.def_ids.specs.Session.{session_of}
+use Rattle.def_interner.specs.Session.{session_of}
 use Rattle.def_modules.specs.Locals.{local_view}
 use Rattle.def_modules.specs.Tables.{bound_by}
 use Rattle.def_collector.specs.Setting.{setting_of}

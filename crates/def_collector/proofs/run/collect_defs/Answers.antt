@@ -1,5 +1,5 @@
 use Rattle.std.proofs.Common.{option_map, refl}
-use Rattle.def_ids.specs.Session.{session_of}
+use Rattle.def_interner.specs.Session.{session_of}
 use Rattle.def_map.specs.DefMaps as whole
 use Rattle.def_modules.specs.Locals.{local_view}
 use Rattle.def_laws.specs.Finished.{shown}

@@ -1,6 +1,6 @@
 use Rattle.std.proofs.Common.{None, Some, subst, arith}
-use Rattle.def_ids.specs.Session.{session_of}
-use Rattle.def_ids.specs.SessionLaws.{adds_refl, adds_trans}
+use Rattle.def_interner.specs.Session.{session_of}
+use Rattle.def_interner.specs.SessionLaws.{adds_refl, adds_trans}
 use Rattle.def_laws.proofs.StepsLaws.{leads_refl, leads_trans}
 use Rattle.def_collector.specs.Collector.{state_of}
 use Rattle.def_collector.specs.Walk.{AreKnown}

@@ -1,5 +1,5 @@
 use Rattle.std.proofs.Common.{◌≤◌, ◌++◌, List, length}
-use Rattle.def_ids.specs.Session.{AddsLocations, session_of}
+use Rattle.def_interner.specs.Session.{AddsLocations, session_of}
 use Rattle.def_collector.specs.Collector.{state_of}
 use Rattle.def_collector.specs.Walk.{frame_tasks, is_frame_known}
 use Rattle.def_items.specs.Lists.{left_of}

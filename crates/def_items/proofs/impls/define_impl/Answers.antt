@@ -1,5 +1,5 @@
 use Rattle.std.proofs.Common.{ap}
-use Rattle.def_ids.specs.Session.{session_of}
+use Rattle.def_interner.specs.Session.{session_of}
 use Rattle.def_items.specs.Parts.{site_of, with_session}
 use Rattle.def_items.proofs.ItemsLemmas.{handled_impl}
 use Rattle.def_items.proofs.impls.define_impl.Goals as goal

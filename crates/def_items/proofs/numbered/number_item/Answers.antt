@@ -1,7 +1,7 @@
 use Rattle.std.proofs.Common.{Some, ap, refl, ◌∙◌}
 use Rattle.def_ids.specs.declared.ids.Def.TheVariants as def
 use Rattle.def_ids.specs.declared.ids.ItemContainerId.TheVariants as contained
-use Rattle.def_ids.specs.Session.{EnumItem, TraitItem, TypeAliasItem, UnionItem, in_container}
+use Rattle.def_interner.specs.Session.{EnumItem, TraitItem, TypeAliasItem, UnionItem, in_container}
 use Rattle.def_rules.specs.Rules.{rule_of}
 use Rattle.def_items.proofs.numbered.number_item.Goals as goal
 

@@ -1,7 +1,7 @@
 use Rattle.std.proofs.Common.{Some, ap, refl, ◌∙◌}
 use Rattle.def_ids.specs.declared.ids.Def.TheVariants as def
 use Rattle.item_tree.specs.declared.items.ModItemKind.TheVariants.{Const}
-use Rattle.def_ids.specs.Session.{ConstItem, FunctionItem, StaticItem, in_container}
+use Rattle.def_interner.specs.Session.{ConstItem, FunctionItem, StaticItem, in_container}
 use Rattle.def_rules.specs.Rules.{rule_of}
 use Rattle.def_items.proofs.numbered.number_value.Goals as goal
 

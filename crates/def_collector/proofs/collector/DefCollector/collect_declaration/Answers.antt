@@ -1,5 +1,5 @@
 use Rattle.std.proofs.Common.{◌≡◌, ◌∙◌, ap, false, subst, sym, true}
-use Rattle.def_ids.specs.Session.{session_of}
+use Rattle.def_interner.specs.Session.{session_of}
 use Rattle.def_items.specs.Numbered.{IsDeclared, is_declaring}
 use Rattle.def_items.specs.Parts.{site_of}
 use Rattle.def_collector.specs.Collector.{state_of}

@@ -1,6 +1,0 @@
-use Rattle.std.proofs.Common.{arith}
-use Rattle.def_ids.proofs.SessionLemmas.{injective_from_tables}
-use Rattle.def_ids.proofs.interner.Interner.has_unique_ids.Goals as goal
-
-pub returns : goal.returns
-returns c = grind (arith, injective_from_tables)

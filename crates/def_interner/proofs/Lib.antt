@@ -1,0 +1,5 @@
+mod MacroKindsFacts
+mod NumberingLemmas
+mod SessionFacts
+mod SessionLemmas
+mod TableLemmas

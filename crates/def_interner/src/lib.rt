@@ -1,0 +1,14 @@
+//! The session, which gives locations their ids, and what it knows of macros.
+#![tactic(auto)]
+
+mod exact;
+mod interner;
+mod location;
+mod macro_def;
+mod numbering;
+
+pub use exact::Exact;
+pub use interner::Interner;
+pub use location::{Location, LocationId};
+pub use macro_def::{MacroDefId, MacroDefKind};
+pub use numbering::Numbering;
