@@ -1,6 +1,6 @@
 -- Elements that are gathered one by one.
 use Rattle.std.proofs.Common.{◌≡◌, ◌+◌, ◌<◌, ℕ, zero, suc, map, take, drop, length, List, [], ◌∷◌, ◌++◌, Some, None, refl, sym, ap, ◌∙◌, append-nil, append_assoc, add-one}
-use Rattle.std.specs.Prelude.{slice_get}
+use Rattle.std.specs.Prelude.{slice_get, Option, Result, Ok, Err, OnOk}
 use Rattle.std.specs.List.{flat_map}
 use Rattle.std.proofs.lemmas.List.{map-append}
 use Rattle.std.proofs.lemmas.Option.{slice_get_within}
@@ -64,3 +64,16 @@ taken_more f list list' xs i x y so_far at same more =
     ∙ ap (λ z. take i xs ++ z ∷ []) same
     ∙ sym (take_at xs i y at)
     ∙ ap (λ n. take n xs) (sym (add-one i))
+
+-- what three calls gathered, the last of which may fail
+module _ {K X Y : Type 0} (f : K → Option X → List Y) (found : K → Option X) where
+  pub gathered_thrice : {T E : Type 0} (r : Result T E) (acc first second third : List Y) (a b c : K) (x y z : Option X) → x ≡ found a → y ≡ found b → z ≡ found c → first ≡ acc ++ f a x → second ≡ first ++ f b y → OnOk r (third ≡ second ++ f c z) → OnOk r (third ≡ acc ++ (f a (found a) ++ (f b (found b) ++ f c (found c))))
+  gathered_thrice (Err e) acc first second third a b c x y z at_a at_b at_c one two three = three
+  gathered_thrice (Ok v) acc first second third a b c x y z at_a at_b at_c one two three =
+      three
+      ∙ ap (λ l. l ++ f c z) (two ∙ ap (λ l. l ++ f b y) one)
+      ∙ append_assoc (acc ++ f a x) (f b y) (f c z)
+      ∙ append_assoc acc (f a x) (f b y ++ f c z)
+      ∙ ap (λ v. acc ++ (f a v ++ (f b y ++ f c z))) at_a
+      ∙ ap (λ v. acc ++ (f a (found a) ++ (f b v ++ f c z))) at_b
+      ∙ ap (λ v. acc ++ (f a (found a) ++ (f b (found b) ++ f c v))) at_c

@@ -5,6 +5,7 @@ ghost use Rattle.def_bindings.specs.ModuleTree.{chain_in};
 ghost use Rattle.def_bindings.specs.Visibility.{order_over};
 ghost use Rattle.def_map.specs.Answers.{variant_found};
 ghost use Rattle.def_map.specs.PerNs.{kept};
+ghost use Rattle.def_modules.specs.Tables.{bound_by};
 ghost use Rattle.def_rules.specs.Globs.{brought, glob_sees, name_entries, scope_entries, unnamed_entry, variant_entries};
 
 use crate::directive::is_public;
@@ -13,15 +14,15 @@ use def_bindings::{
     lesser_or_import,
 };
 use def_ids::{Def, ModuleId, TraitId};
-use def_map::{EnumVariant, Item, public_item};
+use def_map::{EnumVariant, Item, Table, public_item};
 use item_tree::Name;
 use std::alloc::{AllocError, Global};
 
 /// A module as a glob sees it: of its own crate what its importer sees, of another crate what is
 /// public.
 #[derive(Drop)]
-pub struct GlobScope<'a, T> {
-    pub table: &'a T,
+pub struct GlobScope<'a> {
+    pub table: &'a Table,
     pub order: &'a ModuleTree,
     pub glob: EdgeTo<Visibility>,
     /// Whether the module is of the importer's crate.
@@ -29,7 +30,7 @@ pub struct GlobScope<'a, T> {
     pub source: ModuleId,
 }
 
-impl<'a, T: BindingTable<Vis = Visibility>> GlobScope<'a, T> {
+impl<'a> GlobScope<'a> {
     /// Whether the glob sees this visibility.
     fn sees(&self, vis: Visibility) -> bool
         ensures { result ≡ glob_sees (order_over (chain_in self.now.order.now)) self.now.own self.now.glob.importer vis }
@@ -66,7 +67,7 @@ impl<'a, T: BindingTable<Vis = Visibility>> GlobScope<'a, T> {
     /// Appends the entries of a name, in types, values and macros.
     fn push_name(&self, entries: &mut Vec<Entry<Visibility>>, name: Name) -> Result<(), AllocError>
         ensures { OnOk result (entries.new.items ≡ entries.old.items
-            ++ name_entries (order_over (chain_in self.now.order.now)) self.now.glob self.now.own (T.content self.now.table.now) self.now.source name) }
+            ++ name_entries (order_over (chain_in self.now.order.now)) self.now.glob self.now.own (bound_by self.now.table.now) self.now.source name) }
     {
         let found = self.table.bindings(self.source, name);
         self.push_seen(entries, name, Namespace::Types, found.types.as_ref())?;
@@ -99,7 +100,7 @@ impl<'a, T: BindingTable<Vis = Visibility>> GlobScope<'a, T> {
 
     /// Appends the entries of all names, in first-bound order.
     fn push_names(&self, entries: &mut Vec<Entry<Visibility>>) -> Result<(), AllocError>
-        ensures { OnOk result (let content = T.content self.now.table.now in
+        ensures { OnOk result (let content = bound_by self.now.table.now in
             entries.new.items ≡ entries.old.items
             ++ flat_map (name_entries (order_over (chain_in self.now.order.now)) self.now.glob self.now.own content self.now.source) (content.names self.now.source)) }
     {
@@ -114,7 +115,7 @@ impl<'a, T: BindingTable<Vis = Visibility>> GlobScope<'a, T> {
     /// Appends the entries of all unnamed traits, in order.
     fn push_unnamed_traits(&self, entries: &mut Vec<Entry<Visibility>>) -> Result<(), AllocError>
         ensures { OnOk result (entries.new.items ≡ entries.old.items
-            ++ flat_map (unnamed_entry (order_over (chain_in self.now.order.now)) self.now.glob self.now.own) ((T.content self.now.table.now).unnamed self.now.source)) }
+            ++ flat_map (unnamed_entry (order_over (chain_in self.now.order.now)) self.now.glob self.now.own) ((bound_by self.now.table.now).unnamed self.now.source)) }
     {
         let mut index = 0;
         'unnamed: while let Some((item, vis)) = self.table.unnamed_at(self.source, index) {
@@ -127,7 +128,7 @@ impl<'a, T: BindingTable<Vis = Visibility>> GlobScope<'a, T> {
     /// The entries of all that the module binds and the glob sees.
     pub fn entries(&self, alloc: Global) -> Result<Vec<Entry<Visibility>>, AllocError>
         ensures { IfOk result (λ entries. entries.items
-            ≡ scope_entries (order_over (chain_in self.now.order.now)) self.now.glob self.now.own (T.content self.now.table.now) self.now.source) }
+            ≡ scope_entries (order_over (chain_in self.now.order.now)) self.now.glob self.now.own (bound_by self.now.table.now) self.now.source) }
     {
         let mut entries = Vec::new(alloc);
         self.push_names(&mut entries)?;
