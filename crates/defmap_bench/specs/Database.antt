@@ -1,13 +1,30 @@
 -- What the database of one file answers.
-use Rattle.std.specs.Prelude.{false, [], Some, None, Err}
+use Rattle.std.specs.Prelude.{false, List, [], ◌∷◌, Option, Some, None, Result, Ok, Err, slice_get}
+use Rattle.item_tree.specs.declared.ids.HirFileId.{HirFileId}
+use Rattle.item_tree.specs.declared.ids.HirFileId.TheVariants.{File, Macro}
+use Rattle.item_tree.specs.declared.tree.ItemTree.{ItemTree}
+use Rattle.def_interner.specs.declared.macro_def.MacroDefId.{MacroDefId}
 use Rattle.def_map.specs.Oracle.{Oracle}
+use Rattle.def_map.specs.Queries.{PlainCall}
+use Rattle.def_oracle.specs.declared.source_database.CallAnswer.{CallAnswer}
+use Rattle.def_oracle.specs.declared.source_database.UnresolvedMacro.{UnresolvedMacro}
 use Rattle.defmap_bench.specs.declared.database.OneFile.{OneFile}
+
+-- the items of a file: those of the one file, or what a call gives
+abbrev pub tree_in : OneFile → HirFileId → Option ItemTree
+tree_in one (File file) = Some one.tree
+tree_in one (Macro call) = slice_get one.expansions.items call.0
+
+-- a call whose macro is found has the number of its item
+abbrev pub call_answer : PlainCall → List (Option MacroDefId) → Result CallAnswer UnresolvedMacro
+call_answer query (Some found ∷ _) = Ok (record { value = Some (record { 0 = query.position.value.0 }); err = None; inner = [] })
+call_answer query _ = Err (record { path = query.path })
 
 -- all answers: each question is about the one file and the one crate
 abbrev pub answers_of : OneFile → Oracle
 answers_of one =
     record {
-      item_tree = λ id. Some one.tree;
+      item_tree = λ id. tree_in one id.file;
       crate_data = λ krate. Some one.krate;
       crate_def_map = λ krate. None;
       outer_map = λ block. None;
@@ -15,8 +32,8 @@ answers_of one =
       resolve_path = λ anchor path. None;
       original_file = λ file. record { 0 = 0 };
       expansion_depth = λ file. 0;
-      asked_paths = λ query. [];
-      macro_call = λ query found. Err (record { path = query.path });
+      asked_paths = λ query. query.path ∷ [];
+      macro_call = call_answer;
       make_attr_call = λ query. record { 0 = 0 };
       make_derive_call = λ query. record { 0 = 0 };
       is_include = λ call. false;

@@ -24,7 +24,7 @@ pub struct Asked {
 }
 
 /// What each word asks for.
-static WORDS: [(&str, Subject); 10] = [
+static WORDS: [(&str, Subject); 12] = [
     ("all", Subject::All),
     ("items", Subject::One(Shape::Items)),
     ("imports", Subject::One(Shape::Imports)),
@@ -32,6 +32,8 @@ static WORDS: [(&str, Subject); 10] = [
     ("chain", Subject::One(Shape::Chain)),
     ("real", Subject::One(Shape::RealCode)),
     ("passes", Subject::One(Shape::OneEachPass)),
+    ("calls", Subject::One(Shape::Calls)),
+    ("call-chain", Subject::One(Shape::CallChain)),
     ("trees", Subject::Trees),
     ("tables", Subject::Tables),
     ("globs", Subject::Globs),

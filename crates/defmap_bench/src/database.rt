@@ -9,23 +9,28 @@ use def_map::{
 use either::Either;
 use item_tree::{
     BlockId, Crate, FileAstId, FileId, HirFileId, InFile, ItemTree, MacroCallId, MacroCallStyles,
-    Name, TreeId,
+    Name, Seq, TreeId,
 };
 use std::alloc::{AllocError, Global};
 
-/// One crate in one file. Each question about a file or a crate is about these, and there are no
-/// macros.
+/// One crate in one file. Each question about a file or a crate is about these. The number of a
+/// macro call is that of its item, so calls stand in the file alone.
 #[derive(Drop)]
 pub struct OneFile {
     pub tree: ItemTree,
     pub krate: CrateData,
+    /// What calls give, by their numbers.
+    pub expansions: Vec<ItemTree>,
 }
 
 impl SourceDatabase for OneFile {
     ghost oracle = { answers_of };
 
-    fn item_tree(&self, _id: TreeId) -> Option<&ItemTree> {
-        Some(&self.tree)
+    fn item_tree(&self, id: TreeId) -> Option<&ItemTree> {
+        match id.file {
+            HirFileId::File(_) => Some(&self.tree),
+            HirFileId::Macro(call) => self.expansions.get(call.0),
+        }
     }
 
     fn crate_data(&self, _krate: Crate) -> Option<&CrateData> {
@@ -58,13 +63,20 @@ impl SourceDatabase for OneFile {
 
     fn macro_call<R: MacroResolver>(
         &self,
-        _alloc: Global,
+        alloc: Global,
         query: CallQuery<'_>,
-        _resolver: &R,
+        resolver: &R,
     ) -> Result<Result<CallAnswer, UnresolvedMacro>, AllocError> {
-        Ok(Err(UnresolvedMacro {
-            path: query.path.clone()?,
-        }))
+        match resolver.resolve(query.path) {
+            Some(_) => Ok(Ok(CallAnswer {
+                value: Some(MacroCallId(query.position.value.0)),
+                err: None,
+                inner: Seq::from_vec(Vec::new(alloc)),
+            })),
+            None => Ok(Err(UnresolvedMacro {
+                path: query.path.clone()?,
+            })),
+        }
     }
 
     fn make_attr_call(&self, _query: AttrCallQuery<'_>) -> MacroCallId {

@@ -4,8 +4,8 @@ ghost use Rattle.std.specs.Prelude.{◌≡◌, None};
 use crate::database::OneFile;
 use crate::figures::{Figures, lesser, print_head, print_line};
 use crate::places::{Place, places_of, time_places};
-use crate::shape::{Plan, Shape, lines_of};
-use crate::tree::{named_nodes, tree_of};
+use crate::shape::{Plan, Shape, given_lines, lines_of};
+use crate::tree::{named_tree, trees_of};
 use def_collector::{Collected, collect_defs};
 use def_ids::Edition;
 use def_interner::Interner;
@@ -61,10 +61,11 @@ fn crate_data(alloc: Global) -> CrateData {
 /// A database of these lines, and how many items they are.
 fn database(alloc: Global, session: &mut Interner, plan: Plan) -> io::Result<(usize, OneFile)> {
     let lines = lines_of(alloc, plan)?;
-    let nodes = named_nodes(alloc, session, lines.as_slice())?;
+    let given = given_lines(alloc, plan)?;
     let db = OneFile {
-        tree: tree_of(nodes)?,
+        tree: named_tree(alloc, session, lines.as_slice())?,
         krate: crate_data(alloc),
+        expansions: trees_of(alloc, session, given.as_slice())?,
     };
     Ok((lines.len(), db))
 }
@@ -83,10 +84,13 @@ fn collect(alloc: Global, written: &mut Written) -> Result<Collected, AllocError
     collect_defs(alloc, db, &mut written.session, seeded, root_tree(), None)
 }
 
-/// The places that a run bound, if it left no import over.
+/// The places that a run bound, if it left no import and no call over.
 fn places_in(alloc: Global, collected: &Collected) -> io::Result<Vec<Place>> {
     if !collected.outcome.imports.is_empty() {
         return Err(io::Error::other("an import is left over"));
+    }
+    if !collected.outcome.macros.is_empty() {
+        return Err(io::Error::other("a call is left over"));
     }
     Ok(places_of(alloc, &collected.def_map)?)
 }

@@ -50,7 +50,7 @@ fn add_name(
     Ok(())
 }
 
-/// Adds what a module binds, in first-bound order.
+/// Adds what a module binds, in first-bound order, and then its textual macros.
 fn add_scope(
     places: &mut Vec<Place>,
     at: ModuleId,
@@ -59,10 +59,14 @@ fn add_scope(
     for (name, bound) in scope.resolutions() {
         add_name(places, at, name, &bound)?;
     }
+    for name in scope.legacy_macros().keys() {
+        let (name, ns) = (*name, Namespace::Macros);
+        places.push(Place { at, name, ns })?;
+    }
     Ok(())
 }
 
-/// All places that a map binds, module by module.
+/// All places that a map binds, those of textual macros among them, module by module.
 pub fn places_of(alloc: Global, map: &DefMap) -> Result<Vec<Place>, AllocError> {
     let mut places = Vec::new(alloc);
     for index in 0..map.modules().len() {

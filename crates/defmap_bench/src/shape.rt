@@ -2,7 +2,7 @@
 
 use crate::random::Random;
 use crate::text::{
-    Item, Kind, Line, Seen, Taken, import_line, item_line, module_line, struct_line,
+    Item, Kind, Line, Seen, Taken, import_line, item_line, module_line, root_line, struct_line,
 };
 use std::alloc::{AllocError, Global};
 
@@ -22,6 +22,10 @@ pub enum Shape {
     /// Modules that each import a name of the next one by its path through that, so that a pass
     /// over all imports resolves one.
     OneEachPass,
+    /// Calls of one macro, each of which gives a struct.
+    Calls,
+    /// Calls in a row, each of which gives the macro of the next one.
+    CallChain,
     /// Modules in one another with structs around them, always the same, and no imports: a text
     /// for trees alone.
     Nested,
@@ -96,6 +100,8 @@ impl Shape {
             Shape::OneEachPass => {
                 "one import each pass, half as many as items: quadratic, so only small sizes"
             }
+            Shape::Calls => "calls of one macro, each of which gives a struct",
+            Shape::CallChain => "a chain of calls: each gives the macro of the next one",
             Shape::Nested => "modules in one another with structs around them",
         }
     }
@@ -125,6 +131,7 @@ fn length(plan: Plan) -> usize {
         Shape::Items | Shape::Nested => plan.size,
         Shape::Imports => half + 1 + half / USER_LINES * USER_LINES,
         Shape::RealCode => plan.size / REAL_LINES * REAL_LINES,
+        Shape::Calls | Shape::CallChain => plan.size.saturating_add(1),
         _ => half.saturating_mul(2).saturating_add(SOURCE_LINES),
     }
 }
@@ -308,6 +315,27 @@ fn real_line(random: &mut Random, modules: usize, place: usize) -> Line {
     }
 }
 
+/// A macro, and calls that find the macro of this number.
+fn call_line(place: usize, called: usize) -> Line {
+    match place {
+        0 => root_line(Item::Macro(0)),
+        _ => root_line(Item::Call(called)),
+    }
+}
+
+/// What the call on the line at a place gives. Where no calls are written, there is nothing.
+fn given_at(shape: Shape, place: usize) -> Option<Item> {
+    match shape {
+        Shape::Calls => Some(Item::Plain {
+            number: place,
+            kind: Kind::Struct,
+            seen: Seen::Everywhere,
+        }),
+        Shape::CallChain => Some(Item::Macro(place)),
+        _ => None,
+    }
+}
+
 /// The line at a place, after a line that leaves so many modules open.
 fn line_at(plan: Plan, random: &mut Random, open: usize, place: usize) -> Line {
     match plan.shape {
@@ -317,6 +345,8 @@ fn line_at(plan: Plan, random: &mut Random, open: usize, place: usize) -> Line {
         Shape::Chain => chain_line(place),
         Shape::RealCode => real_line(random, plan.size / REAL_LINES, place),
         Shape::OneEachPass => passes_line(plan.size / 2, place),
+        Shape::Calls => call_line(place, 0),
+        Shape::CallChain => call_line(place, place.saturating_sub(1)),
         Shape::Nested => pattern_line(place),
     }
 }
@@ -330,6 +360,17 @@ pub fn lines_of(alloc: Global, plan: Plan) -> Result<Vec<Line>, AllocError> {
         let line = line_at(plan, &mut random, open, place);
         open = depth_after(line);
         lines.push(line)?;
+    }
+    Ok(lines)
+}
+
+/// What the calls of a crate give: a line for each line of its text, if it has calls.
+pub fn given_lines(alloc: Global, plan: Plan) -> Result<Vec<Line>, AllocError> {
+    let mut lines = Vec::new(alloc);
+    for place in 0..length(plan) {
+        if let Some(item) = given_at(plan.shape, place) {
+            lines.push(root_line(item))?;
+        }
     }
     Ok(lines)
 }

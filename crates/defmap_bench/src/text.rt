@@ -51,6 +51,10 @@ pub enum Item {
         taken: Taken,
         seen: Seen,
     },
+    /// A `macro_rules!`.
+    Macro(usize),
+    /// A call of the macro of this number.
+    Call(usize),
 }
 
 /// A line of a text: in how many modules it stands, and what stands on it. The lines of a module's
@@ -61,12 +65,14 @@ pub struct Line {
     pub item: Item,
 }
 
+/// An item in the crate's root.
+pub fn root_line(item: Item) -> Line {
+    Line { depth: 0, item }
+}
+
 /// A module in the crate's root.
 pub fn module_line(number: usize) -> Line {
-    Line {
-        depth: 0,
-        item: Item::Module(number),
-    }
+    root_line(Item::Module(number))
 }
 
 /// An item of a module in the crate's root.

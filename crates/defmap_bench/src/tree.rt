@@ -3,8 +3,9 @@
 use crate::text::{Item, Kind, Line, Seen, Taken};
 use def_interner::Interner;
 use item_tree::{
-    Attrs, AttrsOrCfg, CtorVisibility, FileAstId, ImportKind, ItemNode, ItemTree, ModContents,
-    ModItemId, ModItemKind, ModPath, Name, PathKind, RawVisibility, Seq, UseImport,
+    Attrs, AttrsOrCfg, CtorVisibility, ExpandTo, FileAstId, ImportKind, ItemNode, ItemTree,
+    ModContents, ModItemId, ModItemKind, ModPath, Name, PathKind, RawVisibility, Seq,
+    SyntaxContext, UseImport,
 };
 use std::alloc::{AllocError, Global};
 use std::io;
@@ -18,15 +19,15 @@ pub struct Nodes {
     attrs: AttrsOrCfg,
 }
 
-/// The names on a line: that of the item, or of the module that something is taken of, and of the
-/// item that is taken.
+/// The names on a line: that of the item, of the macro that is called, or of the module that
+/// something is taken of, and of the item that is taken.
 #[derive(Clone, Copy)]
 struct Names {
     own: Name,
     taken: Option<Name>,
 }
 
-/// The name of a number, under a letter that tells modules from other items.
+/// The name of a number, under a letter that tells modules and macros from other items.
 fn name_of(
     alloc: Global,
     session: &mut Interner,
@@ -41,9 +42,10 @@ fn name_of(
 fn own_name(alloc: Global, session: &mut Interner, item: Item) -> Result<Name, AllocError> {
     match item {
         Item::Plain { number, .. } => name_of(alloc, session, "i", number),
-        Item::Module(number) | Item::Import { module: number, .. } => {
-            name_of(alloc, session, "m", number)
-        }
+        Item::Module(number)
+        | Item::Import { module: number, .. }
+        | Item::Macro(number)
+        | Item::Call(number) => name_of(alloc, session, "m", number),
     }
 }
 
@@ -141,17 +143,14 @@ fn module_kind(
     })
 }
 
-/// The path `crate::..` of what an import takes.
-fn path_of(alloc: Global, names: Names) -> Result<ModPath, AllocError> {
+/// The path of what an import takes, or of a macro.
+fn path_of(alloc: Global, kind: PathKind, names: Names) -> Result<ModPath, AllocError> {
     let mut segments = Seq::from_vec(Vec::new(alloc));
     segments.push(names.own)?;
     if let Some(item) = names.taken {
         segments.push(item)?;
     }
-    Ok(ModPath {
-        kind: PathKind::Crate,
-        segments,
-    })
+    Ok(ModPath { kind, segments })
 }
 
 /// The kind of an import: a glob has no name but the module's.
@@ -164,7 +163,7 @@ fn import_kind(names: Names) -> ImportKind {
 
 /// The list of one import.
 fn one_import(alloc: Global, names: Names) -> Result<Seq<UseImport>, AllocError> {
-    let path = path_of(alloc, names)?;
+    let path = path_of(alloc, PathKind::Crate, names)?;
     let mut imports = Seq::from_vec(Vec::new(alloc));
     imports.push(UseImport {
         idx: 0,
@@ -192,6 +191,12 @@ fn kind_of(
         Item::Import { seen, .. } => Ok(ModItemKind::Use {
             imports: one_import(alloc, names)?,
             visibility: visibility(seen),
+        }),
+        Item::Macro(_) => Ok(ModItemKind::MacroRules { name: names.own }),
+        Item::Call(_) => Ok(ModItemKind::MacroCall {
+            path: path_of(alloc, PathKind::Plain, names)?,
+            expand_to: ExpandTo::Items,
+            ctxt: SyntaxContext(0),
         }),
     }
 }
@@ -257,15 +262,6 @@ pub fn numbered_nodes(alloc: Global, lines: &[Line]) -> Result<Nodes, AllocError
     in_file(alloc, lines, numbered_items(alloc, lines)?)
 }
 
-/// What the tree of a text is made of, under names of a session.
-pub fn named_nodes(
-    alloc: Global,
-    session: &mut Interner,
-    lines: &[Line],
-) -> Result<Nodes, AllocError> {
-    in_file(alloc, lines, named_items(alloc, session, lines)?)
-}
-
 /// The tree of these items.
 pub fn tree_of(nodes: Nodes) -> io::Result<ItemTree> {
     let Nodes { items, top, attrs } = nodes;
@@ -273,4 +269,22 @@ pub fn tree_of(nodes: Nodes) -> io::Result<ItemTree> {
         Ok(tree) => Ok(tree),
         Err(_) => Err(io::Error::other("the items are no tree")),
     }
+}
+
+/// The tree of a text, under names of a session.
+pub fn named_tree(alloc: Global, session: &mut Interner, lines: &[Line]) -> io::Result<ItemTree> {
+    tree_of(in_file(alloc, lines, named_items(alloc, session, lines)?)?)
+}
+
+/// The trees of these lines, each of which is a text of its own.
+pub fn trees_of(
+    alloc: Global,
+    session: &mut Interner,
+    lines: &[Line],
+) -> io::Result<Vec<ItemTree>> {
+    let mut trees = Vec::new(alloc);
+    for line in lines.chunks(1) {
+        trees.push(named_tree(alloc, session, line)?)?;
+    }
+    Ok(trees)
 }
