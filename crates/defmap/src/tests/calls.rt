@@ -1,9 +1,9 @@
 //! Macro calls among items.
 #![tactic(auto)]
 
-use crate::tests::rows::{Row, expect_rows};
-use def_ids::{Edition, Macro2Id, MacroId, MacroRulesId};
-use def_workspace::{ALONE, CALL, CallText, CrateText, DependencyText, Fault, Vector};
+use crate::tests::rows::{OVER_D, Row, expect_rows};
+use def_ids::{Macro2Id, MacroId, MacroRulesId};
+use def_workspace::{ALONE, CALL, CallText, Fault, Vector};
 use item_tree::{HirFileId, MacroCallId};
 
 /// The second macro by rules.
@@ -17,27 +17,6 @@ const GIVES_A: CallText = CallText {
     gives: "pub struct A;",
     ..CALL
 };
-
-/// Crate 1 on its own, and crate 0 over it under the name `d`.
-const OVER_D: &[CrateText] = &[
-    CrateText {
-        krate: 1,
-        edition: Edition::Edition2021,
-        root_file: 1,
-        deps: &[],
-    },
-    CrateText {
-        krate: 0,
-        edition: Edition::Edition2021,
-        root_file: 0,
-        deps: &[DependencyText {
-            name: "d",
-            krate: 1,
-            prelude: true,
-            sysroot: false,
-        }],
-    },
-];
 
 /// A crate with an exported macro.
 const EXPORTS: &str = "#[macro_export] macro_rules! m {}";

@@ -1,31 +1,10 @@
 //! Extern crates.
 #![tactic(auto)]
 
-use crate::tests::rows::{Row, expect_rows, expect_vectors};
+use crate::tests::rows::{OVER_D, Row, expect_rows, expect_vectors};
 use def_ids::Edition;
 use def_map::DefMap;
 use def_workspace::{ALONE, CrateText, DependencyText, Fault, Vector, Workspace};
-
-/// Crate 1 on its own, and crate 0 over it under the name `d`, which paths may not begin with.
-const OVER_D: &[CrateText] = &[
-    CrateText {
-        krate: 1,
-        edition: Edition::Edition2021,
-        root_file: 1,
-        deps: &[],
-    },
-    CrateText {
-        krate: 0,
-        edition: Edition::Edition2021,
-        root_file: 0,
-        deps: &[DependencyText {
-            name: "d",
-            krate: 1,
-            prelude: false,
-            sysroot: false,
-        }],
-    },
-];
 
 /// Crates 1 and 2 on their own, and crate 0 over both under one name.
 const OVER_TWO: &[CrateText] = &[

@@ -1,30 +1,8 @@
 //! Items that define macros, and macros that are handed on.
 #![tactic(auto)]
 
-use crate::tests::rows::{Row, expect_rows, expect_vectors};
-use def_ids::Edition;
-use def_workspace::{ALONE, CrateText, DependencyText, Fault, Vector};
-
-/// Crate 1 on its own, and crate 0 over it under the name `d`, which paths may not begin with.
-const OVER_D: &[CrateText] = &[
-    CrateText {
-        krate: 1,
-        edition: Edition::Edition2021,
-        root_file: 1,
-        deps: &[],
-    },
-    CrateText {
-        krate: 0,
-        edition: Edition::Edition2021,
-        root_file: 0,
-        deps: &[DependencyText {
-            name: "d",
-            krate: 1,
-            prelude: false,
-            sysroot: false,
-        }],
-    },
-];
+use crate::tests::rows::{OVER_D, Row, expect_rows, expect_vectors};
+use def_workspace::{ALONE, Fault, Vector};
 
 /// A crate with two exported macros, a `macro` item, and a textual macro of its own.
 const EXPORTS: &str = "#[macro_export] macro_rules! a {} #[macro_export] macro_rules! b {}

@@ -1,12 +1,34 @@
 //! Rows: scripted crates, and what is shown of them.
 #![tactic(auto)]
 
-use def_workspace::{Fault, Vector, find, show};
+use def_ids::Edition;
+use def_workspace::{CrateText, DependencyText, Fault, Vector, find, show};
 use std::alloc::Global;
 use std::process::Abort;
 
 /// A workspace, named for what it shows, and the lines of its last crate.
 pub type Row = (Vector, &'static str);
+
+/// Crate 1 on its own, and crate 0 over it under the name `d`, which paths may not begin with.
+pub const OVER_D: &[CrateText] = &[
+    CrateText {
+        krate: 1,
+        edition: Edition::Edition2021,
+        root_file: 1,
+        deps: &[],
+    },
+    CrateText {
+        krate: 0,
+        edition: Edition::Edition2021,
+        root_file: 0,
+        deps: &[DependencyText {
+            name: "d",
+            krate: 1,
+            prelude: false,
+            sysroot: false,
+        }],
+    },
+];
 
 /// Looks at the lines of a workspace.
 pub fn expect_lines(
