@@ -1,1 +1,2 @@
 pub mod CallsLemmas
+pub mod WaitingLemmas

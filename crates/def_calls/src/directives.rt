@@ -1,18 +1,21 @@
 //! Calls as they are written, those that wait for their macros, and those that were made.
-ghost use Rattle.std.specs.Prelude.{◌≡◌, ◌++◌, ◌∷◌, [], map, IfOk, OnOk};
-ghost use Rattle.def_calls.specs.Shown.{macro_directive_of, written_of};
+ghost use Rattle.std.specs.Prelude.{◌≡◌, ◌++◌, ◌∷◌, [], false, Some, is_some, length, map, slice_get, IfOk, OnOk};
+ghost use Rattle.def_calls.specs.Shown.{IsTurned, expansion_shown, macro_directive_of, macros_in, with_waiting, written_of};
 ghost use Rattle.def_modules.specs.Maps.{map_state};
 ghost use Rattle.def_items.specs.Parts.{site_of};
 ghost use Rattle.def_rules.specs.Calls.{invoking, waiting};
-ghost use Rattle.def_rules.specs.Report.{left_macro};
+ghost use Rattle.def_rules.specs.Directives.{expansion_of, given_call};
+ghost use Rattle.def_rules.specs.Report.{answer_report, left_macro};
+ghost use Rattle.def_rules.specs.State.{State};
 
 use crate::queries::deeper;
 use def_ids::{ItemContainerId, ModuleId};
 use def_items::Site;
-use def_map::MapData;
-use def_rules::{LeftMacro, LeftMacroKind};
+use def_map::{CallAnswer, MapData, UnresolvedMacro};
+use def_rules::{DefDiagnostic, DefDiagnosticKind, LeftMacro, LeftMacroKind};
 use item_tree::{ExpandTo, FileAstId, InFile, ItemNode, MacroCallId, ModPath, SyntaxContext};
 use std::alloc::{AllocError, Global};
+use std::collections::VecDeque;
 
 /// A macro call as it is written: its path with the context of that, and what its expansion is read
 /// as.
@@ -40,25 +43,82 @@ pub struct MacroDirective<'a> {
     pub kind: MacroDirectiveKind<'a>,
 }
 
+impl MacroDirective<'_> {
+    /// The expansion of what waited, once it was given a call.
+    pub fn expansion(&self, call: MacroCallId) -> Expansion
+        ensures { expansion_shown result ≡ expansion_of (macro_directive_of self.now) call }
+    {
+        Expansion {
+            module_id: self.module_id,
+            container: self.container,
+            depth: self.depth,
+            call,
+        }
+    }
+}
+
+/// An expansion that is to be walked: the module and the container in which its items are to stand,
+/// how deep they lie, and its call.
+#[derive(Clone, Copy)]
+pub struct Expansion {
+    pub module_id: ModuleId,
+    pub container: ItemContainerId,
+    pub depth: u32,
+    pub call: MacroCallId,
+}
+
 /// Lets a call wait for its macro, whose expansion is to stand one level deeper. On `Err` nothing but
 /// safety is promised.
 pub fn queue_call<'a>(
-    directives: &mut Vec<MacroDirective<'a>>,
+    directives: &mut Vec<Option<MacroDirective<'a>>>,
     site: Site<'_>,
     node: &ItemNode,
     written: WrittenCall<'a>,
 ) -> Result<(), AllocError>
-    ensures { OnOk result (map macro_directive_of directives.new.items
-        ≡ map macro_directive_of directives.old.items ++ waiting (site_of site.entry) node.now (written_of written.entry) ∷ []) }
+    ensures { OnOk result (macros_in directives.new.items
+        ≡ macros_in directives.old.items ++ waiting (site_of site.entry) node.now (written_of written.entry) ∷ []) }
 {
-    directives.push(MacroDirective {
+    directives.push(Some(MacroDirective {
         module_id: site.module_id,
         container: site.container,
         position: site.position(node),
         depth: deeper(site.depth),
         kind: MacroDirectiveKind::FnLike(written),
-    })?;
+    }))?;
     Ok(())
+}
+
+/// Gives a macro that waits its answer: the calls that were made for its arguments are recorded, and
+/// with a call of its own it leaves, and its expansion is to be walked. Answers whether it was given
+/// one. On `Err` nothing but safety is promised.
+pub fn settle_macro<'a>(
+    def_map: &mut MapData,
+    directives: &mut Vec<Option<MacroDirective<'a>>>,
+    expansions: &mut VecDeque<Expansion>,
+    i: usize,
+    directive: MacroDirective<'a>,
+    answer: &Result<CallAnswer, UnresolvedMacro>,
+) -> Result<bool, AllocError>
+    requires { slice_get directives.old.items i ≡ Some (Some directive) }
+    ensures len { length directives.new.items ≡ length directives.old.items }
+    ensures turned { OnOk result ((s : State) →
+        IsTurned (with_waiting s def_map.old directives.old.items expansions.old.items) (macro_directive_of directive.entry) answer.now
+        (with_waiting s def_map.new directives.new.items expansions.new.items)) }
+    ensures given { IfOk result (λ given. given ≡ is_some (given_call answer.now)) }
+    ensures same { IfOk result (λ given. given ≡ false → directives.new.items ≡ directives.old.items) }
+{
+    let Ok(answer) = answer else {
+        return Ok(false);
+    };
+    let module = directive.module_id.index;
+    record_calls(def_map, module, answer.inner.as_slice())?;
+    let Some(call) = answer.value else {
+        return Ok(false);
+    };
+    def_map.add_macro_invoc(module, directive.position, call)?;
+    directives[i] = None;
+    expansions.push_back(directive.expansion(call))?;
+    Ok(true)
 }
 
 /// Records calls in a module, each at its position. On `Err` nothing but safety is promised.
@@ -78,13 +138,15 @@ pub fn record_calls(
 /// The macros that are left over, in order.
 pub fn left_macros(
     alloc: Global,
-    directives: &[MacroDirective<'_>],
+    directives: &[Option<MacroDirective<'_>>],
 ) -> Result<Vec<LeftMacro>, AllocError>
-    ensures { IfOk result (λ left. left.items ≡ map left_macro (map macro_directive_of directives.now)) }
+    ensures { IfOk result (λ left. left.items ≡ map left_macro (macros_in directives.now)) }
 {
     let mut left = Vec::new(alloc);
-    'directives: for directive in directives {
-        left.push(left_macro(directive)?)?;
+    'directives: for entry in directives {
+        if let Some(directive) = entry {
+            left.push(left_macro(directive)?)?;
+        }
     }
     Ok(left)
 }
@@ -103,4 +165,30 @@ fn left_macro(directive: &MacroDirective<'_>) -> Result<LeftMacro, AllocError>
         path,
         depth: directive.depth,
     })
+}
+
+/// Reports what waits for a macro and is left over, by its answer: only that its macro is not found.
+/// On `Err` nothing but safety is promised.
+pub fn report_left_macro(
+    diagnostics: &mut Vec<DefDiagnostic>,
+    directive: &MacroDirective<'_>,
+    answer: Result<CallAnswer, UnresolvedMacro>,
+) -> Result<(), AllocError>
+    ensures { OnOk result (diagnostics.new.items ≡ diagnostics.old.items ++ answer_report (macro_directive_of directive.now) answer) }
+{
+    let Err(unresolved) = answer else {
+        return Ok(());
+    };
+    let kind = match directive.kind {
+        MacroDirectiveKind::FnLike(_) => LeftMacroKind::Fn,
+    };
+    diagnostics.push(DefDiagnostic {
+        module: directive.module_id,
+        ast_id: directive.position,
+        kind: DefDiagnosticKind::UnresolvedMacroCall {
+            kind,
+            path: unresolved.path,
+        },
+    })?;
+    Ok(())
 }

@@ -1,20 +1,22 @@
 //! What a call is asked with, and how deep its expansion lies.
 ghost use Rattle.std.specs.Prelude.{◌≡◌, IfOk};
-ghost use Rattle.def_calls.specs.Shown.{written_of};
-ghost use Rattle.def_items.specs.Parts.{directories_of, site_of};
+ghost use Rattle.def_calls.specs.Shown.{macro_directive_of, written_of};
+ghost use Rattle.def_items.specs.Parts.{directories_of};
 ghost use Rattle.def_map.specs.Asking.{world_lent};
 ghost use Rattle.def_map.specs.Queries.{plain_call};
 ghost use Rattle.def_modules.specs.Maps.{map_state};
 ghost use Rattle.def_modules.specs.Tables.{bound_by};
 ghost use Rattle.def_rules.specs.Calls as calls;
+ghost use Rattle.def_rules.specs.Directives.{answer_in};
 
-use crate::directives::WrittenCall;
+use crate::directives::{MacroDirective, MacroDirectiveKind, WrittenCall};
 use crate::early_resolver::EarlyResolver;
+use crate::path_resolver::PathResolver;
 use def_ids::ModuleId;
-use def_items::{ModDirs, Site};
+use def_items::ModDirs;
 use def_map::{CallAnswer, CallQuery, MapData, SourceDatabase, Table, UnresolvedMacro, World};
 use def_parts::ModDir;
-use item_tree::{ItemNode, MacroCallId};
+use item_tree::{FileAstId, InFile, MacroCallId};
 use std::alloc::{AllocError, Global};
 
 /// The depth of an expansion at this depth. There is none below the greatest.
@@ -31,22 +33,22 @@ pub fn is_too_deep(def_map: &MapData, depth: u32) -> bool
     def_map.recursion_limit() < depth || depth == u32::MAX
 }
 
-/// What the call of an item is asked with.
+/// What a call at a position is asked with, by how deep its expansion would lie.
 pub fn call_query<'a>(
     def_map: &MapData,
-    site: Site<'_>,
-    node: &ItemNode,
+    position: InFile<FileAstId>,
+    depth: u32,
     written: WrittenCall<'a>,
 ) -> CallQuery<'a>
-    ensures { plain_call result ≡ calls.call_query (map_state def_map.now) (site_of site.entry) node.now (written_of written.entry) }
+    ensures { plain_call result ≡ calls.call_query (map_state def_map.now) position depth (written_of written.entry) }
 {
     CallQuery {
-        position: site.position(node),
+        position,
         path: written.path,
         ctxt: written.ctxt,
         kind: written.expand_to,
         krate: def_map.tree.map.krate,
-        depth: deeper(site.depth),
+        depth,
         recursion_limit: def_map.recursion_limit(),
     }
 }
@@ -67,6 +69,29 @@ pub fn early_answer<D: SourceDatabase>(
         module_id,
     };
     world.db.macro_call(alloc, query, &resolver)
+}
+
+/// Asks the database for what waits for a macro, by the macros that paths name once imports are
+/// resolved. On `Err` nothing but safety is promised.
+pub fn macro_answer<D: SourceDatabase>(
+    alloc: Global,
+    world: &World<'_, D, Table>,
+    def_map: &MapData,
+    directive: &MacroDirective<'_>,
+) -> Result<Result<CallAnswer, UnresolvedMacro>, AllocError>
+    ensures { let d = macro_directive_of directive.now in
+        IfOk result (λ answer. answer ≡ answer_in (world_lent D.oracle bound_by world.now) (map_state def_map.now) d d.kind) }
+{
+    match directive.kind {
+        MacroDirectiveKind::FnLike(written) => {
+            let query = call_query(def_map, directive.position, directive.depth, written);
+            let resolver = PathResolver {
+                world: *world,
+                module_id: directive.module_id,
+            };
+            world.db.macro_call(alloc, query, &resolver)
+        }
+    }
 }
 
 /// The directory in which the modules of an expansion have their files: of `include!` that of the

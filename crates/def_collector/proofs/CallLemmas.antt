@@ -1,10 +1,10 @@
 -- A macro call once it is answered.
-use Rattle.std.proofs.Common.{◌≡◌, ℕ, List, [], ◌∷◌, Option, None, Some, Ok, sym, ap, ◌∙◌}
+use Rattle.std.proofs.Common.{◌≡◌, ℕ, List, [], ◌∷◌, None, Some, Ok, sym, ap, ◌∙◌}
 use Rattle.item_tree.specs.declared.ids.MacroCallId.{MacroCallId}
 use Rattle.item_tree.specs.declared.items.ItemNode.{ItemNode}
 use Rattle.def_map.specs.Oracle.{Oracle}
 use Rattle.def_oracle.specs.declared.source_database.CallAnswer.{CallAnswer}
-use Rattle.def_rules.specs.Calls.{answered_effect, expansion_effect, made_effect, queued, told_effect, with_invocations}
+use Rattle.def_rules.specs.Calls.{answered_effect, expansion_at, expansion_effect, made_effect, queued, told_effect, with_invocations}
 use Rattle.def_rules.specs.Items.{position_of}
 use Rattle.def_rules.specs.State.{State, followed_by, only, Site, Task, WrittenCall}
 use Rattle.def_laws.specs.Performs.{IsDone}
@@ -27,7 +27,7 @@ module _ (oracle : Oracle) (s t : State) (site : Site) (item : ItemNode) (writte
 
   -- or a call, which is expanded
   pub answered_opens : (call : MacroCallId) (inner : List Task) → answer.err ≡ None → answer.value ≡ Some call → t ≡ with_invocations recorded site.scope ((position_of site item, call) ∷ [])
-      → expansion_effect oracle t site call ≡ followed_by t inner → IsDone oracle (answered_effect oracle s site item written (Ok answer)) t inner
+      → expansion_effect oracle t (expansion_at site call) ≡ followed_by t inner → IsDone oracle (answered_effect oracle s site item written (Ok answer)) t inner
   answered_opens call inner fine is after opened =
       left_done oracle (answered_effect oracle s site item written (Ok answer)) t inner
-      (ap (told_effect oracle recorded site item written answer.value) fine ∙ ap (made_effect oracle recorded site item) is ∙ ap (λ u. expansion_effect oracle u site call) (sym after) ∙ opened)
+      (ap (told_effect oracle recorded site item written answer.value) fine ∙ ap (made_effect oracle recorded site item) is ∙ ap (λ u. expansion_effect oracle u (expansion_at site call)) (sym after) ∙ opened)

@@ -18,13 +18,13 @@ use Rattle.def_steps.specs.Shown.{directive_of}
 use Rattle.def_rules.specs.Crates.{deps_by_name, is_proc_macro_crate}
 use Rattle.def_rules.specs.Globs.{Targets}
 use Rattle.def_rules.specs.Headline.{Answers}
-use Rattle.def_rules.specs.Recording.{NoneReady}
-use Rattle.def_rules.specs.Report.{Answer}
+use Rattle.def_rules.specs.Settled.{IsSettled}
+use Rattle.def_rules.specs.Report.{Answer, with_macro_reports}
 use Rattle.def_laws.specs.Finished.{NoneFailed, IsFinished}
 use Rattle.def_rules.specs.Start.{first_tasks, seeded_state, started}
 use Rattle.def_rules.specs.State as rules
 use Rattle.def_rules.specs.State.{Setting, State}
-use Rattle.def_laws.specs.Runs.{Leads}
+use Rattle.def_laws.specs.Runs.{Collects}
 use Rattle.def_laws.specs.Sound.{IsSoundWith}
 use Rattle.def_laws.proofs.BegunLaws.{begins_sound}
 use Rattle.def_laws.proofs.HeadlineLaws.{answers}
@@ -49,24 +49,24 @@ no_imports unresolved indeterminate none nor =
     ∙ ap directives_in nor
     ∙ ap (map directive_of) (present-nil ImportDirective)
 
-module _ (w : Setting) (before : Session) (m : MapState) (content : Content Visibility) (targets : Targets) (local : LocalView) (procs : Bool) (deps : LocalView) (missing : Name → Bool) (directories : ModuleId → Option Directory) (imports : List rules.ImportDirective) (macros : List rules.MacroDirective) (diagnostics : List DefDiagnostic) where
+module _ (w : Setting) (before : Session) (m : MapState) (content : Content Visibility) (targets : Targets) (local : LocalView) (procs : Bool) (deps : LocalView) (missing : Name → Bool) (directories : ModuleId → Option Directory) (imports : List rules.ImportDirective) (macros : List rules.MacroDirective) (expansions : List rules.Expansion) (diagnostics : List DefDiagnostic) where
   -- the state that the code begins with
   abbrev begun : State
-  begun = record { session = before; map = m; content = content; targets = targets; local = local; outer = w.crate_local; is_proc_macro = procs; deps = deps; missing_crates = missing; directories = directories; imports = imports; macros = macros; diagnostics = diagnostics }
+  begun = record { session = before; map = m; content = content; targets = targets; local = local; outer = w.crate_local; is_proc_macro = procs; deps = deps; missing_crates = missing; directories = directories; imports = imports; macros = macros; expansions = expansions; diagnostics = diagnostics }
 
   pub begins : m ≡ w.seeded → content ≡ empty → targets ≡ (λ glob. None) → local ≡ empty_local → procs ≡ is_proc_macro_crate w.oracle w.seeded.id.krate → deps ≡ deps_by_name w.oracle w.seeded.id.krate
-      → missing ≡ (λ name. false) → directories ≡ (λ at. None) → imports ≡ [] → macros ≡ [] → diagnostics ≡ [] → begun ≡ seeded_state w before
-  begins same bound none known marked by_name found bare unresolved none_waits said =
-      λ i. record { session = before; map = same i; content = bound i; targets = none i; local = known i; outer = w.crate_local; is_proc_macro = marked i; deps = by_name i; missing_crates = found i; directories = bare i; imports = unresolved i; macros = none_waits i; diagnostics = said i }
+      → missing ≡ (λ name. false) → directories ≡ (λ at. None) → imports ≡ [] → macros ≡ [] → expansions ≡ [] → diagnostics ≡ [] → begun ≡ seeded_state w before
+  begins same bound none known marked by_name found bare unresolved none_waits none_expands said =
+      λ i. record { session = before; map = same i; content = bound i; targets = none i; local = known i; outer = w.crate_local; is_proc_macro = marked i; deps = by_name i; missing_crates = found i; directories = bare i; imports = unresolved i; macros = none_waits i; expansions = none_expands i; diagnostics = said i }
 
 module _ (w : Setting) (before : Session) (s : State) (same : s ≡ seeded_state w before) (given : Content Visibility) (fresh : IsFresh w.seeded given) where
   -- what a run begins with is sound
   pub begun_sound : IsSoundWith (first_tasks w.oracle s.map w.tree) (started w.oracle w.tree s)
   begun_sound = subst (λ x. IsSoundWith (first_tasks w.oracle x.map w.tree) (started w.oracle w.tree x)) (sym same) (begins_sound w before given fresh)
 
-  -- what was collected and finished answers
-  pub collected_answers : (after : Session) (t : State) (answer : Answer) → Leads w.oracle (first_tasks w.oracle s.map w.tree) (started w.oracle w.tree s) [] t → IsSoundWith [] t → NoneReady w.oracle t → t.session ≡ after → IsFinished t answer
-      → Answers w before after answer
-  collected_answers after t answer leads sound settled session finished =
-      answers w before after answer t (subst (λ x. Leads w.oracle (first_tasks w.oracle x.map w.tree) (started w.oracle w.tree x) [] t) same leads)
-      settled session (none_seeded w.seeded given fresh) (begins_sound w before given fresh) sound finished
+  -- what was collected and finished answers, once its macros were reported
+  pub collected_answers : (after : Session) (t u : State) (answer : Answer) → Collects w.oracle (first_tasks w.oracle s.map w.tree) (started w.oracle w.tree s) [] t → IsSoundWith [] t → IsSettled w.oracle t → t.expansions ≡ [] → t.session ≡ after
+      → u ≡ with_macro_reports w.oracle t → IsFinished u answer → Answers w before after answer
+  collected_answers after t u answer collects sound settled expanded session reported finished =
+      answers w before after answer t (subst (λ x. Collects w.oracle (first_tasks w.oracle x.map w.tree) (started w.oracle w.tree x) [] t) same collects)
+      settled expanded session (none_seeded w.seeded given fresh) (begins_sound w before given fresh) sound (subst (λ x. IsFinished x answer) reported finished)

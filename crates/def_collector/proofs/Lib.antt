@@ -5,3 +5,4 @@ mod TriesLemmas
 mod VisitLemmas
 mod WalkLemmas
 mod CallLemmas
+mod MacroPassLemmas

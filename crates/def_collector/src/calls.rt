@@ -1,7 +1,7 @@
 //! Macro calls among items.
 ghost use Rattle.std.specs.Prelude.{◌≡◌, Ok, IfOk};
 ghost use Rattle.def_interner.specs.declared.interner.Interner.{Interner};
-ghost use Rattle.def_calls.specs.Shown.{written_of};
+ghost use Rattle.def_calls.specs.Shown.{expansion_shown, written_of};
 ghost use Rattle.def_items.specs.Parts.{site_of};
 ghost use Rattle.def_collector.specs.Collector.{state_of};
 ghost use Rattle.def_collector.specs.Walk.{AreKnown, inner_of};
@@ -11,13 +11,13 @@ ghost use Rattle.def_rules.specs.State.{followed_by};
 
 use crate::collector::DefCollector;
 use def_calls::{
-    WrittenCall, call_query, deeper, early_answer, expansion_dir, is_too_deep, queue_call,
-    record_calls,
+    Expansion, WrittenCall, call_query, deeper, early_answer, expansion_dir, is_too_deep,
+    queue_call, record_calls,
 };
 use def_interner::Interner;
 use def_items::{ItemList, Site, top_items};
 use def_map::{CallAnswer, SourceDatabase};
-use item_tree::{HirFileId, ItemNode, MacroCallId, TreeId};
+use item_tree::{HirFileId, ItemNode, TreeId};
 use std::alloc::AllocError;
 
 /// Tries a macro call where it stands. Answers the list of its expansion's items, if they are to be
@@ -36,7 +36,8 @@ pub(crate) fn collect_macro_call<'a, D: SourceDatabase>(
     ensures known { IfOk result (λ opened. AreKnown (D.oracle db.now) opened) }
 {
     let alloc = collector.alloc;
-    let query = call_query(&collector.def_map, site, node, written);
+    let position = site.position(node);
+    let query = call_query(&collector.def_map, position, deeper(site.depth), written);
     let world = collector.world(db, session);
     let answer = early_answer(alloc, &world, site.module_id, query)?;
     match answer {
@@ -74,22 +75,32 @@ fn collect_answer<'a, D: SourceDatabase>(
     };
     let position = site.position(node);
     collector.def_map.add_macro_invoc(module, position, call)?;
-    expansion(collector, db, site, call)
+    let here = Expansion {
+        module_id: site.module_id,
+        container: site.container,
+        depth: deeper(site.depth),
+        call,
+    };
+    open_expansion(collector, db, here)
 }
 
 /// The list of an expansion's items, unless it lies too deep.
-fn expansion<'a, D: SourceDatabase>(
+pub(crate) fn open_expansion<'a, D: SourceDatabase>(
     collector: &DefCollector<'a>,
     db: &'a D,
-    site: Site<'_>,
-    call: MacroCallId,
+    expansion: Expansion,
 ) -> Result<Option<ItemList<'a>>, AllocError>
     ensures opened { IfOk result (λ opened. (session : Interner) →
-        calls.expansion_effect (D.oracle db.now) (state_of collector.now session) (site_of site.entry) call
+        calls.expansion_effect (D.oracle db.now) (state_of collector.now session) (expansion_shown expansion)
         ≡ followed_by (state_of collector.now session) (inner_of (D.oracle db.now) opened)) }
     ensures known { IfOk result (λ opened. AreKnown (D.oracle db.now) opened) }
 {
-    let depth = deeper(site.depth);
+    let Expansion {
+        module_id,
+        container,
+        depth,
+        call,
+    } = expansion;
     if is_too_deep(&collector.def_map, depth) {
         return Ok(None);
     }
@@ -98,16 +109,10 @@ fn expansion<'a, D: SourceDatabase>(
         block: None,
     };
     let tree = db.item_tree(tree_id);
-    let dir = expansion_dir(
-        collector.alloc,
-        db,
-        &collector.mod_dirs,
-        site.module_id,
-        call,
-    )?;
+    let dir = expansion_dir(collector.alloc, db, &collector.mod_dirs, module_id, call)?;
     Ok(Some(ItemList {
-        module_id: site.module_id,
-        container: site.container,
+        module_id,
+        container,
         tree_id,
         tree,
         items: top_items(tree),

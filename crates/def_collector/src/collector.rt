@@ -10,7 +10,7 @@ mod visibility;
 
 pub use crates::WrittenCrate;
 pub use declarations::WrittenStruct;
-use def_calls::MacroDirective;
+use def_calls::{Expansion, MacroDirective};
 use def_crates::MissingCrates;
 use def_ids::{Def, GlobId};
 use def_items::ModDirs;
@@ -21,6 +21,7 @@ use def_steps::ImportDirective;
 use indexmap::IndexMap;
 use item_tree::Seq;
 use std::alloc::Global;
+use std::collections::VecDeque;
 
 /// What is known so far of a map, while definitions are collected into it.
 pub struct DefCollector<'a> {
@@ -45,8 +46,10 @@ pub struct DefCollector<'a> {
     /// Imports that were recorded, and that may give more namespaces, in the order in which they
     /// came here. One that left leaves `None`.
     pub indeterminate_imports: Vec<Option<ImportDirective<'a>>>,
-    /// What waits for its macro.
-    pub unresolved_macros: Vec<MacroDirective<'a>>,
+    /// What waits for its macro. What was given a call leaves `None`.
+    pub unresolved_macros: Vec<Option<MacroDirective<'a>>>,
+    /// The expansions of what was given a call, until they are walked.
+    pub expansions: VecDeque<Expansion>,
     pub diagnostics: Vec<DefDiagnostic>,
 }
 
@@ -66,6 +69,7 @@ impl Drop for DefCollector<'_> {
             unresolved_imports: _,
             indeterminate_imports: _,
             unresolved_macros: _,
+            expansions: _,
             diagnostics: _,
         } = self;
     }

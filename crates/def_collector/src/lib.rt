@@ -6,6 +6,7 @@ mod collector;
 mod globs;
 mod imports;
 mod items;
+mod macro_pass;
 mod macros;
 mod modules;
 mod prelude;

@@ -1,6 +1,9 @@
-//! A whole run: what is known of a crate is read, its items are walked, and imports are recorded
-//! until none resolves any further.
-ghost use Rattle.std.specs.Prelude.{◌≡◌, [], is_some, option_map, IfOk, OnOk};
+//! A whole run: what is known of a crate is read, its items are walked, and imports are recorded and
+//! macros expanded until nothing moves.
+ghost use Rattle.std.specs.Prelude.{◌≡◌, ◌<◌, ◌++◌, [], Option, Some, length, is_some, option_map, slice_get, IfOk, OnOk};
+ghost use Rattle.std.specs.Option.{option_map_or};
+ghost use Rattle.def_calls.specs.Shown.{macro_directive_of};
+ghost use Rattle.def_calls.specs.declared.directives.MacroDirective.{MacroDirective};
 ghost use Rattle.item_tree.specs.declared.ids.TreeId.{TreeId};
 ghost use Rattle.def_interner.specs.declared.interner.Interner.{Interner};
 ghost use Rattle.def_interner.specs.Session.{AddsLocations, session_of};
@@ -13,15 +16,19 @@ ghost use Rattle.def_collector.specs.Collector.{state_of};
 ghost use Rattle.def_collector.specs.Setting.{setting_of};
 ghost use Rattle.def_rules.specs.Headline.{Answers};
 ghost use Rattle.def_rules.specs.Recording.{NoneReady};
+ghost use Rattle.def_rules.specs.Report.{macro_report, with_macro_reports};
+ghost use Rattle.def_rules.specs.Settled.{IsSettled};
 ghost use Rattle.def_rules.specs.Start.{first_depth, first_tasks, first_tree};
 ghost use Rattle.def_rules.specs.Start.{seeded_state, started};
-ghost use Rattle.def_laws.specs.Runs.{Leads};
+ghost use Rattle.def_laws.specs.Runs.{Collects, Leads};
 ghost use Rattle.def_laws.specs.Sound.{IsSoundWith};
 
 use crate::collector::DefCollector;
 use crate::imports::resolve_imports;
+use crate::macro_pass::resolve_macros;
 use crate::seeding::seed;
 use crate::stack::walk;
+use def_calls::{macro_answer, report_left_macro};
 use def_crates::{MissingCrates, deps_by_name, is_proc_macro_crate, top_attrs};
 use def_ids::{ItemContainerId, MapId, ModuleId};
 use def_interner::Interner;
@@ -32,6 +39,7 @@ use def_rules::Collected;
 use indexmap::IndexMap;
 use item_tree::{HirFileId, TreeId};
 use std::alloc::{AllocError, Global};
+use std::collections::VecDeque;
 
 /// Collects the definitions of a crate or a block into its seeded map.
 ///
@@ -61,6 +69,7 @@ pub fn collect_defs<D: SourceDatabase>(
 {
     let mut collector = begin(alloc, db, def_map, crate_local)?;
     collect(&mut collector, db, session, tree_id)?;
+    report_macros(&mut collector, db, session)?;
     collector.finish()
 }
 
@@ -72,7 +81,8 @@ fn begin<'a, D: SourceDatabase>(
     crate_local: Option<&'a LocalDefMap>,
 ) -> Result<DefCollector<'a>, AllocError>
     requires { IsFresh (whole.state_of def_map) (whole.content_of def_map) }
-    ensures { IfOk result (λ collector. (tree : TreeId) (session : Interner) →
+    ensures bare { IfOk result (λ collector. collector.expansions.items ≡ []) }
+    ensures seeded { IfOk result (λ collector. (tree : TreeId) (session : Interner) →
         let local = option_map (λ l. local_view l.now) crate_local.entry in
         let setting = setting_of (D.oracle db.now) def_map tree local in
         state_of collector session ≡ seeded_state setting (session_of session)) }
@@ -94,27 +104,30 @@ fn begin<'a, D: SourceDatabase>(
         unresolved_imports: Vec::new(alloc),
         indeterminate_imports: Vec::new(alloc),
         unresolved_macros: Vec::new(alloc),
+        expansions: VecDeque::new(alloc),
         diagnostics: Vec::new(alloc),
     })
 }
 
-/// Walks the items, and records imports until none is ready. On `Err` nothing but safety is
-/// promised.
+/// Walks the items, and then records imports and expands macros until nothing moves. On `Err`
+/// nothing but safety is promised.
 fn collect<'a, D: SourceDatabase>(
     collector: &mut DefCollector<'a>,
     db: &'a D,
     session: &mut Interner,
     tree_id: TreeId,
 ) -> Result<(), AllocError>
-    requires { IsSoundWith
+    requires start { IsSoundWith
         (first_tasks (D.oracle db.now) (map_state collector.old.def_map) tree_id)
         (started (D.oracle db.now) tree_id (state_of collector.old session.old)) }
-    ensures run { OnOk result (Leads (D.oracle db.now)
+    requires bare { collector.old.expansions.items ≡ [] }
+    ensures run { OnOk result (Collects (D.oracle db.now)
         (first_tasks (D.oracle db.now) (map_state collector.old.def_map) tree_id)
         (started (D.oracle db.now) tree_id (state_of collector.old session.old))
         [] (state_of collector.new session.new)) }
     ensures sound { OnOk result (IsSoundWith [] (state_of collector.new session.new)) }
-    ensures settled { OnOk result (NoneReady (D.oracle db.now) (state_of collector.new session.new)) }
+    ensures expanded { OnOk result (collector.new.expansions.items ≡ []) }
+    ensures settled { OnOk result (IsSettled (D.oracle db.now) (state_of collector.new session.new)) }
     ensures session { AddsLocations (session_of session.old) (session_of session.new) }
 {
     seed_with_top_level(collector, db, session, tree_id)?;
@@ -161,20 +174,78 @@ fn seed_with_top_level<'a, D: SourceDatabase>(
     )
 }
 
-/// Records imports until none is ready. On `Err` nothing but safety is promised.
+/// Records imports and expands macros in turns, until nothing moves. On `Err` nothing but safety is
+/// promised.
 fn resolution_loop<'a, D: SourceDatabase>(
+    collector: &mut DefCollector<'a>,
+    db: &'a D,
+    session: &mut Interner,
+) -> Result<(), AllocError>
+    requires sound { IsSoundWith [] (state_of collector.old session.old) }
+    requires bare { collector.old.expansions.items ≡ [] }
+    ensures run { OnOk result (Collects (D.oracle db.now)
+        [] (state_of collector.old session.old) [] (state_of collector.new session.new)) }
+    ensures sound { OnOk result (IsSoundWith [] (state_of collector.new session.new)) }
+    ensures expanded { OnOk result (collector.new.expansions.items ≡ []) }
+    ensures settled { OnOk result (IsSettled (D.oracle db.now) (state_of collector.new session.new)) }
+    ensures session { AddsLocations (session_of session.old) (session_of session.new) }
+{
+    import_passes(collector, db, session)?;
+    'resolve_macros: while resolve_macros(collector, db, session)? {
+        import_passes(collector, db, session)?;
+    }
+    Ok(())
+}
+
+/// Records imports until none is ready. On `Err` nothing but safety is promised.
+fn import_passes<'a, D: SourceDatabase>(
     collector: &mut DefCollector<'a>,
     db: &D,
     session: &Interner,
 ) -> Result<(), AllocError>
-    requires { IsSoundWith [] (state_of collector.old session.now) }
     ensures run { OnOk result (Leads (D.oracle db.now)
         [] (state_of collector.old session.now) [] (state_of collector.new session.now)) }
-    ensures sound { OnOk result (IsSoundWith [] (state_of collector.new session.now)) }
     ensures settled { OnOk result (NoneReady (D.oracle db.now) (state_of collector.new session.now)) }
 {
     'resolve_imports: while resolve_imports(collector, db, session)? {}
     Ok(())
+}
+
+/// Reports what waits for a macro and is left over, in order. On `Err` nothing but safety is
+/// promised.
+fn report_macros<'a, D: SourceDatabase>(
+    collector: &mut DefCollector<'a>,
+    db: &D,
+    session: &Interner,
+) -> Result<(), AllocError>
+    ensures { OnOk result (state_of collector.new session.now ≡ with_macro_reports (D.oracle db.now) (state_of collector.old session.now)) }
+{
+    'left: for i in 0..collector.unresolved_macros.len() {
+        report_macro(collector, db, session, i)?;
+    }
+    Ok(())
+}
+
+/// Reports one that is left over, if it is there. On `Err` nothing but safety is promised.
+fn report_macro<'a, D: SourceDatabase>(
+    collector: &mut DefCollector<'a>,
+    db: &D,
+    session: &Interner,
+    i: usize,
+) -> Result<(), AllocError>
+    requires { i < length collector.old.unresolved_macros.items }
+    ensures frame { collector.new ≡ record collector.old { diagnostics = collector.new.diagnostics } }
+    ensures told { OnOk result ((entry : Option MacroDirective) →
+        slice_get collector.old.unresolved_macros.items i ≡ Some entry →
+        collector.new.diagnostics.items ≡ collector.old.diagnostics.items
+        ++ option_map_or (λ d. macro_report (D.oracle db.now) (state_of collector.old session.now) (macro_directive_of d)) entry []) }
+{
+    let Some(directive) = collector.unresolved_macros[i] else {
+        return Ok(());
+    };
+    let world = collector.world(db, session);
+    let answer = macro_answer(collector.alloc, &world, &collector.def_map, &directive)?;
+    report_left_macro(&mut collector.diagnostics, &directive, answer)
 }
 
 /// How deep in expansions of macros the first items are walked: those of a block as deep as its

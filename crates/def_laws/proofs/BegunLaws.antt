@@ -1,9 +1,8 @@
 -- The seeded map: nothing is bound, so all is of the map and names are sound.
-use Rattle.std.proofs.Common.{◌≡◌, zero, suc, Bool, List, [], ◌∷◌, length, Option, Some, None, refl, sym, subst, arith, inl}
+use Rattle.std.proofs.Common.{◌≡◌, zero, suc, Bool, List, [], ◌∷◌, length, Option, Some, None, refl, sym, subst, arith, inl, inr}
 use Rattle.item_tree.specs.declared.ids.BlockId.{BlockId}
 use Rattle.item_tree.specs.declared.ids.CfgExpr.{CfgExpr}
 use Rattle.item_tree.specs.declared.ids.ModItemId.{ModItemId}
-use Rattle.item_tree.specs.declared.ids.TreeId.{TreeId}
 use Rattle.def_ids.specs.declared.ids.ModuleId.{ModuleId}
 use Rattle.def_interner.specs.Session.{Session}
 use Rattle.def_bindings.specs.declared.bindings.Binding.{Binding}
@@ -17,15 +16,13 @@ use Rattle.def_map.specs.Fresh.{IsFresh, fresh_by}
 use Rattle.def_modules.specs.MapState.{MapState}
 use Rattle.def_globs.proofs.ListLaws.{none_in}
 use Rattle.def_oracle.specs.Oracle.{Oracle}
-use Rattle.def_laws.specs.Followed.{AreApart}
 use Rattle.def_laws.specs.Own.{AreOwn, AreOwnTasks, IsOwn}
 use Rattle.def_laws.specs.Sound.{AreSound, IsSoundWith}
 use Rattle.def_rules.specs.Globs.{Targets}
 use Rattle.def_rules.specs.Items.{top_items, tree_cfg}
 use Rattle.def_rules.specs.Start.{first_site, first_tasks, first_tree, first_walk, seeded_state, started}
 use Rattle.def_rules.specs.State.{Setting, Site}
-use Rattle.def_laws.proofs.ApartLaws.{plain_adds}
-use Rattle.def_laws.proofs.PlainLaws.{ArePlain, own_walk, plain_walk}
+use Rattle.def_laws.proofs.PlainLaws.{own_walk}
 
 -- what the map of a fresh crate or block has of modules
 pub record HasRoot (m : MapState) : Type 0 where
@@ -84,16 +81,7 @@ begins_sound w before content fresh =
       stands = record {
         state = own_empty m (λ glob. None) (record { one = one; even = root.even; lower = root.lower });
         tasks = walk_own w.oracle m (λ glob. None) (first_site w.oracle w.seeded w.tree) (top_items w.oracle (first_tree w.oracle w.seeded.id w.tree)) (tree_cfg w.oracle (first_tree w.oracle w.seeded.id w.tree)) (refl, omega arith);
+        waiting = λ at waits. elim waits [ inl macro ↦ absurd (none_in macro.0 macro.1) | inr expansion ↦ absurd (none_in expansion.0 expansion.1) ];
       };
       sound = sound_empty _ m (λ glob. None);
     }
-
-first_plain : (oracle : Oracle) (site : Site) (ids : List ModItemId) (cfg : Option CfgExpr) → ArePlain (first_walk oracle site ids cfg)
-first_plain oracle site ids None = plain_walk oracle site ids
-first_plain oracle site ids (Some cfg) = tt
-
--- nothing is to be done for globs, and no edge stands
-pub begins_apart : (w : Setting) (before : Session) → AreApart (first_tasks w.oracle w.seeded w.tree) (started w.oracle w.tree (seeded_state w before))
-begins_apart w before =
-    let tree : TreeId = first_tree w.oracle w.seeded.id w.tree in
-    inl (λ source. refl, plain_adds (first_tasks w.oracle w.seeded w.tree) (first_plain w.oracle (first_site w.oracle w.seeded w.tree) (top_items w.oracle tree) (tree_cfg w.oracle tree)))

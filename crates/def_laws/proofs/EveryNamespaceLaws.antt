@@ -1,5 +1,5 @@
 -- Each namespace of a recorded import is bound at the end of a run.
-use Rattle.std.proofs.Common.{◌≡◌, inl, inr, Bool, true, false, ◌&&◌, ◌||◌, not, is_some, List, [], ◌∷◌, ◌++◌, Contains, IsPermutation, refl, sym, ap, subst, append-nil, arith}
+use Rattle.std.proofs.Common.{◌≡◌, ℕ, inl, inr, Bool, true, false, ◌&&◌, ◌||◌, not, is_some, List, [], ◌∷◌, ◌++◌, Contains, IsPermutation, refl, sym, ap, subst, append-nil, arith}
 use Rattle.std.specs.Prelude.{IsSome}
 use Rattle.std.proofs.lemmas.Bool.{and_parts, or_parts}
 use Rattle.std.proofs.lemmas.List.Elements.{Contains-append_left, Contains-append_right, Contains-append_cases}
@@ -28,6 +28,7 @@ use Rattle.def_rules.specs.State.{State, Effect, Event, Recorded, NsSet, Import,
 use Rattle.def_rules.specs.Steps.{Copies, Reaches, Step, put_event}
 use Rattle.def_laws.proofs.FootprintLaws.{Footprint}
 use Rattle.def_laws.proofs.MovesLaws.{AreStill, Move, putting, linking, doing, copying, sorting, recording, move_of}
+use Rattle.def_laws.proofs.TurnsLaws.{waiting_with}
 use Rattle.def_laws.proofs.RunsLaws.{kept_along}
 use Rattle.def_laws.proofs.ComingLaws.{Covers, HasSet, bound_now, covers-kept, has_ns, keeps_coming, put_keeps, unrecorded, still_ahead, edge_ahead}
 use Rattle.def_laws.proofs.AddedLaws.{none_added, reordered}
@@ -43,9 +44,9 @@ covers-tasks : (a : Moment) (tasks : List Task) → a.tasks ≡ tasks → Covers
 covers-tasks a tasks same all = subst (λ l. Covers a.state.imports a.state.content l a.events) same all
 
 -- what is done beside puts and edges leaves all that is covered
-covers-footprint : (s : State) (gone rest : List Task) (scope : ModuleId) (effect : Effect) (events : List Event) → AreStill gone → Footprint s scope effect → Covers s.imports s.content (gone ++ rest) events
+covers-footprint : (s : State) (gone rest : List Task) (scope : ModuleId) (depth : ℕ) (effect : Effect) (events : List Event) → AreStill gone → Footprint s scope depth effect → Covers s.imports s.content (gone ++ rest) events
     → Covers effect.state.imports effect.state.content (effect.tasks ++ rest) (events ++ effect.events)
-covers-footprint s gone rest scope effect events still foot all =
+covers-footprint s gone rest scope depth effect events still foot all =
     subst (λ c. Covers effect.state.imports c (effect.tasks ++ rest) (events ++ effect.events)) (sym foot.content)
     (subst (λ es. Covers effect.state.imports s.content (effect.tasks ++ rest) (events ++ es)) (sym foot.events)
     (subst (λ es. Covers effect.state.imports s.content (effect.tasks ++ rest) es) (sym (append-nil events))
@@ -101,7 +102,7 @@ covers-import oracle s effect events step all =
 covers-move : {oracle : Oracle} (a b : Moment) → Move oracle a b → CoversAt a → CoversAt b
 covers-move a b (putting place entry rest first is) all = subst CoversAt (sym is) (covers-put a.state place entry rest a.events (covers-tasks a _ first all))
 covers-move a b (linking source edge rest first is) all = subst CoversAt (sym is) (covers-edge a.state source edge rest a.events (covers-tasks a _ first all))
-covers-move a b (doing gone rest scope effect first still calm own foot is) all = subst CoversAt (sym is) (covers-footprint a.state gone rest scope effect a.events still foot (covers-tasks a _ first all))
+covers-move a b (doing gone rest scope depth macros expansions effect first still own fewer foot is) all = subst CoversAt (sym is) (covers-footprint (waiting_with a.state macros expansions) gone rest scope depth effect a.events still foot (covers-tasks a _ first all))
 covers-move a b (copying content copy is) all = subst CoversAt (sym is) (covers-copied a.state content a.tasks a.events copy all)
 covers-move a b (sorting state same is) all = subst CoversAt (sym is) (covers-rearranged a.state state a.tasks a.events same all)
 covers-move {oracle} a b (recording effect idle step is) all = subst CoversAt (sym is) (covers-import oracle a.state effect a.events step (covers-tasks a [] idle all))

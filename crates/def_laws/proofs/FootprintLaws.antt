@@ -1,5 +1,5 @@
 -- What a rule does to a run, as laws read it.
-use Rattle.std.proofs.Common.{◌≡◌, ◌⊎◌, ℕ, Bool, true, false, cond, ◌||◌, List, [], ◌∷◌, ◌++◌, length, Option, Some, None, is_some, Result, Ok, Err, Contains, refl, sym, ap, subst, inl, inr}
+use Rattle.std.proofs.Common.{◌≡◌, ◌⊎◌, ◌<◌, ◌≤◌, ◌∙◌, append-nil, arith, nat_eq, nat_lt, ℕ, Bool, true, false, cond, ◌||◌, List, [], ◌∷◌, ◌++◌, length, Option, Some, None, is_some, Result, Ok, Err, Contains, refl, sym, ap, subst, inl, inr}
 use Rattle.std.proofs.lemmas.List.Elements.{Contains-append_cases}
 use Rattle.item_tree.specs.declared.ids.CfgExpr.{CfgExpr}
 use Rattle.item_tree.specs.declared.ids.FileAstId.{FileAstId}
@@ -36,17 +36,17 @@ use Rattle.def_modules.specs.MapState.{MapState, ModuleState}
 use Rattle.def_oracle.specs.declared.source_database.CallAnswer.{CallAnswer}
 use Rattle.def_oracle.specs.declared.source_database.UnresolvedMacro.{UnresolvedMacro}
 use Rattle.def_oracle.specs.Oracle.{Oracle}
-use Rattle.def_modules.specs.Maps.{textual_at, with_module}
+use Rattle.def_modules.specs.Maps.{limit_of, textual_at, with_module}
 use Rattle.def_modules.specs.Scopes.{brought, declared_in, with_extern_block, with_extern_crate, with_impl, with_textual, with_unnamed_const}
 use Rattle.def_parts.specs.Directories.{Directory, FoundFile, descend}
 use Rattle.def_parts.specs.ProcMacros.{NameAndHelpers}
-use Rattle.def_globs.proofs.ListLaws.{none_in, in_cases}
+use Rattle.def_globs.proofs.ListLaws.{none_in, in_cases, only_in}
 use Rattle.def_rules.specs.declared.diagnostics.DefDiagnostic.{DefDiagnostic}
-use Rattle.def_rules.specs.declared.diagnostics.DefDiagnosticKind.TheVariants.{UnimplementedBuiltinMacro, UnresolvedModule}
+use Rattle.def_rules.specs.declared.diagnostics.DefDiagnosticKind.TheVariants.{UnconfiguredCode, UnimplementedBuiltinMacro, UnresolvedExternCrate, UnresolvedModule}
+use Rattle.def_laws.specs.Depths.{LieFrom}
 use Rattle.def_laws.specs.Finished.{NoneFailed}
-use Rattle.def_laws.specs.Roles.{stays}
 use Rattle.def_laws.specs.Own.{AreOwnTasks, IsOwn, IsRecorded}
-use Rattle.def_rules.specs.Calls.{answered_effect, deeper, expansion_effect, expansion_site, expansion_tree, is_too_deep, queued, told_effect, with_invocations}
+use Rattle.def_rules.specs.Calls.{answered_effect, deeper, deepest, expansion_at, expansion_effect, expansion_site, expansion_tree, queued, told_effect, waiting, with_invocations}
 use Rattle.def_rules.specs.Crates.{tree_attrs}
 use Rattle.def_rules.specs.Globs.{Targets}
 use Rattle.def_rules.specs.Items.{ctor_task, declare, declared_effect, diagnostic, ctor_vis, is_crate_root, is_prelude_import, node_at, noted_in, new_imports, position_of, put_declared, top_items, tree_cfg, walk, written_vis}
@@ -55,7 +55,8 @@ use Rattle.def_rules.specs.Modules.{add_module, bring_if, file_tree, inline_cont
 use Rattle.def_rules.specs.ExternCrates.{crate_effect, crate_entry, crate_name, named_crate, naming_crate}
 use Rattle.def_rules.specs.Rules.{Visits, VisitsAt, VisitsNode, Rule, Follows, rule_of, declares, declares_struct, opens_module, opens_block, queues, binds_crate, notes_impl, notes_const, defines_rules, defines_macro, calls_macro}
 use Rattle.def_rules.specs.Imports.{no_namespaces}
-use Rattle.def_rules.specs.State.{State, Effect, entered, followed_by, only, ImportDirective, Site, Task, Put, reported, root, WrittenCall}
+use Rattle.def_rules.specs.State.{State, Effect, Expansion, entered, followed_by, only, ImportDirective, MacroDirective, Site, Task, Put, reported, root, with_map, with_missing, WrittenCall}
+use Rattle.def_laws.proofs.DepthsLaws.{above_deepest, deeper_is, lie_both, walk_lies}
 use Rattle.def_laws.proofs.SoundLaws.{IsLarger}
 use Rattle.def_laws.proofs.AddedLaws.{AddsNew, added_new, none_added}
 use Rattle.def_laws.proofs.CleanLaws.{IsClean, none_failed-add_module, none_failed-invoking, none_failed-showing_helpers, none_failed-taking, none_failed-with_module}
@@ -65,9 +66,16 @@ use Rattle.def_laws.proofs.PlainLaws.{ArePlain, own_walk, plain_both, plain_walk
 
 -- Footprints
 
--- what may be done in a module and leaves the table as it is: what globs were recorded with and what happened stay too, the map stays or grows, imports may join of which nothing is recorded,
--- and what is to be done next is of the map and for no glob
-pub record Footprint (s : State) (scope : ModuleId) (effect : Effect) : Type 0 where
+-- what is queued in a module, where something of this depth is done: calls of that module, one level deeper; no expansion comes or goes
+pub record QueuesAt (scope : ModuleId) (depth : ℕ) (s t : State) : Type 0 where
+  pub more : List MacroDirective
+  pub macros : t.macros ≡ s.macros ++ more
+  pub at : (d : MacroDirective) → Contains more d → (d.scope ≡ scope) × (d.depth ≡ deeper depth)
+  pub expansions : t.expansions ≡ s.expansions
+
+-- what may be done in a module, by something of this depth, and leaves the table as it is: what globs were recorded with and what happened stay too, the map stays or grows,
+-- imports may join of which nothing is recorded, and calls that wait, and what is to be done next is of the map, for no glob, and not less deep
+pub record Footprint (s : State) (scope : ModuleId) (depth : ℕ) (effect : Effect) : Type 0 where
   pub content : effect.state.content ≡ s.content
   pub targets : effect.state.targets ≡ s.targets
   pub events : effect.events ≡ []
@@ -75,15 +83,21 @@ pub record Footprint (s : State) (scope : ModuleId) (effect : Effect) : Type 0 w
   pub none_failed : NoneFailed s.map → NoneFailed effect.state.map
   pub imports : AddsNew s.imports effect.state.imports
   pub at : (d : ImportDirective) → Contains effect.state.imports d → Contains s.imports d ⊎ (d.import.scope ≡ scope)
+  pub queued : QueuesAt scope depth s effect.state
   pub tasks : (targets : Targets) → length s.map.parents ≡ length s.map.modules → IsOwn effect.state.map scope → AreOwnTasks effect.state.map targets effect.tasks
   pub plain : ArePlain effect.tasks
+  pub deep : (least : ℕ) → least ≤ depth → depth < deepest → LieFrom least effect.tasks
 
-known_footprint : (s : State) (scope : ModuleId) (effect known : Effect) → effect ≡ known → Footprint s scope known → Footprint s scope effect
-known_footprint s scope effect known same of_known = subst (λ x. Footprint s scope x) (sym same) of_known
+-- nothing is queued
+none_queued : (scope : ModuleId) (depth : ℕ) (s t : State) → t.macros ≡ s.macros → t.expansions ≡ s.expansions → QueuesAt scope depth s t
+none_queued scope depth s t macros expansions = record { more = []; macros = macros ∙ sym (append-nil s.macros); at = λ d h. absurd (none_in d h); expansions = expansions }
+
+known_footprint : (s : State) (scope : ModuleId) (depth : ℕ) (effect known : Effect) → effect ≡ known → Footprint s scope depth known → Footprint s scope depth effect
+known_footprint s scope depth effect known same of_known = subst (λ x. Footprint s scope depth x) (sym same) of_known
 
 -- nothing is done
-pub still_footprint : (s : State) (scope : ModuleId) → Footprint s scope (only s)
-still_footprint s scope =
+pub still_footprint : (s : State) (scope : ModuleId) (depth : ℕ) → Footprint s scope depth (only s)
+still_footprint s scope depth =
     record {
       content = refl;
       targets = refl;
@@ -92,25 +106,46 @@ still_footprint s scope =
       none_failed = λ none. none;
       imports = none_added s.imports;
       at = λ d h. inl h;
+      queued = none_queued scope depth s s refl refl;
       tasks = λ targets even own. tt;
       plain = tt;
+      deep = λ least low high. tt;
+    }
+
+-- what changes nothing that a footprint speaks of
+noted_still : (s t : State) (scope : ModuleId) (depth : ℕ) → t.content ≡ s.content → t.targets ≡ s.targets → t.map ≡ s.map → t.imports ≡ s.imports → t.macros ≡ s.macros → t.expansions ≡ s.expansions → Footprint s scope depth (only t)
+noted_still s t scope depth content targets map imports macros expansions =
+    record {
+      content = content;
+      targets = targets;
+      events = refl;
+      larger = subst (λ m. IsLarger s.map m) (sym map) (larger_refl s.map);
+      none_failed = λ none. subst NoneFailed (sym map) none;
+      imports = subst (λ q. AddsNew s.imports q) (sym imports) (none_added s.imports);
+      at = λ d h. inl (subst (λ q. Contains q d) imports h);
+      queued = none_queued scope depth s t macros expansions;
+      tasks = λ targets even own. tt;
+      plain = tt;
+      deep = λ least low high. tt;
     }
 
 -- a directory is stored
-pub enter_footprint : (s : State) (at : ModuleId) (directory : Directory) → Footprint s at (only (entered s at directory))
-enter_footprint s at directory =
-    let f = still_footprint s at in
-    record { content = f.content; targets = f.targets; events = f.events; larger = f.larger; none_failed = f.none_failed; imports = f.imports; at = f.at; tasks = f.tasks; plain = f.plain }
+pub enter_footprint : (s : State) (at : ModuleId) (directory : Directory) → Footprint s at 0 (only (entered s at directory))
+enter_footprint s at directory = noted_still s (entered s at directory) at 0 refl refl refl refl refl refl
 
 -- what an explicit entry is put with
 put_own : (m : MapState) (scope : ModuleId) (targets : Targets) (origin : Origin) → IsExplicit origin → IsOwn m scope → IsOwn m scope × ((g : GlobId) → origin ≡ Some (Glob g) → IsRecorded targets g)
 put_own m scope targets origin explicit own = (own, λ g by. absurd (explicit_by origin g explicit by))
 
-module _ (s : State) (scope : ModuleId) where
-  -- the map may differ, and diagnostics may join; these tasks follow
-  map_footprint : (t : State) (tasks : List Task) → t.content ≡ s.content → t.targets ≡ s.targets → t.imports ≡ s.imports → IsLarger s.map t.map → (NoneFailed s.map → NoneFailed t.map)
-      → ((targets : Targets) → IsOwn t.map scope → AreOwnTasks t.map targets tasks) → ArePlain tasks → Footprint s scope (followed_by t tasks)
-  map_footprint t tasks content targets imports larger clean own plain =
+module _ (s : State) (scope : ModuleId) (depth : ℕ) where
+  -- tasks that lie as deep as this
+  abbrev Lie : List Task → Type 0
+  Lie tasks = (least : ℕ) → least ≤ depth → depth < deepest → LieFrom least tasks
+
+  -- the map may differ, calls may be queued, and diagnostics may join; these tasks follow
+  queue_footprint : (t : State) (tasks : List Task) → t.content ≡ s.content → t.targets ≡ s.targets → t.imports ≡ s.imports → QueuesAt scope depth s t → IsLarger s.map t.map → (NoneFailed s.map → NoneFailed t.map)
+      → ((targets : Targets) → IsOwn t.map scope → AreOwnTasks t.map targets tasks) → ArePlain tasks → Lie tasks → Footprint s scope depth (followed_by t tasks)
+  queue_footprint t tasks content targets imports queued larger clean own plain deep =
       record {
         content = content;
         targets = targets;
@@ -119,22 +154,30 @@ module _ (s : State) (scope : ModuleId) where
         none_failed = clean;
         imports = subst (λ q. AddsNew s.imports q) (sym imports) (none_added s.imports);
         at = λ d h. inl (subst (λ q. Contains q d) imports h);
+        queued = queued;
         tasks = λ targets even own_scope. own targets own_scope;
         plain = plain;
+        deep = deep;
       }
+
+  -- the same, where no call is queued
+  pub map_footprint : (t : State) (tasks : List Task) → t.content ≡ s.content → t.targets ≡ s.targets → t.imports ≡ s.imports → t.macros ≡ s.macros → t.expansions ≡ s.expansions → IsLarger s.map t.map → (NoneFailed s.map → NoneFailed t.map)
+      → ((targets : Targets) → IsOwn t.map scope → AreOwnTasks t.map targets tasks) → ArePlain tasks → Lie tasks → Footprint s scope depth (followed_by t tasks)
+  map_footprint t tasks content targets imports macros expansions larger clean own plain deep =
+      queue_footprint t tasks content targets imports (none_queued scope depth s t macros expansions) larger clean own plain deep
 
   -- a module's data change, its failed names do not, and these tasks follow
   noted_footprint : (f : ModuleState → ModuleState) → ((d : ModuleState) → IsClean d → IsClean (f d)) → (tasks : List Task)
-      → ((targets : Targets) → IsOwn (noted_in s scope f).map scope → AreOwnTasks (noted_in s scope f).map targets tasks) → ArePlain tasks → Footprint s scope (followed_by (noted_in s scope f) tasks)
-  noted_footprint f clean tasks own plain =
-      map_footprint (noted_in s scope f) tasks refl refl refl (larger_with_module s.map scope.index f) (λ none. none_failed-with_module s.map scope.index f clean none) own plain
+      → ((targets : Targets) → IsOwn (noted_in s scope f).map scope → AreOwnTasks (noted_in s scope f).map targets tasks) → ArePlain tasks → Lie tasks → Footprint s scope depth (followed_by (noted_in s scope f) tasks)
+  noted_footprint f clean tasks own plain deep =
+      map_footprint (noted_in s scope f) tasks refl refl refl refl refl (larger_with_module s.map scope.index f) (λ none. none_failed-with_module s.map scope.index f clean none) own plain deep
 
   -- a module is added, in a state with the same map
-  added_footprint : (r : State) (name : Name) (vis : Visibility) (o : ModuleOrigin) (contents : List Task) → r.content ≡ s.content → r.targets ≡ s.targets → r.imports ≡ s.imports → r.map ≡ s.map
+  added_footprint : (r : State) (name : Name) (vis : Visibility) (o : ModuleOrigin) (contents : List Task) → r.content ≡ s.content → r.targets ≡ s.targets → r.imports ≡ s.imports → r.macros ≡ s.macros → r.expansions ≡ s.expansions → r.map ≡ s.map
       → ((targets : Targets) → IsOwn (add_module r scope name vis o).map scope → IsOwn (add_module r scope name vis o).map (next_module r) → AreOwnTasks (add_module r scope name vis o).map targets contents)
-      → ArePlain contents
-      → Footprint s scope (followed_by (add_module r scope name vis o) (put_declared scope name Types (def.Module (next_module r)) vis ∷ contents))
-  added_footprint r name vis o contents content targets imports map own plain =
+      → ArePlain contents → Lie contents
+      → Footprint s scope depth (followed_by (add_module r scope name vis o) (put_declared scope name Types (def.Module (next_module r)) vis ∷ contents))
+  added_footprint r name vis o contents content targets imports macros expansions map own plain deep =
       record {
         content = content;
         targets = targets;
@@ -143,13 +186,15 @@ module _ (s : State) (scope : ModuleId) where
         none_failed = λ none. none_failed-add_module r scope name vis o (subst NoneFailed (sym map) none);
         imports = subst (λ q. AddsNew s.imports q) (sym imports) (none_added s.imports);
         at = λ d h. inl (subst (λ q. Contains q d) imports h);
+        queued = none_queued scope depth s (add_module r scope name vis o) macros expansions;
         tasks = λ targets even at. (put_own (add_module r scope name vis o).map scope targets None refl at, own targets at (own_next r scope name vis o (subst (λ (m : MapState). length m.parents ≡ length m.modules) (sym map) even)));
         plain = (refl, plain);
+        deep = λ least low high. (tt, deep least low high);
       }
 
 -- the textual macros of a module are brought into another
-pub bring_footprint : (s : State) (from into : ModuleId) → Footprint s into (only (noted_in s into (brought (textual_at s.map from.index))))
-bring_footprint s from into = noted_footprint s into (brought (textual_at s.map from.index)) (λ d h. h) [] (λ targets own. tt) tt
+pub bring_footprint : (s : State) (from into : ModuleId) → Footprint s into 0 (only (noted_in s into (brought (textual_at s.map from.index))))
+bring_footprint s from into = noted_footprint s into 0 (brought (textual_at s.map from.index)) (λ d h. h) [] (λ targets own. tt) tt (λ least low high. tt)
 
 -- what is done behind the contents of a module
 bring_own : (m : MapState) (targets : Targets) (brings : Bool) (from into : ModuleId) → IsOwn m into → AreOwnTasks m targets (bring_if brings from into)
@@ -160,12 +205,14 @@ bring_plain : (brings : Bool) (from into : ModuleId) → ArePlain (bring_if brin
 bring_plain true from into = (tt, tt)
 bring_plain false from into = tt
 
+bring_lies : (least : ℕ) (brings : Bool) (from into : ModuleId) → LieFrom least (bring_if brings from into)
+bring_lies least true from into = (tt, tt)
+bring_lies least false from into = tt
+
 -- Rules
 
-found_footprint : (oracle : Oracle) (s : State) (site : Site) (item : ItemNode) (name : Name) (vis : Visibility) (found : FoundFile) (cfg : Option CfgExpr) → Footprint s site.scope (outline_found oracle s site item name vis found cfg)
-found_footprint oracle s site item name vis found (Some cfg) =
-    let f = still_footprint s site.scope in
-    record { content = f.content; targets = f.targets; events = f.events; larger = f.larger; none_failed = f.none_failed; imports = f.imports; at = f.at; tasks = f.tasks; plain = f.plain }
+found_footprint : (oracle : Oracle) (s : State) (site : Site) (item : ItemNode) (name : Name) (vis : Visibility) (found : FoundFile) (cfg : Option CfgExpr) → Footprint s site.scope site.depth (outline_found oracle s site item name vis found cfg)
+found_footprint oracle s site item name vis found (Some cfg) = noted_still s (reported s (diagnostic site item (UnconfiguredCode cfg))) site.scope site.depth refl refl refl refl refl refl
 found_footprint oracle s site item name vis found None =
     let o : ModuleOrigin = origin.File item.ast_id site.tree found.0 found.1 in
     let inner : Site = inner_site s site (file_tree found) found.2 in
@@ -173,14 +220,45 @@ found_footprint oracle s site item name vis found None =
     let brings : Bool = is_macro_use (attrs_of item.attrs) || is_macro_use (tree_attrs oracle (file_tree found)) in
     let last : List Task = bring_if brings (next_module s) site.scope in
     let m : MapState = (add_module s site.scope name vis o).map in
-    added_footprint s site.scope s name vis o (first ++ last) refl refl refl refl
+    added_footprint s site.scope site.depth s name vis o (first ++ last) refl refl refl refl refl refl
     (λ targets at own. own_both m targets first last (own_walk oracle m targets inner (top_items oracle (file_tree found)) own) (bring_own m targets brings (next_module s) site.scope at))
     (plain_both first last (plain_walk oracle inner (top_items oracle (file_tree found))) (bring_plain brings (next_module s) site.scope))
+    (λ least low high. lie_both least first last (walk_lies oracle least inner (top_items oracle (file_tree found)) low high) (bring_lies least brings (next_module s) site.scope))
 
-outline_footprint : (oracle : Oracle) (s : State) (site : Site) (item : ItemNode) (name : Name) (vis : Visibility) (found : Result FoundFile (List (List ℕ))) → Footprint s site.scope (outline_item oracle s site item name vis found)
+outline_footprint : (oracle : Oracle) (s : State) (site : Site) (item : ItemNode) (name : Name) (vis : Visibility) (found : Result FoundFile (List (List ℕ))) → Footprint s site.scope site.depth (outline_item oracle s site item name vis found)
 outline_footprint oracle s site item name vis (Ok found) = found_footprint oracle s site item name vis found (tree_cfg oracle (file_tree found))
 outline_footprint oracle s site item name vis (Err files) =
-    added_footprint s site.scope (reported s (diagnostic site item (UnresolvedModule files))) name vis _ [] refl refl refl refl (λ targets at own. tt) tt
+    added_footprint s site.scope site.depth (reported s (diagnostic site item (UnresolvedModule files))) name vis _ [] refl refl refl refl refl refl (λ targets at own. tt) tt (λ least low high. tt)
+
+-- a call is queued where it stands, also in a state with another map
+one_queued : (s : State) (site : Site) (item : ItemNode) (written : WrittenCall) (m : MapState) → QueuesAt site.scope site.depth s (queued (with_map s m) site item written)
+one_queued s site item written m = record {
+  more = waiting site item written ∷ [];
+  macros = refl;
+  at = λ d h. let is = only_in (waiting site item written) d h in (ap (λ (x : MacroDirective). x.scope) is, ap (λ (x : MacroDirective). x.depth) is);
+  expansions = refl;
+}
+
+-- an expansion is walked, or dropped
+pub expanded_footprint : (oracle : Oracle) (s : State) (scope : ModuleId) (depth : ℕ) (t : State) (e : Expansion) → e.scope ≡ scope → t.content ≡ s.content → t.targets ≡ s.targets → t.imports ≡ s.imports → t.macros ≡ s.macros → t.expansions ≡ s.expansions
+    → IsLarger s.map t.map → (NoneFailed s.map → NoneFailed t.map)
+    → ((least : ℕ) → least ≤ depth → depth < deepest → nat_eq e.depth deepest ≡ false → (least ≤ e.depth) × (e.depth < deepest))
+    → Footprint s scope depth (expansion_effect oracle t e)
+expanded_footprint oracle s scope depth t e here content targets imports macros expansions larger clean lies = by (nat_lt (limit_of t.map.krate) e.depth) (nat_eq e.depth deepest) refl
+  where
+    inner : Site
+    inner = expansion_site oracle t e
+
+    ids : List ModItemId
+    ids = top_items oracle (expansion_tree e.call)
+
+    by : (over last : Bool) → nat_eq e.depth deepest ≡ last → Footprint s scope depth (cond (over || last) (only t) (followed_by t (walk oracle inner ids)))
+    by true last is = map_footprint s scope depth t [] content targets imports macros expansions larger clean (λ targets own. tt) tt (λ least low high. tt)
+    by false true is = map_footprint s scope depth t [] content targets imports macros expansions larger clean (λ targets own. tt) tt (λ least low high. tt)
+    by false false is =
+        map_footprint s scope depth t (walk oracle inner ids) content targets imports macros expansions larger clean
+        (λ targets own. own_walk oracle t.map targets inner ids (subst (λ at. IsOwn t.map at) (sym here) own)) (plain_walk oracle inner ids)
+        (λ least low high. let deep = lies least low high is in walk_lies oracle least inner ids deep.0 deep.1)
 
 module _ (oracle : Oracle) (s : State) (site : Site) where
   inline_own : (r : MapState) (brings : Bool) (children : List ModItemId) (directory : Option Directory) (targets : Targets) → IsOwn r site.scope → IsOwn r (next_module s)
@@ -194,14 +272,19 @@ module _ (oracle : Oracle) (s : State) (site : Site) where
   inline_plain brings children (Some directory) =
       plain_both (walk oracle (inner_site s site site.tree directory) children) _ (plain_walk oracle (inner_site s site site.tree directory) children) (bring_plain brings (next_module s) site.scope)
 
+  inline_lies : (brings : Bool) (children : List ModItemId) (directory : Option Directory) (least : ℕ) → least ≤ site.depth → site.depth < deepest → LieFrom least (inline_contents oracle s site brings children directory)
+  inline_lies brings children None least low high = tt
+  inline_lies brings children (Some directory) least low high =
+      lie_both least (walk oracle (inner_site s site site.tree directory) children) _ (walk_lies oracle least (inner_site s site site.tree directory) children low high) (bring_lies least brings (next_module s) site.scope)
+
   module _ (item : ItemNode) where
-    contents_footprint : (name : Name) (vis : Visibility) (contents : ModContents) → Footprint s site.scope (module_item oracle s site item name vis contents)
+    contents_footprint : (name : Name) (vis : Visibility) (contents : ModContents) → Footprint s site.scope site.depth (module_item oracle s site item name vis contents)
     contents_footprint name vis (Inline children) =
         let o : ModuleOrigin = origin.Inline item.ast_id site.tree in
         let below : Option Directory = descend site.directory (name_text s.session name) (path_attr item.attrs) in
         let brings : Bool = is_macro_use (attrs_of item.attrs) in
-        added_footprint s site.scope s name vis o (inline_contents oracle s site brings children below) refl refl refl refl
-        (λ targets at own. inline_own (add_module s site.scope name vis o).map brings children below targets at own) (inline_plain brings children below)
+        added_footprint s site.scope site.depth s name vis o (inline_contents oracle s site brings children below) refl refl refl refl refl refl
+        (λ targets at own. inline_own (add_module s site.scope name vis o).map brings children below targets at own) (inline_plain brings children below) (inline_lies brings children below)
     contents_footprint name vis Outline = outline_footprint oracle s site item name vis _
 
     ctor_own : (m : MapState) (targets : Targets) (name : Name) (d : Def) (vis : Visibility) (ctor : Option Visibility) → IsOwn m site.scope → AreOwnTasks m targets (ctor_task s site.scope name d vis ctor)
@@ -212,6 +295,10 @@ module _ (oracle : Oracle) (s : State) (site : Site) where
     ctor_plain name d vis None = tt
     ctor_plain name d vis (Some ctor) = (refl, tt)
 
+    ctor_lies : (least : ℕ) (name : Name) (d : Def) (vis : Visibility) (ctor : Option Visibility) → LieFrom least (ctor_task s site.scope name d vis ctor)
+    ctor_lies least name d vis None = tt
+    ctor_lies least name d vis (Some ctor) = (tt, tt)
+
     new_at : (id : UseId) (raw : RawVisibility) (imports : List UseImport) (d : ImportDirective) → Contains (new_imports site item id raw imports) d → d.import.scope ≡ site.scope
     new_at id raw [] d h = absurd (none_in d h)
     new_at id raw (x ∷ xs) d h =
@@ -221,15 +308,21 @@ module _ (oracle : Oracle) (s : State) (site : Site) where
         ]
 
     -- an extern crate is put by its name, or its name is remembered
-    crate_footprint : (id : ExternCrateId) (name : Option Name) (vis : Visibility) (taken : List (Name × MacroId)) (found : Option ModuleId) → Footprint s site.scope (crate_effect (noted_in s site.scope (with_extern_crate id)) site item id name vis taken found)
-    crate_footprint id None vis taken None = same_footprint (noted_footprint s site.scope (with_extern_crate id) (λ d h. h) [] (λ targets own. tt) tt)
+    crate_footprint : (id : ExternCrateId) (name : Option Name) (vis : Visibility) (taken : List (Name × MacroId)) (found : Option ModuleId) → Footprint s site.scope site.depth (crate_effect (noted_in s site.scope (with_extern_crate id)) site item id name vis taken found)
+    crate_footprint id name vis taken None = unknown name
       where
-        same_footprint : Footprint s site.scope (only (noted_in s site.scope (with_extern_crate id))) → Footprint s site.scope (crate_effect (noted_in s site.scope (with_extern_crate id)) site item id None vis taken None)
-        same_footprint f = record { content = f.content; targets = f.targets; events = f.events; larger = f.larger; none_failed = f.none_failed; imports = f.imports; at = f.at; tasks = f.tasks; plain = f.plain }
-    crate_footprint id (Some name) vis taken None = same_footprint (noted_footprint s site.scope (with_extern_crate id) (λ d h. h) [] (λ targets own. tt) tt)
-      where
-        same_footprint : Footprint s site.scope (only (noted_in s site.scope (with_extern_crate id))) → Footprint s site.scope (crate_effect (noted_in s site.scope (with_extern_crate id)) site item id (Some name) vis taken None)
-        same_footprint f = record { content = f.content; targets = f.targets; events = f.events; larger = f.larger; none_failed = f.none_failed; imports = f.imports; at = f.at; tasks = f.tasks; plain = f.plain }
+        t : State
+        t = noted_in s site.scope (with_extern_crate id)
+
+        larger : IsLarger s.map t.map
+        larger = larger_with_module s.map site.scope.index (with_extern_crate id)
+
+        clean : NoneFailed s.map → NoneFailed t.map
+        clean none = none_failed-with_module s.map site.scope.index (with_extern_crate id) (λ d h. h) none
+
+        unknown : (n : Option Name) → Footprint s site.scope site.depth (crate_effect t site item id n vis taken None)
+        unknown None = map_footprint s site.scope site.depth (reported (with_missing None t) (diagnostic site item UnresolvedExternCrate)) [] refl refl refl refl refl larger clean (λ targets own. tt) tt (λ least low high. tt)
+        unknown (Some n) = map_footprint s site.scope site.depth (reported (with_missing (Some n) t) (diagnostic site item UnresolvedExternCrate)) [] refl refl refl refl refl larger clean (λ targets own. tt) tt (λ least low high. tt)
     crate_footprint id name vis taken (Some root) = named (is_crate_root site.scope)
       where
         t : State
@@ -238,15 +331,15 @@ module _ (oracle : Oracle) (s : State) (site : Site) where
         put : List Task
         put = Put site.scope (crate_entry id name root vis) ∷ []
 
-        f : Footprint s site.scope (followed_by t put)
-        f = noted_footprint s site.scope (with_extern_crate id) (λ d h. h) put (λ targets own. (put_own t.map site.scope targets (Some (ByCrate id)) refl own, tt)) (refl, tt)
+        f : Footprint s site.scope site.depth (followed_by t put)
+        f = noted_footprint s site.scope site.depth (with_extern_crate id) (λ d h. h) put (λ targets own. (put_own t.map site.scope targets (Some (ByCrate id)) refl own, tt)) (refl, tt) (λ least low high. (tt, tt))
 
-        named : (is : Bool) → Footprint s site.scope (followed_by (taking_macros is taken (naming_crate is name (record { root = root; by = Some id }) t)) put)
+        named : (is : Bool) → Footprint s site.scope site.depth (followed_by (taking_macros is taken (naming_crate is name (record { root = root; by = Some id }) t)) put)
         named false = f
         named true =
             let u : State = taking_macros true taken (naming_crate true name (record { root = root; by = Some id }) t) in
-            map_footprint s site.scope u put refl refl refl (larger_trans s.map t.map u.map f.larger (larger_taking taken t.map)) (λ none. none_failed-taking taken t.map (f.none_failed none))
-            (λ targets own. (put_own u.map site.scope targets (Some (ByCrate id)) refl own, tt)) (refl, tt)
+            map_footprint s site.scope site.depth u put refl refl refl refl refl (larger_trans s.map t.map u.map f.larger (larger_taking taken t.map)) (λ none. none_failed-taking taken t.map (f.none_failed none))
+            (λ targets own. (put_own u.map site.scope targets (Some (ByCrate id)) refl own, tt)) (refl, tt) (λ least low high. (tt, tt))
 
     -- a macro that is no builtin after all is reported
     told_is : (expander : MacroExpander) → (told : List DefDiagnostic) × (unimplemented_reported s site item expander ≡ record s { diagnostics = told })
@@ -259,7 +352,7 @@ module _ (oracle : Oracle) (s : State) (site : Site) where
 
     module _ (id : MacroId) where
       -- a macro by rules is defined, and declared in the root where it is exported
-      export_footprint : (name : Name) (told : List DefDiagnostic) (exported : Bool) → Footprint s site.scope (export_effect (textual_state (record s { diagnostics = told }) site item name id) exported name id)
+      export_footprint : (name : Name) (told : List DefDiagnostic) (exported : Bool) → Footprint s site.scope site.depth (export_effect (textual_state (record s { diagnostics = told }) site item name id) exported name id)
       export_footprint name told exported = by exported
         where
           t : State
@@ -274,44 +367,30 @@ module _ (oracle : Oracle) (s : State) (site : Site) where
           clean : NoneFailed s.map → NoneFailed t.map
           clean none = none_failed-with_module s.map site.scope.index (with_textual name id) (λ d h. h) none
 
-          by : (is : Bool) → Footprint s site.scope (export_effect t is name id)
-          by false = map_footprint s site.scope t [] refl refl refl larger clean (λ targets own. tt) tt
+          by : (is : Bool) → Footprint s site.scope site.depth (export_effect t is name id)
+          by false = map_footprint s site.scope site.depth t [] refl refl refl refl refl larger clean (λ targets own. tt) tt (λ least low high. tt)
           by true =
               let u : State = declare t (root t.map) (def.Macro id) in
-              map_footprint s site.scope u (put_declared (root t.map) name Macros (def.Macro id) Public ∷ []) refl refl refl
+              map_footprint s site.scope site.depth u (put_declared (root t.map) name Macros (def.Macro id) Public ∷ []) refl refl refl refl refl
               (larger_trans s.map t.map u.map larger (larger_with_module t.map 0 (declared_in (def.Macro id)))) (λ none. none_failed-with_module t.map 0 (declared_in (def.Macro id)) (λ d h. h) (clean none))
-              (λ targets own. (put_own u.map (root t.map) targets None refl (own_root u.map site.scope own), tt)) (refl, tt)
+              (λ targets own. (put_own u.map (root t.map) targets None refl (own_root u.map site.scope own), tt)) (refl, tt) (λ least low high. (tt, tt))
 
       -- a `macro` item is defined and declared
       item_footprint : (name : Name) (vis : Visibility) (expander : MacroExpander) (told : List DefDiagnostic)
-          → Footprint s site.scope (declared_effect (item_state (record s { diagnostics = told }) site item expander id) site.scope name Macros (def.Macro id) vis)
+          → Footprint s site.scope site.depth (declared_effect (item_state (record s { diagnostics = told }) site item expander id) site.scope name Macros (def.Macro id) vis)
       item_footprint name vis expander told =
           let in_block : Bool = is_some s.map.id.block in
           let read : Option NameAndHelpers = listed_helpers item expander in
           let shown : MapState = showing_helpers in_block id read s.map in
           let t : State = item_state (record s { diagnostics = told }) site item expander id in
           let u : State = declare t site.scope (def.Macro id) in
-          map_footprint s site.scope u (put_declared site.scope name Macros (def.Macro id) vis ∷ []) refl refl refl
+          map_footprint s site.scope site.depth u (put_declared site.scope name Macros (def.Macro id) vis ∷ []) refl refl refl refl refl
           (larger_trans s.map t.map u.map (larger_trans s.map shown t.map (larger_showing in_block id read s.map) (larger_same shown t.map refl refl refl refl)) (larger_with_module t.map site.scope.index (declared_in (def.Macro id))))
           (λ none. none_failed-with_module t.map site.scope.index (declared_in (def.Macro id)) (λ d h. h) (none_failed-showing_helpers in_block id read s.map none))
-          (λ targets own. (put_own u.map site.scope targets None refl own, tt)) (refl, tt)
-
-    -- an expansion is walked, or dropped
-    expanded_footprint : (t : State) (call : MacroCallId) → t.content ≡ s.content → t.targets ≡ s.targets → t.imports ≡ s.imports → IsLarger s.map t.map → (NoneFailed s.map → NoneFailed t.map) → Footprint s site.scope (expansion_effect oracle t site call)
-    expanded_footprint t call content targets imports larger clean = by (is_too_deep t.map (deeper site.depth))
-      where
-        inner : Site
-        inner = expansion_site oracle t site call
-
-        ids : List ModItemId
-        ids = top_items oracle (expansion_tree call)
-
-        by : (dropped : Bool) → Footprint s site.scope (cond dropped (only t) (followed_by t (walk oracle inner ids)))
-        by true = map_footprint s site.scope t [] content targets imports larger clean (λ targets own. tt) tt
-        by false = map_footprint s site.scope t (walk oracle inner ids) content targets imports larger clean (λ targets own. own_walk oracle t.map targets inner ids own) (plain_walk oracle inner ids)
+          (λ targets own. (put_own u.map site.scope targets None refl own, tt)) (refl, tt) (λ least low high. (tt, tt))
 
     -- a call is answered
-    told_footprint : (written : WrittenCall) (inner : List (InFile FileAstId × MacroCallId)) (value : Option MacroCallId) (error : Option ℕ) → Footprint s site.scope (told_effect oracle (with_invocations s site.scope inner) site item written value error)
+    told_footprint : (written : WrittenCall) (inner : List (InFile FileAstId × MacroCallId)) (value : Option MacroCallId) (error : Option ℕ) → Footprint s site.scope site.depth (told_effect oracle (with_invocations s site.scope inner) site item written value error)
     told_footprint written inner value error = by value error
       where
         t : State
@@ -323,42 +402,50 @@ module _ (oracle : Oracle) (s : State) (site : Site) where
         clean : NoneFailed s.map → NoneFailed t.map
         clean none = none_failed-invoking site.scope.index inner s.map none
 
-        by : (value : Option MacroCallId) (error : Option ℕ) → Footprint s site.scope (told_effect oracle t site item written value error)
-        by value (Some error) = map_footprint s site.scope (queued t site item written) [] refl refl refl larger clean (λ targets own. tt) tt
-        by None None = map_footprint s site.scope t [] refl refl refl larger clean (λ targets own. tt) tt
+        by : (value : Option MacroCallId) (error : Option ℕ) → Footprint s site.scope site.depth (told_effect oracle t site item written value error)
+        by value (Some error) = queue_footprint s site.scope site.depth (queued t site item written) [] refl refl refl (one_queued s site item written t.map) larger clean (λ targets own. tt) tt (λ least low high. tt)
+        by None None = map_footprint s site.scope site.depth t [] refl refl refl refl refl larger clean (λ targets own. tt) tt (λ least low high. tt)
         by (Some call) None =
             let made : List (InFile FileAstId × MacroCallId) = (position_of site item, call) ∷ [] in
             let u : State = with_invocations t site.scope made in
-            expanded_footprint u call refl refl refl (larger_trans s.map t.map u.map larger (larger_invoking site.scope.index made t.map)) (λ none. none_failed-invoking site.scope.index made t.map (clean none))
+            expanded_footprint oracle s site.scope site.depth u (expansion_at site call) refl refl refl refl refl refl
+            (larger_trans s.map t.map u.map larger (larger_invoking site.scope.index made t.map)) (λ none. none_failed-invoking site.scope.index made t.map (clean none))
+            (λ least low high not_last. expansion_lies least low high not_last)
+          where
+            expansion_lies : (least : ℕ) → least ≤ site.depth → site.depth < deepest → nat_eq (deeper site.depth) deepest ≡ false → (least ≤ deeper site.depth) × (deeper site.depth < deepest)
+            expansion_lies least low high other =
+                let next = deeper_is site.depth high in
+                (omega (arith, low, next), above_deepest (deeper site.depth) (omega (arith, high, next)) other)
 
-    answered_footprint : (written : WrittenCall) (answer : Result CallAnswer UnresolvedMacro) → Footprint s site.scope (answered_effect oracle s site item written answer)
+    answered_footprint : (written : WrittenCall) (answer : Result CallAnswer UnresolvedMacro) → Footprint s site.scope site.depth (answered_effect oracle s site item written answer)
     answered_footprint written (Ok answer) = told_footprint written answer.inner answer.value answer.err
-    answered_footprint written (Err e) = map_footprint s site.scope (queued s site item written) [] refl refl refl (larger_refl s.map) (λ none. none) (λ targets own. tt) tt
+    answered_footprint written (Err e) = queue_footprint s site.scope site.depth (queued s site item written) [] refl refl refl (one_queued s site item written s.map) (larger_refl s.map) (λ none. none) (λ targets own. tt) tt (λ least low high. tt)
 
     -- what each rule does
-    follows_footprint : (rule : Rule) (effect : Effect) → Follows oracle s site item rule effect → Footprint s site.scope effect
+    follows_footprint : (rule : Rule) (effect : Effect) → Follows oracle s site item rule effect → Footprint s site.scope site.depth effect
     follows_footprint (declares kind d ns name raw) effect does =
         let f : ModuleState → ModuleState = declared_in (d does.0) in
-        known_footprint s site.scope effect _ does.2
-        (noted_footprint s site.scope f (λ e h. h) (put_declared site.scope name ns (d does.0) (written_vis oracle s site.scope raw) ∷ []) (λ targets own. (put_own (noted_in s site.scope f).map site.scope targets None refl own, tt)) (refl, tt))
+        known_footprint s site.scope site.depth effect _ does.2
+        (noted_footprint s site.scope site.depth f (λ e h. h) (put_declared site.scope name ns (d does.0) (written_vis oracle s site.scope raw) ∷ []) (λ targets own. (put_own (noted_in s site.scope f).map site.scope targets None refl own, tt)) (refl, tt) (λ least low high. (tt, tt)))
     follows_footprint (declares_struct name raw ctor) effect does =
         let d : Def = def.Struct (record { 0 = does.0 }) in
         let vis : Visibility = written_vis oracle s site.scope raw in
         let made : Option Visibility = ctor_vis oracle s site.scope ctor in
         let m : MapState = (noted_in s site.scope (declared_in d)).map in
-        known_footprint s site.scope effect _ does.2
-        (noted_footprint s site.scope (declared_in d) (λ e h. h) (put_declared site.scope name Types d vis ∷ ctor_task s site.scope name d vis made)
-        (λ targets own. (put_own m site.scope targets None refl own, ctor_own m targets name d vis made own)) (refl, ctor_plain name d vis made))
-    follows_footprint (opens_module name raw contents) effect does = known_footprint s site.scope effect _ does (contents_footprint name _ contents)
+        known_footprint s site.scope site.depth effect _ does.2
+        (noted_footprint s site.scope site.depth (declared_in d) (λ e h. h) (put_declared site.scope name Types d vis ∷ ctor_task s site.scope name d vis made)
+        (λ targets own. (put_own m site.scope targets None refl own, ctor_own m targets name d vis made own)) (refl, ctor_plain name d vis made) (λ least low high. (tt, ctor_lies least name d vis made)))
+    follows_footprint (opens_module name raw contents) effect does = known_footprint s site.scope site.depth effect _ does (contents_footprint name _ contents)
     follows_footprint (opens_block children) effect does =
         let inner : Site = record site { container = contained.ExternBlock (record { 0 = does.0 }) } in
         let f : ModuleState → ModuleState = with_extern_block (record { 0 = does.0 }) in
-        known_footprint s site.scope effect _ does.2
-        (noted_footprint s site.scope f (λ d h. h) (walk oracle inner children) (λ targets own. own_walk oracle (noted_in s site.scope f).map targets inner children own) (plain_walk oracle inner children))
+        known_footprint s site.scope site.depth effect _ does.2
+        (noted_footprint s site.scope site.depth f (λ d h. h) (walk oracle inner children) (λ targets own. own_walk oracle (noted_in s site.scope f).map targets inner children own) (plain_walk oracle inner children)
+        (λ least low high. walk_lies oracle least inner children low high))
     follows_footprint (queues raw imports) effect does =
         let id : UseId = record { 0 = does.0 } in
-        let f = still_footprint s site.scope in
-        known_footprint s site.scope effect _ does.2
+        let f = still_footprint s site.scope site.depth in
+        known_footprint s site.scope site.depth effect _ does.2
         (record {
           content = f.content;
           targets = f.targets;
@@ -367,42 +454,55 @@ module _ (oracle : Oracle) (s : State) (site : Site) where
           none_failed = f.none_failed;
           imports = added_new s.imports site item id raw imports;
           at = λ p h. elim (Contains-append_cases s.imports (new_imports site item id raw imports) p h) [ inl old ↦ inl old | inr new ↦ inr (new_at id raw imports p new) ];
+          queued = none_queued site.scope site.depth s (record s { imports = s.imports ++ new_imports site item id raw imports }) refl refl;
           tasks = f.tasks;
           plain = f.plain;
+          deep = f.deep;
         })
-    follows_footprint (binds_crate name raw alias) effect does = known_footprint s site.scope effect _ does.2
+    follows_footprint (binds_crate name raw alias) effect does = known_footprint s site.scope site.depth effect _ does.2
         (crate_footprint (record { 0 = does.0 }) (crate_name name alias) (written_vis oracle s site.scope raw) (macros_brought oracle s item name (named_crate s name)) (named_crate s name))
     follows_footprint (notes_impl of_trait) effect does =
-        known_footprint s site.scope effect _ does.2 (noted_footprint s site.scope (with_impl (record { 0 = does.0 }) of_trait) (λ d h. h) [] (λ targets own. tt) tt)
+        known_footprint s site.scope site.depth effect _ does.2 (noted_footprint s site.scope site.depth (with_impl (record { 0 = does.0 }) of_trait) (λ d h. h) [] (λ targets own. tt) tt (λ least low high. tt))
     follows_footprint notes_const effect does =
-        known_footprint s site.scope effect _ does.2 (noted_footprint s site.scope (with_unnamed_const (record { 0 = does.0 })) (λ d h. h) [] (λ targets own. tt) tt)
+        known_footprint s site.scope site.depth effect _ does.2 (noted_footprint s site.scope site.depth (with_unnamed_const (record { 0 = does.0 })) (λ d h. h) [] (λ targets own. tt) tt (λ least low high. tt))
     follows_footprint (defines_rules name) effect does =
         let defined : MacroId = macro_of.MacroRules (record { 0 = does.0 }) in
         let exported : Bool = has_attr macro_export_name (attrs_of item.attrs) in
         let told = told_is (rules_expander oracle s.map.id.krate site item does.1) in
-        known_footprint s site.scope effect _ does.4
-        (subst (λ t. Footprint s site.scope (export_effect (textual_state t site item name defined) exported name defined)) (sym told.1) (export_footprint defined name told.0 exported))
+        known_footprint s site.scope site.depth effect _ does.4
+        (subst (λ t. Footprint s site.scope site.depth (export_effect (textual_state t site item name defined) exported name defined)) (sym told.1) (export_footprint defined name told.0 exported))
     follows_footprint (defines_macro name raw) effect does =
         let defined : MacroId = macro_of.Macro2 (record { 0 = does.0 }) in
         let expander : MacroExpander = item_expander oracle s.map.id.krate site item name in
         let vis : Visibility = written_vis oracle s site.scope raw in
         let told = told_is expander in
-        known_footprint s site.scope effect _ does.2
-        (subst (λ t. Footprint s site.scope (declared_effect (item_state t site item expander defined) site.scope name Macros (def.Macro defined) vis)) (sym told.1) (item_footprint defined name vis expander told.0))
-    follows_footprint (calls_macro written) effect does = known_footprint s site.scope effect _ does (answered_footprint written _)
+        known_footprint s site.scope site.depth effect _ does.2
+        (subst (λ t. Footprint s site.scope site.depth (declared_effect (item_state t site item expander defined) site.scope name Macros (def.Macro defined) vis)) (sym told.1) (item_footprint defined name vis expander told.0))
+    follows_footprint (calls_macro written) effect does = known_footprint s site.scope site.depth effect _ does (answered_footprint written _)
 
-node_footprint : (oracle : Oracle) (s : State) (site : Site) (id : ModItemId) (item : ItemNode) (cfg : Option CfgExpr) (effect : Effect) → VisitsNode oracle s site id item cfg effect → Footprint s site.scope effect
+node_footprint : (oracle : Oracle) (s : State) (site : Site) (id : ModItemId) (item : ItemNode) (cfg : Option CfgExpr) (effect : Effect) → VisitsNode oracle s site id item cfg effect → Footprint s site.scope site.depth effect
 node_footprint oracle s site id item (Some cfg) effect does =
-    let f = still_footprint s site.scope in
-    known_footprint s site.scope effect _ does (record { content = f.content; targets = f.targets; events = f.events; larger = f.larger; none_failed = f.none_failed; imports = f.imports; at = f.at; tasks = f.tasks; plain = f.plain })
+    known_footprint s site.scope site.depth effect _ does (noted_still s (reported s (diagnostic site item (UnconfiguredCode cfg))) site.scope site.depth refl refl refl refl refl refl)
 node_footprint oracle s site id item None effect does =
     let f = follows_footprint oracle (record s { session = does.0 }) site item (rule_of item.kind) effect does.2 in
-    record { content = f.content; targets = f.targets; events = f.events; larger = f.larger; none_failed = f.none_failed; imports = f.imports; at = f.at; tasks = f.tasks; plain = f.plain }
+    record {
+      content = f.content;
+      targets = f.targets;
+      events = f.events;
+      larger = f.larger;
+      none_failed = f.none_failed;
+      imports = f.imports;
+      at = f.at;
+      queued = record { more = f.queued.more; macros = f.queued.macros; at = f.queued.at; expansions = f.queued.expansions };
+      tasks = f.tasks;
+      plain = f.plain;
+      deep = f.deep;
+    }
 
-at_footprint : (oracle : Oracle) (s : State) (site : Site) (id : ModItemId) (item : Option ItemNode) (effect : Effect) → VisitsAt oracle s site id item effect → Footprint s site.scope effect
-at_footprint oracle s site id None effect does = known_footprint s site.scope effect _ does (still_footprint s site.scope)
+at_footprint : (oracle : Oracle) (s : State) (site : Site) (id : ModItemId) (item : Option ItemNode) (effect : Effect) → VisitsAt oracle s site id item effect → Footprint s site.scope site.depth effect
+at_footprint oracle s site id None effect does = known_footprint s site.scope site.depth effect _ does (still_footprint s site.scope site.depth)
 at_footprint oracle s site id (Some item) effect does = node_footprint oracle s site id item (disabled_by item.attrs) effect does
 
 -- what a visit does
-pub visits_footprint : (oracle : Oracle) (s : State) (site : Site) (id : ModItemId) (effect : Effect) → Visits oracle s site id effect → Footprint s site.scope effect
+pub visits_footprint : (oracle : Oracle) (s : State) (site : Site) (id : ModItemId) (effect : Effect) → Visits oracle s site id effect → Footprint s site.scope site.depth effect
 visits_footprint oracle s site id effect does = at_footprint oracle s site id (node_at oracle site.tree id) effect does

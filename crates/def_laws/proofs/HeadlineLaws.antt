@@ -6,42 +6,46 @@ use Rattle.def_globs.specs.Raised.{IsRaisedAt}
 use Rattle.def_laws.specs.Sound.{IsSoundWith}
 use Rattle.def_rules.specs.Targets.{leaves_out, target_of}
 use Rattle.def_rules.specs.Headline.{Answers}
-use Rattle.def_rules.specs.Recording.{NoneReady}
-use Rattle.def_rules.specs.Report.{Answer}
+use Rattle.def_rules.specs.Report.{Answer, with_macro_reports}
 use Rattle.def_laws.specs.Finished.{NoneFailed, IsFinished}
+use Rattle.def_rules.specs.Settled.{IsSettled}
 use Rattle.def_rules.specs.Start.{first_tasks, seeded_state, start, started}
 use Rattle.def_rules.specs.State.{Setting, State, Moment, order}
-use Rattle.def_laws.specs.Runs.{Leads, at}
+use Rattle.def_laws.specs.Runs.{Collects, at}
 use Rattle.def_rules.specs.Steps.{Reaches}
-use Rattle.def_laws.proofs.BegunLaws.{begins_apart}
 use Rattle.def_laws.proofs.DeclaredLaws.{declared_along, was_put_along}
 use Rattle.def_laws.proofs.EveryNamespaceLaws.{every_namespace_along}
 use Rattle.def_laws.proofs.FailedLaws.{none_failed_along}
 use Rattle.def_laws.proofs.StaysLaws.{explicit_stays_along}
 
--- where a run from the seeded map leads to an end at which nothing is left to do and no import is ready, what is answered of that end is right
-pub answers : (w : Setting) (before after : Session) (answer : Answer) (t : State) → Leads w.oracle (first_tasks w.oracle w.seeded w.tree) (started w.oracle w.tree (seeded_state w before)) [] t → NoneReady w.oracle t → t.session ≡ after → NoneFailed w.seeded
+-- where a run from the seeded map leads to an end at which nothing is left to do, and no import or macro gives anything, what is answered of that end, with its macros reported, is right
+pub answers : (w : Setting) (before after : Session) (answer : Answer) (t : State) → Collects w.oracle (first_tasks w.oracle w.seeded w.tree) (started w.oracle w.tree (seeded_state w before)) [] t → IsSettled w.oracle t → t.expansions ≡ [] → t.session ≡ after → NoneFailed w.seeded
     → IsSoundWith (first_tasks w.oracle w.seeded w.tree) (started w.oracle w.tree (seeded_state w before)) → IsSoundWith [] t
-    → IsFinished t answer → Answers w before after answer
-answers w before after answer t leads settled session clean begun ended finished =
+    → IsFinished (with_macro_reports w.oracle t) answer → Answers w before after answer
+answers w before after answer t collects settled expanded session clean begun ended finished =
     record {
-      run = record { end = end; runs = runs; done = refl };
+      run = record { end = end; runs = runs; done = refl; expanded = expanded };
       session = session;
-      answered = record { map = finished.map (none_failed_along runs clean); content = finished.content; local = finished.local; outcome = finished.outcome };
+      answered = record {
+        map = finished.map (none_failed_along runs clean);
+        content = finished.content;
+        local = finished.local;
+        outcome = record { imports = finished.outcome.imports; macros = finished.outcome.macros; edges = finished.outcome.edges; targets = finished.outcome.targets; limit = finished.outcome.limit };
+      };
       closed = subst (IsClosed (order t) (leaves_out t)) (sym finished.content) ended.sound.closed;
       coherent = subst (IsCoherent (order t) (leaves_out t) (target_of t.map.id t.targets)) (sym finished.content) ended.sound.coherent;
       raised = λ importer slot kept. subst (λ c. IsRaisedAt (order t) c importer slot) (sym finished.content)
-          (leads.raised (begins_apart w before) begun.stands begun.sound [] importer slot kept (λ source index edge at. absurd cc));
+          (collects.raised begun.stands begun.sound [] importer slot kept (λ source index edge at. absurd cc));
       declared = declared_along runs refl refl;
       was_put = was_put_along runs refl refl;
       explicit_stays = λ a b run. explicit_stays_along run.goes_on;
-      settled = record { imports = settled };
-      every_namespace = every_namespace_along runs refl refl refl settled;
+      settled = settled;
+      every_namespace = every_namespace_along runs refl refl refl settled.imports;
       reported = finished.reported;
     }
   where
     end : Moment
-    end = at [] t (leads.runs []).0
+    end = at [] t (collects.runs []).0
 
     runs : Reaches w.oracle (start w before) end
-    runs = (leads.runs []).1
+    runs = (collects.runs []).1

@@ -4,13 +4,15 @@ pub mod BroughtLaws
 pub mod LargerLaws
 pub mod CleanLaws
 pub mod PlainLaws
+pub mod DepthsLaws
 pub mod FootprintLaws
+pub mod TurnsLaws
 pub mod MovesLaws
 pub mod OwnLaws
 pub mod TargetsLaws
 pub mod TasksLaws
 pub mod StandsLaws
-pub mod ApartLaws
+pub mod RaisedLaws
 pub mod WaveLaws
 pub mod EdgeLaws
 pub mod BegunLaws
@@ -31,5 +33,6 @@ pub mod DeclaredLaws
 pub mod ComingLaws
 pub mod RecordedLaws
 pub mod EveryNamespaceLaws
+pub mod PassLaws
 pub mod HeadlineLaws
 pub mod GlobsLaws

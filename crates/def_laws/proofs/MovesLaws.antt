@@ -1,5 +1,5 @@
 -- The steps of a run, by what they do to the table of bindings.
-use Rattle.std.proofs.Common.{◌≡◌, false, true, List, [], ◌∷◌, ◌++◌, refl, ap, subst, ◌∙◌}
+use Rattle.std.proofs.Common.{◌≡◌, ℕ, true, List, [], ◌∷◌, ◌++◌, refl, ap, subst, ◌∙◌}
 use Rattle.def_ids.specs.declared.ids.ModuleId.{ModuleId}
 use Rattle.def_bindings.specs.declared.bindings.EdgeTo.{EdgeTo}
 use Rattle.def_bindings.specs.declared.bindings.Entry.{Entry}
@@ -8,11 +8,13 @@ use Rattle.def_bindings.specs.Content.{Content}
 use Rattle.def_oracle.specs.Oracle.{Oracle}
 use Rattle.def_globs.specs.Globs.{with_recorded}
 use Rattle.def_rules.specs.Recording.{ImportStep}
-use Rattle.def_rules.specs.State.{State, Effect, Moment, Rearranges, Task, Enter, Visit, Put, Bring, AddEdge, after, only, order, with_content, with_state}
-use Rattle.def_rules.specs.Steps.{Copies, Does, Step, performs, copies, rearranges, records, put_effect}
+use Rattle.def_rules.specs.State.{State, Effect, Expansion, MacroDirective, Moment, Rearranges, Task, Enter, Visit, Put, Bring, AddEdge, after, only, order, with_content, with_state}
+use Rattle.def_rules.specs.Steps.{Copies, Does, Step, performs, copies, rearranges, records, asks, expands, put_effect}
+use Rattle.def_laws.specs.Depths.{WaitsIn}
 use Rattle.def_laws.specs.Own.{IsOwn, Stands}
-use Rattle.def_laws.specs.Roles.{does_more, is_still, place_of, role_of}
+use Rattle.def_laws.specs.Roles.{is_still, place_of, role_of}
 use Rattle.def_laws.proofs.FootprintLaws.{Footprint, bring_footprint, enter_footprint, visits_footprint}
+use Rattle.def_laws.proofs.TurnsLaws.{TurnFootprint, asks_footprint, expands_footprint, waiting_with}
 
 -- tasks that leave the table as it is
 abbrev pub AreStill : List Task → Type 0
@@ -26,9 +28,10 @@ pub data Move (oracle : Oracle) (a b : Moment) : Type 0 where
   -- an edge is added
   linking : (source : ModuleId) (edge : EdgeTo Visibility) (rest : List Task) → a.tasks ≡ AddEdge source edge ∷ rest
       → b ≡ after a rest (only (with_content a.state (with_recorded (order a.state) a.state.content source edge))) → Move oracle a b
-  -- something else is done in a module, for which these tasks go; where none goes, nothing follows but puts and edges
-  doing : (gone rest : List Task) (scope : ModuleId) (effect : Effect) → a.tasks ≡ gone ++ rest → AreStill gone → (gone ≡ [] → does_more effect.tasks ≡ false)
-      → (Stands a.tasks a.state → IsOwn a.state.map scope) → Footprint a.state scope effect → b ≡ after a rest effect → Move oracle a b
+  -- something else is done in a module, for which these tasks go, and perhaps some of what waits: of the rest each waits where something waited
+  doing : (gone rest : List Task) (scope : ModuleId) (depth : ℕ) (macros : List MacroDirective) (expansions : List Expansion) (effect : Effect) → a.tasks ≡ gone ++ rest → AreStill gone
+      → (Stands a.tasks a.state → IsOwn a.state.map scope) → ((at : ModuleId) → WaitsIn (waiting_with a.state macros expansions) at → WaitsIn a.state at)
+      → Footprint (waiting_with a.state macros expansions) scope depth effect → b ≡ after a rest effect → Move oracle a b
   -- something is copied
   copying : (content : Content Visibility) → Copies a.state content → b ≡ with_state a (with_content a.state content) → Move oracle a b
   -- imports are put into another order
@@ -45,11 +48,15 @@ module _ {oracle : Oracle} (a b : Moment) where
   move_by (Put at entry) rest effect first does is = putting at entry rest first (is ∙ ap (after a rest) does)
   move_by (AddEdge source edge) rest effect first does is = linking source edge rest first (is ∙ ap (after a rest) does)
   move_by (Enter at directory) rest effect first does is =
-      doing (Enter at directory ∷ []) rest at _ first (refl, tt) (λ none. cc) (first_own a (Enter at directory) rest first) (enter_footprint a.state at directory) (is ∙ ap (after a rest) does)
+      doing (Enter at directory ∷ []) rest at 0 a.state.macros a.state.expansions _ first (refl, tt) (first_own a (Enter at directory) rest first) (λ at waits. waits) (enter_footprint a.state at directory) (is ∙ ap (after a rest) does)
   move_by (Bring from into) rest effect first does is =
-      doing (Bring from into ∷ []) rest into _ first (refl, tt) (λ none. cc) (first_own a (Bring from into) rest first) (bring_footprint a.state from into) (is ∙ ap (after a rest) does)
+      doing (Bring from into ∷ []) rest into 0 a.state.macros a.state.expansions _ first (refl, tt) (first_own a (Bring from into) rest first) (λ at waits. waits) (bring_footprint a.state from into) (is ∙ ap (after a rest) does)
   move_by (Visit site id) rest effect first does is =
-      doing (Visit site id ∷ []) rest site.scope effect first (refl, tt) (λ none. cc) (first_own a (Visit site id) rest first) (visits_footprint oracle a.state site id effect does) is
+      doing (Visit site id ∷ []) rest site.scope site.depth a.state.macros a.state.expansions effect first (refl, tt) (first_own a (Visit site id) rest first) (λ at waits. waits) (visits_footprint oracle a.state site id effect does) is
+
+  -- a macro or an expansion has its turn
+  turning : (effect : Effect) → a.tasks ≡ [] → TurnFootprint a.state effect → b ≡ after a [] effect → Move oracle a b
+  turning effect idle turn is = doing [] [] turn.scope turn.depth turn.macros turn.expansions effect idle tt (λ stands. stands.waiting turn.scope turn.waits) turn.fewer turn.foot is
 
   -- what a step does
   pub move_of : Step oracle a b → Move oracle a b
@@ -57,3 +64,5 @@ module _ {oracle : Oracle} (a b : Moment) where
   move_of (copies content copy is) = copying content copy is
   move_of (rearranges state same is) = sorting state same is
   move_of (records effect idle step is) = recording effect idle step is
+  move_of (asks effect idle step is) = turning effect idle (asks_footprint oracle a.state effect step) is
+  move_of (expands effect idle step is) = turning effect idle (expands_footprint oracle a.state effect step) is

@@ -43,14 +43,18 @@ pub record IsLarger (m m' : MapState) : Type 0 where
   pub even : length m.parents ≡ length m.modules → length m'.parents ≡ length m'.modules
   pub lower : AreParentsLower m.parents → AreParentsLower m'.parents
 
+-- what a module of a map sees stays where the map grows
+pub sees_larger : (m m' : MapState) → AreParentsLower m.parents → IsLarger m m' → (place : ModuleId) (vis : Visibility) → IsOwn m place → (order_in m').can_see place vis ≡ (order_in m).can_see place vis
+sees_larger m m' lower larger place vis at =
+    ap (λ x. is_visible_from (chain_of x m'.parents m'.containing) place vis) larger.id
+    ∙ ap (λ x. is_visible_from (chain_of m.id x m'.containing) place vis) larger.parents
+    ∙ ap (λ x. is_visible_from (chain_of m.id (m.parents ++ larger.more) x) place vis) larger.containing
+    ∙ sees_kept m.id m.parents larger.more m.containing lower place vis at.0 at.1
+
 module _ {left_out : ModuleId → Bool} {m : MapState} {targets : Targets} {c : Content Visibility} {directives : List ImportDirective} (own : AreOwn m targets c directives) (sound : AreSound left_out m targets c) where
   module _ {m' : MapState} (larger : IsLarger m m') where
     sees : (place : ModuleId) (vis : Visibility) → IsOwn m place → (order_in m').can_see place vis ≡ (order_in m).can_see place vis
-    sees place vis at =
-        ap (λ x. is_visible_from (chain_of x m'.parents m'.containing) place vis) larger.id
-        ∙ ap (λ x. is_visible_from (chain_of m.id x m'.containing) place vis) larger.parents
-        ∙ ap (λ x. is_visible_from (chain_of m.id (m.parents ++ larger.more) x) place vis) larger.containing
-        ∙ sees_kept m.id m.parents larger.more m.containing own.lower place vis at.0 at.1
+    sees place vis at = sees_larger m m' own.lower larger place vis at
 
     before : (glob : GlobId) (target : ModuleId) → target_of m'.id targets glob ≡ Some target → target_of m.id targets glob ≡ Some target
     before glob target known = ap (λ i. target_of i targets glob) (sym larger.id) ∙ known

@@ -1,8 +1,7 @@
 -- Along any run a state and what is to be done in it are of its map alone.
-use Rattle.std.proofs.Common.{◌≡◌, List, ◌∷◌, ◌++◌, Contains, Option, Some, None, sym, ap, subst, inl, inr, append-nil}
+use Rattle.std.proofs.Common.{◌≡◌, ◌∙◌, ◌⊎◌, ℕ, List, ◌∷◌, ◌++◌, Contains, Option, Some, None, sym, ap, subst, inl, inr, append-nil}
 use Rattle.std.proofs.lemmas.List.Elements.{Contains-append_cases}
 use Rattle.std.proofs.lemmas.List.Sorted.{Contains-permutation, IsPermutation-sym}
-use Rattle.item_tree.specs.declared.ids.ModItemId.{ModItemId}
 use Rattle.def_ids.specs.declared.ids.ModuleId.{ModuleId}
 use Rattle.def_modules.specs.MapState.{MapState}
 use Rattle.def_paths.specs.declared.asked.ResolvePathResult.{ResolvePathResult}
@@ -12,23 +11,34 @@ use Rattle.def_laws.specs.Own.{AreOwn, IsOwn, IsRecorded, Stands}
 use Rattle.def_laws.specs.Sound.{IsSound}
 use Rattle.def_rules.specs.Imports.{answer_now}
 use Rattle.def_rules.specs.Recording.{ImportStep, after_import, kept_list, new_prelude, record_effect, record_state, record_tasks, with_new_prelude}
-use Rattle.def_rules.specs.State.{State, Effect, Moment, NsSet, ImportDirective, Import, Site, Task, Visit, order}
-use Rattle.def_rules.specs.Steps.{Does, Reaches, Step}
+use Rattle.def_rules.specs.State.{State, Effect, Moment, NsSet, ImportDirective, Import, Task, order}
+use Rattle.def_rules.specs.Steps.{Reaches, Step}
 use Rattle.def_laws.proofs.LargerLaws.{larger_prelude, larger_refl, own_larger}
-use Rattle.def_laws.proofs.FootprintLaws.{Footprint, visits_footprint}
+use Rattle.def_laws.specs.Depths.{WaitsIn}
+use Rattle.def_laws.proofs.FootprintLaws.{Footprint}
 use Rattle.def_laws.proofs.MovesLaws.{Move, putting, linking, doing, copying, sorting, recording, move_of}
 use Rattle.def_laws.proofs.OwnLaws.{own_both, own_copied, own_edge, own_first, own_last, own_put, own_stays, tasks_stay}
+use Rattle.def_laws.proofs.TurnsLaws.{waiting_with}
 use Rattle.def_laws.proofs.RunsLaws.{kept_along}
 use Rattle.def_laws.proofs.SoundLaws.{IsLarger, sound_larger}
 use Rattle.def_laws.proofs.TasksLaws.{record_own, record_sound, record_stays}
 
 -- the first of what is to be done stands alone
 pub stands_first : {xs : List Task} {s : State} (ys : List Task) → Stands (xs ++ ys) s → Stands xs s
-stands_first {xs = xs} {s = s} ys st = record { state = st.state; tasks = own_first s.map s.targets xs ys st.tasks }
+stands_first {xs = xs} {s = s} ys st = record { state = st.state; tasks = own_first s.map s.targets xs ys st.tasks; waiting = st.waiting }
+
+-- what waits after something was done in a module waited before, or waits in that module
+queued_in : (s : State) (scope : ModuleId) (depth : ℕ) (effect : Effect) → Footprint s scope depth effect → (at : ModuleId) → WaitsIn effect.state at → WaitsIn s at ⊎ (at ≡ scope)
+queued_in s scope depth effect foot at (inl macro) =
+    elim (Contains-append_cases s.macros foot.queued.more macro.0 (subst (λ ds. Contains ds macro.0) foot.queued.macros macro.1)) [
+      | inl old ↦ inl (inl (macro.0, old, macro.2))
+      | inr new ↦ inr (sym macro.2 ∙ (foot.queued.at macro.0 new).0)
+    ]
+queued_in s scope depth effect foot at (inr expansion) = inl (inr (expansion.0, subst (λ es. Contains es expansion.0) foot.queued.expansions expansion.1, expansion.2))
 
 -- what is done beside puts and edges leads to what is of the map
-pub footprint_stands : (s : State) (rest : List Task) (scope : ModuleId) (effect : Effect) → Footprint s scope effect → IsOwn s.map scope → Stands rest s → Stands (effect.tasks ++ rest) effect.state
-footprint_stands s rest scope effect foot at st =
+pub footprint_stands : (s : State) (rest : List Task) (scope : ModuleId) (depth : ℕ) (effect : Effect) → Footprint s scope depth effect → IsOwn s.map scope → Stands rest s → Stands (effect.tasks ++ rest) effect.state
+footprint_stands s rest scope depth effect foot at st =
     let stay : (g : _) → IsRecorded s.targets g → IsRecorded effect.state.targets g = λ g h. subst (λ t. IsRecorded t g) (sym foot.targets) h in
     let own : IsOwn effect.state.map scope = own_larger s.map effect.state.map scope foot.larger at in
     let state : AreOwn effect.state.map effect.state.targets s.content effect.state.imports =
@@ -38,22 +48,22 @@ footprint_stands s rest scope effect foot at st =
       state = subst (λ c. AreOwn effect.state.map effect.state.targets c effect.state.imports) (sym foot.content) state;
       tasks = own_both effect.state.map effect.state.targets effect.tasks rest (foot.tasks effect.state.targets st.state.even own)
           (tasks_stay s.map effect.state.map s.targets effect.state.targets foot.larger stay rest st.tasks);
+      waiting = λ place waits. elim (queued_in s scope depth effect foot place waits) [
+        | inl old ↦ own_larger s.map effect.state.map place foot.larger (st.waiting place old)
+        | inr new ↦ subst (IsOwn effect.state.map) (sym new) own
+      ];
     }
 
--- what an item's visit leads to
-pub visit_stands : (oracle : Oracle) (s : State) (site : Site) (id : ModItemId) (rest : List Task) (effect : Effect) → Does oracle s (Visit site id) effect → Stands (Visit site id ∷ rest) s → Stands (effect.tasks ++ rest) effect.state
-visit_stands oracle s site id rest effect does st =
-    footprint_stands s rest site.scope effect (visits_footprint oracle s site id effect does) st.tasks.0.0 (record { state = st.state; tasks = st.tasks.1 })
-
 -- the state in which an import was recorded, and its tasks
-pub recorded_stands : (oracle : Oracle) (u : State) (p : Import) (answer : ResolvePathResult) → AreOwn u.map u.targets u.content u.imports → IsOwn u.map p.scope
+pub recorded_stands : (oracle : Oracle) (u : State) (p : Import) (answer : ResolvePathResult) → AreOwn u.map u.targets u.content u.imports → IsOwn u.map p.scope → ((place : ModuleId) → WaitsIn u place → IsOwn u.map place)
     → (let effect = record_effect oracle u p answer in Stands effect.tasks effect.state)
-recorded_stands oracle u p answer own at =
+recorded_stands oracle u p answer own at waiting =
     let now : State = record_state u p answer in
     let larger : IsLarger u.map now.map = larger_prelude (new_prelude p answer) u.map in
     record {
       state = own_stays u.map now.map u.targets now.targets larger (record_stays oracle u p answer p.written.kind) u.content u.imports u.imports (λ d h. inl h) own;
       tasks = tasks_stay u.map now.map now.targets now.targets larger (λ g h. h) (record_tasks oracle u p answer p.written.kind) (record_own oracle u p answer p.written.kind at);
+      waiting = λ place waits. own_larger u.map now.map place larger (waiting place waits);
     }
 
 -- names stay sound in it
@@ -78,13 +88,13 @@ import_own s d rest answer at left own =
     (λ x h. elim (Contains-append_cases rest (kept_list d.import _) x h) [ inl old ↦ inl (left x old) | inr new ↦ inr (subst (λ y. IsOwn s.map y.scope) (sym (kept_in d.import _ x new)) at) ]) own
 
 -- an import is recorded
-pub import_stands : (oracle : Oracle) (s : State) (effect : Effect) → ImportStep oracle s effect → AreOwn s.map s.targets s.content s.imports → Stands effect.tasks effect.state
-import_stands oracle s effect step own =
+pub import_stands : (oracle : Oracle) (s : State) (effect : Effect) → ImportStep oracle s effect → AreOwn s.map s.targets s.content s.imports → ((place : ModuleId) → WaitsIn s place → IsOwn s.map place) → Stands effect.tasks effect.state
+import_stands oracle s effect step own waiting =
     let d : ImportDirective = step.directive in
     let answer : ResolvePathResult = answer_now oracle s d.import in
     let back = IsPermutation-sym s.imports (d ∷ step.rest) step.stands in
     let at : IsOwn s.map d.import.scope = own.imports d (Contains-permutation (d ∷ step.rest) s.imports d back (first_in d step.rest)) in
-    let st = recorded_stands oracle (after_import s d step.rest answer) d.import answer (import_own s d step.rest answer at (λ x h. Contains-permutation (d ∷ step.rest) s.imports x back (later_in d step.rest x h)) own) at in
+    let st = recorded_stands oracle (after_import s d step.rest answer) d.import answer (import_own s d step.rest answer at (λ x h. Contains-permutation (d ∷ step.rest) s.imports x back (later_in d step.rest x h)) own) at waiting in
     subst (λ (e : Effect). Stands e.tasks e.state) (sym step.is) st
 
 -- names stay sound where an import is recorded
@@ -105,26 +115,28 @@ move_stands : {oracle : Oracle} (a b : Moment) → Move oracle a b → StandsAt 
 move_stands a b (putting at entry rest first is) st =
     let s : State = a.state in
     let own = stands_with a _ first st in
-    subst StandsAt (sym is) (record { state = own_put s.map s.targets (order s) s.content s.imports own.state at entry own.tasks.0; tasks = own.tasks.1 })
+    subst StandsAt (sym is) (record { state = own_put s.map s.targets (order s) s.content s.imports own.state at entry own.tasks.0; tasks = own.tasks.1; waiting = own.waiting })
 move_stands a b (linking source edge rest first is) st =
     let s : State = a.state in
     let own = stands_with a _ first st in
-    subst StandsAt (sym is) (record { state = own_edge s.map s.targets (order s) s.content s.imports own.state source edge own.tasks.0; tasks = own.tasks.1 })
-move_stands a b (doing gone rest scope effect first still calm at foot is) st =
-    subst StandsAt (sym is) (footprint_stands a.state rest scope effect foot (at st) (record { state = st.state; tasks = own_last a.state.map a.state.targets gone rest (stands_with a _ first st).tasks }))
+    subst StandsAt (sym is) (record { state = own_edge s.map s.targets (order s) s.content s.imports own.state source edge own.tasks.0; tasks = own.tasks.1; waiting = own.waiting })
+move_stands a b (doing gone rest scope depth macros expansions effect first still at fewer foot is) st =
+    subst StandsAt (sym is)
+    (footprint_stands (waiting_with a.state macros expansions) rest scope depth effect foot (at st)
+    (record { state = st.state; tasks = own_last a.state.map a.state.targets gone rest (stands_with a _ first st).tasks; waiting = λ place waits. st.waiting place (fewer place waits) }))
 move_stands a b (copying content copy is) st =
     let s : State = a.state in
     let own : AreOwn s.map s.targets content s.imports =
     subst (λ c. AreOwn s.map s.targets c s.imports) (sym copy.after) (own_copied s.map s.targets (order s) s.content s.imports st.state copy.source copy.index copy.edge copy.slot copy.stands) in
-    subst StandsAt (sym is) (record { state = own; tasks = st.tasks })
+    subst StandsAt (sym is) (record { state = own; tasks = st.tasks; waiting = st.waiting })
 move_stands a b (sorting state same is) st =
     let s : State = a.state in
     let own : AreOwn s.map s.targets s.content state.imports =
     own_stays s.map s.map s.targets s.targets (larger_refl s.map) (λ g h. h) s.content s.imports state.imports
     (λ d h. inl (Contains-permutation state.imports s.imports d (IsPermutation-sym s.imports state.imports same.imports) h)) st.state in
-    subst StandsAt (sym is) (subst (Stands a.tasks) (sym same.rest) (record { state = own; tasks = st.tasks }))
+    subst StandsAt (sym is) (subst (Stands a.tasks) (sym same.rest) (record { state = own; tasks = st.tasks; waiting = st.waiting }))
 move_stands {oracle} a b (recording effect idle step is) st =
-    subst StandsAt (sym is) (subst (λ tasks. Stands tasks effect.state) (sym (append-nil effect.tasks)) (import_stands oracle a.state effect step st.state))
+    subst StandsAt (sym is) (subst (λ tasks. Stands tasks effect.state) (sym (append-nil effect.tasks)) (import_stands oracle a.state effect step st.state st.waiting))
 
 step_stands : {oracle : Oracle} (a b : Moment) → Step oracle a b → StandsAt a → StandsAt b
 step_stands a b step st = move_stands a b (move_of a b step) st

@@ -1,5 +1,5 @@
 -- Runs: how each rule is taken, and how runs follow one another.
-use Rattle.std.proofs.Common.{◌≡◌, List, [], ◌∷◌, ◌++◌, None, Some, slice_get, refl, sym, ap, ◌∙◌, subst, append_assoc, append-nil, inl, inr}
+use Rattle.std.proofs.Common.{◌≡◌, List, [], ◌∷◌, ◌++◌, ◌<◌, ◌≤◌, ℕ, None, Some, refl, sym, ap, ◌∙◌, subst, append_assoc, append-nil, arith}
 use Rattle.item_tree.specs.declared.ids.CfgExpr.{CfgExpr}
 use Rattle.item_tree.specs.declared.ids.ModItemId.{ModItemId}
 use Rattle.item_tree.specs.declared.items.ItemNode.{ItemNode}
@@ -9,36 +9,52 @@ use Rattle.def_bindings.specs.declared.bindings.Entry.{Entry}
 use Rattle.def_bindings.specs.declared.bindings.Slot.{Slot}
 use Rattle.def_bindings.specs.declared.visibility.Visibility.{Visibility}
 use Rattle.def_bindings.specs.Content.{Content}
-use Rattle.def_bindings.specs.Order.{Order}
 use Rattle.def_modules.specs.Maps.{textual_at}
 use Rattle.def_modules.specs.Scopes.{brought}
 use Rattle.def_oracle.specs.Oracle.{Oracle}
 use Rattle.def_parts.specs.Directories.{Directory}
 use Rattle.def_globs.specs.Raised.{IsRaisedAt}
 use Rattle.def_rules.specs.declared.diagnostics.DefDiagnosticKind.TheVariants.{UnconfiguredCode}
+use Rattle.def_laws.specs.Depths.{LieFrom, WaitsAlike}
 use Rattle.def_laws.specs.Followed.{AreFollowed}
-use Rattle.def_laws.specs.Sound.{AreSound, IsRaisedIn, IsSound, IsSoundWith}
+use Rattle.def_laws.specs.Own.{Stands}
+use Rattle.def_laws.specs.Sound.{AreSound, IsRaisedIn, IsSound, IsSoundWith, KeepsSound}
 use Rattle.def_rules.specs.Targets.{leaves_out, target_of}
 use Rattle.def_laws.specs.Travels.{Travels}
 use Rattle.def_laws.specs.Performs.{Handled, IsDone, Performs, Updated}
-use Rattle.def_rules.specs.Recording.{ImportStep}
+use Rattle.def_rules.specs.Calls.{deeper, deepest}
+use Rattle.def_rules.specs.Imports.{answer_now}
+use Rattle.def_rules.specs.Recording.{ImportStep, after_import}
 use Rattle.def_rules.specs.Items.{diagnostic, node_at, noted_in}
 use Rattle.def_rules.specs.Rules.{VisitsAt, VisitsNode}
-use Rattle.def_rules.specs.State.{State, Effect, Site, Task, Bring, Enter, Visit, Rearranges, entered, only, order, put_each, reported, with_content}
-use Rattle.def_rules.specs.Steps.{Does, one, rearranges, records}
-use Rattle.def_laws.specs.Runs.{Leads}
-use Rattle.def_laws.proofs.ApartLaws.{apart_along}
-use Rattle.def_laws.proofs.FootprintLaws.{visits_footprint}
+use Rattle.def_rules.specs.State.{State, Effect, MacroDirective, Site, Task, Bring, Enter, Visit, Rearranges, entered, only, order, put_each, reported, with_content}
+use Rattle.def_rules.specs.Steps.{Does, StandsNear, one, rearranges, records}
+use Rattle.def_laws.specs.Runs.{Collects, Leads}
+use Rattle.def_laws.proofs.DepthsLaws.{deeper_is, lie_both, lie_last, queues_alike, queues_trans, recorded_lies}
+use Rattle.def_laws.proofs.FootprintLaws.{Footprint, visits_footprint}
 use Rattle.def_laws.proofs.LargerLaws.{larger_with_module}
 use Rattle.def_laws.proofs.PlainLaws.{ArePlain, plain_first, plain_followed}
+use Rattle.def_laws.proofs.RaisedLaws.{raised_larger}
 use Rattle.def_laws.proofs.SoundLaws.{sound_larger, sound_wave}
 use Rattle.def_laws.proofs.StandsLaws.{import_sound, stands_along, stands_first}
 use Rattle.def_laws.proofs.TargetsLaws.{puts_nowhere}
 use Rattle.def_laws.proofs.WaveLaws.{runs_refl, runs_task, runs_trans, runs_wave, wave_raised}
 
--- where no edge stands, none would raise a place
-raised_nowhere : (o : Order Visibility) (c : Content Visibility) → ((source : ModuleId) → c.edges source ≡ []) → (importer : ModuleId) (slot : Slot) → IsRaisedAt o c importer slot
-raised_nowhere o c none importer slot source index edge at = absurd (let wrong : slice_get [] index ≡ Some edge = ap (λ es. slice_get es index) (sym (none source)) ∙ at in cc)
+-- names stay sound where something is done in a module of the map, and places stay raised that the step keeps
+pub footprint_sound : (tasks : List Task) (s : State) (scope : ModuleId) (depth : ℕ) (effect : Effect) → Footprint s scope depth effect → KeepsSound tasks s effect.state
+footprint_sound tasks s scope depth effect foot stands sound =
+    subst (λ t. AreSound (leaves_out s) effect.state.map t effect.state.content) (sym foot.targets)
+    (subst (λ c. AreSound (leaves_out s) effect.state.map s.targets c) (sym foot.content) (sound_larger stands.state sound foot.larger))
+
+pub footprint_raised : (tasks : List Task) (s : State) (scope : ModuleId) (depth : ℕ) (effect : Effect) → Footprint s scope depth effect → Stands tasks s → (importer : ModuleId) (slot : Slot)
+    → ((v w : Visibility) → StandsNear s.content importer slot v → StandsNear s.content importer slot w → (order effect.state).at_most v w ≡ (order s).at_most v w)
+    → IsRaisedIn s importer slot → IsRaisedIn effect.state importer slot
+footprint_raised tasks s scope depth effect foot stands importer slot same raised =
+    subst (λ c. IsRaisedAt (order effect.state) c importer slot) (sym foot.content) (raised_larger stands.state foot.larger importer slot same raised)
+
+-- what waits stays where the imports are put into another order
+rearranged_alike : (s t : State) → Rearranges s t → WaitsAlike s t
+rearranged_alike s t same = subst (WaitsAlike s) (sym same.rest) (record { macros = refl; expansions = refl })
 
 module _ {oracle : Oracle} where
   -- a place stays raised where an import is recorded
@@ -46,60 +62,90 @@ module _ {oracle : Oracle} where
   import_raised s effect step importer slot raised = subst (λ (e : Effect). IsRaisedIn e.state importer slot) (sym step.is) raised
 
   -- a run that takes no step
+  pub collects_refl : (tasks : List Task) (s : State) → Collects oracle tasks s tasks s
+  collects_refl tasks s = record { runs = runs_refl tasks s; keeps = λ stands sound. sound; raised = λ stands sound before importer slot kept raised. raised }
+
   pub leads_refl : (tasks : List Task) (s : State) → Leads oracle tasks s tasks s
-  leads_refl tasks s = record { runs = runs_refl tasks s; keeps = λ stands sound. sound; raised = λ apart stands sound before importer slot kept raised. raised }
+  leads_refl tasks s = record { collects = collects_refl tasks s; expansions = refl; queues = λ least lie. (lie, queues_alike least s s (record { macros = refl; expansions = refl })) }
 
   -- a run goes on with another
-  pub leads_trans : {ts us vs : List Task} {s t u : State} → Leads oracle ts s us t → Leads oracle us t vs u → Leads oracle ts s vs u
-  leads_trans p q = record {
+  pub collects_trans : {ts us vs : List Task} {s t u : State} → Collects oracle ts s us t → Collects oracle us t vs u → Collects oracle ts s vs u
+  collects_trans p q = record {
     runs = runs_trans p.runs q.runs;
     keeps = λ stands sound. q.keeps (stands_along (p.runs []).1 stands) (p.keeps stands sound);
-    raised = λ apart stands sound before importer slot kept raised.
-        q.raised (apart_along (p.runs before).1 apart) (stands_along (p.runs before).1 stands) (p.keeps stands sound) (p.runs before).0 importer slot kept.1
-        (p.raised apart stands sound before importer slot kept.0 raised);
+    raised = λ stands sound before importer slot kept raised.
+        q.raised (stands_along (p.runs before).1 stands) (p.keeps stands sound) (p.runs before).0 importer slot kept.1
+        (p.raised stands sound before importer slot kept.0 raised);
+  }
+
+  pub leads_trans : {ts us vs : List Task} {s t u : State} → Leads oracle ts s us t → Leads oracle us t vs u → Leads oracle ts s vs u
+  leads_trans {s = s} {t = t} {u = u} p q = record {
+    collects = collects_trans p.collects q.collects;
+    expansions = q.expansions ∙ p.expansions;
+    queues = λ least lie. let first = p.queues least lie in let second = q.queues least first.0 in (second.0, queues_trans least s t u first.1 second.1);
   }
 
   -- what is sound stays so along a run of whole waves
-  pub leads_sound : {tasks tasks' : List Task} {s t : State} → Leads oracle tasks s tasks' t → IsSoundWith tasks s → IsSoundWith tasks' t
-  leads_sound leads before = record { stands = stands_along (leads.runs []).1 before.stands; sound = leads.keeps before.stands before.sound }
+  pub collects_sound : {tasks tasks' : List Task} {s t : State} → Collects oracle tasks s tasks' t → IsSoundWith tasks s → IsSoundWith tasks' t
+  collects_sound collects before = record { stands = stands_along (collects.runs []).1 before.stands; sound = collects.keeps before.stands before.sound }
 
   -- tasks are performed, the edges of globs among them
   pub leads_performed : (tasks rest : List Task) (s t : State) → AreFollowed (target_of s.map.id s.targets) tasks → Performs oracle tasks s t → Leads oracle (tasks ++ rest) s rest t
   leads_performed tasks rest s t followed done = record {
-    runs = done.runs rest;
-    keeps = λ stands sound. done.keeps followed (stands_first rest stands) sound;
-    raised = λ apart stands sound. done.raised rest (stands_first rest stands) sound;
+    collects = record {
+      runs = done.runs rest;
+      keeps = λ stands sound. done.keeps followed (stands_first rest stands) sound;
+      raised = λ stands sound. done.raised rest (stands_first rest stands) sound;
+    };
+    expansions = done.waits.expansions;
+    queues = λ least lie. (lie_last least tasks rest lie, queues_alike least s t done.waits);
   }
 
   -- an item is visited
   leads_visit : (site : Site) (id : ModItemId) (rest : List Task) (s : State) (effect : Effect) → Does oracle s (Visit site id) effect → Leads oracle (Visit site id ∷ rest) s (effect.tasks ++ rest) effect.state
-  leads_visit site id rest s effect does = record {
-    runs = runs_task (Visit site id) rest s effect does;
-    keeps = λ stands sound.
-        let opened = visits_footprint oracle s site id effect does in
-        subst (λ t. AreSound (leaves_out s) effect.state.map t effect.state.content) (sym opened.targets) (subst (λ c. AreSound (leaves_out s) effect.state.map s.targets c) (sym opened.content) (sound_larger stands.state sound opened.larger));
-    raised = λ apart stands sound before importer slot kept raised.
-        let opened = visits_footprint oracle s site id effect does in
-        elim apart [
-          | inl none ↦ subst (λ c. IsRaisedAt (order effect.state) c importer slot) (sym opened.content) (raised_nowhere (order effect.state) s.content none.0 importer slot)
-          | inr none ↦ absurd cc
-        ];
-  }
+  leads_visit site id rest s effect does =
+      let foot : Footprint s site.scope site.depth effect = visits_footprint oracle s site id effect does in
+      record {
+        collects = record {
+          runs = runs_task (Visit site id) rest s effect does;
+          keeps = footprint_sound (Visit site id ∷ rest) s site.scope site.depth effect foot;
+          raised = λ stands sound before importer slot kept raised. footprint_raised (Visit site id ∷ rest) s site.scope site.depth effect foot stands importer slot kept.order raised;
+        };
+        expansions = foot.queued.expansions;
+        queues = λ least lie. (
+          lie_both least effect.tasks rest (foot.deep least lie.0.0 lie.0.1) lie.1,
+          record { more = foot.queued.more; macros = foot.queued.macros; deeper = λ d h. queued_deeper site.depth d least lie.0.0 lie.0.1 (foot.queued.at d h).1 },
+        );
+      }
+    where
+      queued_deeper : (depth : ℕ) (d : MacroDirective) (least : ℕ) → least ≤ depth → depth < deepest → d.depth ≡ deeper depth → (least < d.depth) × (d.depth ≤ deepest)
+      queued_deeper depth d least low high is = let next = is ∙ deeper_is depth high in (omega (arith, low, next), omega (arith, high, next))
 
   -- an import is recorded
   pub leads_import : (s : State) (effect : Effect) → ImportStep oracle s effect → Leads oracle [] s (effect.tasks ++ []) effect.state
   leads_import s effect step = record {
-    runs = λ before. (before ++ effect.events, one (records effect refl step refl));
-    keeps = λ stands sound. import_sound oracle s effect step stands.state sound;
-    raised = λ apart stands sound before importer slot kept raised. import_raised s effect step importer slot raised;
+    collects = record {
+      runs = λ before. (before ++ effect.events, one (records effect refl step refl));
+      keeps = λ stands sound. import_sound oracle s effect step stands.state sound;
+      raised = λ stands sound before importer slot kept raised. import_raised s effect step importer slot raised;
+    };
+    expansions = ap (λ (e : Effect). e.state.expansions) step.is;
+    queues = λ least lie. (
+      subst (λ (e : Effect). LieFrom least (e.tasks ++ [])) (sym step.is) (recorded_lies oracle least (after_import s step.directive step.rest (answer_now oracle s step.directive.import)) step.directive.import (answer_now oracle s step.directive.import) step.directive.import.written.kind),
+      queues_alike least s effect.state (subst (λ (e : Effect). WaitsAlike s e.state) (sym step.is) (record { macros = refl; expansions = refl })),
+    );
   }
 
   -- the imports are put into another order
   pub leads_rearranged : (tasks : List Task) (s t : State) → Rearranges s t → Leads oracle tasks s tasks t
   leads_rearranged tasks s t same = record {
-    runs = λ before. (before, one (rearranges t same refl));
-    keeps = λ stands sound. subst IsSound (sym same.rest) sound;
-    raised = λ apart stands sound before importer slot kept raised. subst (λ x. IsRaisedIn x importer slot) (sym same.rest) raised;
+    collects = record {
+      runs = λ before. (before, one (rearranges t same refl));
+      keeps = λ stands sound. subst IsSound (sym same.rest) sound;
+      raised = λ stands sound before importer slot kept raised. subst (λ x. IsRaisedIn x importer slot) (sym same.rest) raised;
+    };
+    expansions = (rearranged_alike s t same).expansions;
+    queues = λ least lie. (lie, queues_alike least s t (rearranged_alike s t same));
   }
 
   -- a list is put and travels, and nothing else changes
@@ -109,6 +155,7 @@ module _ {oracle : Oracle} where
     keeps = λ followed stands sound.
         sound_wave s.map s.targets place list s.content c travels sound (puts_nowhere (target_of s.map.id s.targets) place list (subst (AreFollowed (target_of s.map.id s.targets)) (append-nil (put_each place list)) followed));
     raised = λ rest stands sound before importer slot kept. wave_raised importer slot oracle place list s c travels [] rest before kept sound;
+    waits = record { macros = refl; expansions = refl };
   }
 
   -- a list was put, and what changed has travelled
@@ -122,7 +169,7 @@ module _ {oracle : Oracle} where
 
   -- nothing is performed
   pub performs_none : (s : State) → Performs oracle [] s s
-  performs_none s = record { runs = λ rest. runs_refl rest s; keeps = λ followed stands sound. sound; raised = λ rest stands sound before importer slot kept raised. raised }
+  performs_none s = record { runs = λ rest. runs_refl rest s; keeps = λ followed stands sound. sound; raised = λ rest stands sound before importer slot kept raised. raised; waits = record { macros = refl; expansions = refl } }
 
   -- the imports are put into another order
   pub performs_rearranged : (s t : State) → Rearranges s t → Performs oracle [] s t
@@ -130,14 +177,19 @@ module _ {oracle : Oracle} where
     runs = λ rest before. (before, one (rearranges t same refl));
     keeps = λ followed stands sound. subst IsSound (sym same.rest) sound;
     raised = λ rest stands sound before importer slot kept raised. subst (λ x. IsRaisedIn x importer slot) (sym same.rest) raised;
+    waits = rearranged_alike s t same;
   }
 
   -- the directory of a walk is stored
   pub leads_enter : (at : ModuleId) (directory : Directory) (rest : List Task) (s : State) → Leads oracle (Enter at directory ∷ rest) s rest (entered s at directory)
   leads_enter at directory rest s = record {
-    runs = runs_task (Enter at directory) rest s (only (entered s at directory)) refl;
-    keeps = λ stands sound. sound;
-    raised = λ apart stands sound before importer slot kept raised. raised;
+    collects = record {
+      runs = runs_task (Enter at directory) rest s (only (entered s at directory)) refl;
+      keeps = λ stands sound. sound;
+      raised = λ stands sound before importer slot kept raised. raised;
+    };
+    expansions = refl;
+    queues = λ least lie. (lie.1, queues_alike least s (entered s at directory) (record { macros = refl; expansions = refl }));
   }
 
   -- textual macros are brought into another module
@@ -145,9 +197,13 @@ module _ {oracle : Oracle} where
   leads_bring from into rest s =
       let t : State = noted_in s into (brought (textual_at s.map from.index)) in
       record {
-        runs = runs_task (Bring from into) rest s (only t) refl;
-        keeps = λ stands sound. sound_larger stands.state sound (larger_with_module s.map into.index (brought (textual_at s.map from.index)));
-        raised = λ apart stands sound before importer slot kept raised. raised;
+        collects = record {
+          runs = runs_task (Bring from into) rest s (only t) refl;
+          keeps = λ stands sound. sound_larger stands.state sound (larger_with_module s.map into.index (brought (textual_at s.map from.index)));
+          raised = λ stands sound before importer slot kept raised. raised;
+        };
+        expansions = refl;
+        queues = λ least lie. (lie.1, queues_alike least s t (record { macros = refl; expansions = refl }));
       }
 
   -- a visit is followed by its puts, down to the inner tasks

@@ -34,7 +34,7 @@ use Rattle.def_oracle.specs.declared.source_database.CallAnswer.{CallAnswer}
 use Rattle.def_oracle.specs.declared.source_database.UnresolvedMacro.{UnresolvedMacro}
 use Rattle.def_oracle.specs.Oracle.{Oracle}
 use Rattle.def_parts.specs.Directories.{Directory, FoundFile, descend, files_of, resolve_declaration}
-use Rattle.def_rules.specs.Calls.{answered_effect, deeper, deepest, expansion_effect, expansion_site, expansion_tree, told_effect, with_invocations}
+use Rattle.def_rules.specs.Calls.{answered_effect, deeper, deepest, expansion_at, expansion_effect, expansion_site, expansion_tree, told_effect, with_invocations}
 use Rattle.def_rules.specs.Crates.{tree_attrs}
 use Rattle.def_rules.specs.ExternCrates.{crate_effect, crate_name, named_crate}
 use Rattle.def_rules.specs.Items.{crates_first, ctor_task, is_crate_root, names_crate, node_at, noted_in, ordered, position_of, top_items, tree_cfg, visits, walk, written_vis}
@@ -49,11 +49,11 @@ use Rattle.def_laws.proofs.LevelsLaws.{IsDeeper, declaration_deeper, descend_dee
 -- Weights
 
 -- a visit of a lower rank weighs at most one part in 2^65
-lighter : (r s : ℕ) → r < s → weight r ≤ (2 ^ 65) ^ s
+pub lighter : (r s : ℕ) → r < s → weight r ≤ (2 ^ 65) ^ s
 unfolding weight
 lighter r s lower = pow-le-pow_right (omega arith) (omega (arith, lower))
 
-weight_is : (r : ℕ) → weight r ≡ (2 ^ 65) * (2 ^ 65) ^ r
+pub weight_is : (r : ℕ) → weight r ≡ (2 ^ 65) * (2 ^ 65) ^ r
 unfolding weight
 weight_is r = pow-succ' (2 ^ 65) r
 
@@ -201,11 +201,11 @@ module _ (oracle : Oracle) (s : State) (site : Site) (id : ModItemId) (item : It
   export_below t true name macro_id = (tt, tt)
 
   -- the items of an expansion, which lie one level of expansions deeper
-  expansion_below : (t : State) (call : MacroCallId) → AreBelow (rank site id) (expansion_effect oracle t site call).tasks
+  expansion_below : (t : State) (call : MacroCallId) → AreBelow (rank site id) (expansion_effect oracle t (expansion_at site call)).tasks
   expansion_below t call = by (nat_lt (limit_of t.map.krate) (deeper site.depth)) (nat_eq (deeper site.depth) deepest) refl
     where
       inner : Site
-      inner = expansion_site oracle t site call
+      inner = expansion_site oracle t (expansion_at site call)
 
       ids : List ModItemId
       ids = top_items oracle (expansion_tree call)

@@ -7,7 +7,7 @@ use Rattle.def_modules.specs.MapState.{MapState}
 use Rattle.def_rules.specs.declared.outcome.Collected.{Collected}
 use Rattle.def_rules.specs.Imports.{unresolved_imports}
 use Rattle.def_rules.specs.State.{State}
-use Rattle.def_rules.specs.Report.{Answer, marked, IsOutcome, report}
+use Rattle.def_rules.specs.Report.{Answer, marked, IsOutcome, with_import_reports}
 
 -- all that is answered
 abbrev pub shown : Collected → Answer
@@ -24,10 +24,10 @@ shown c =
 abbrev pub NoneFailed : MapState → Type 0
 NoneFailed m = All (λ d. (name : Name) → d.failed name ≡ false) m.modules
 
--- what is answered of this state: failed names are marked, and what is left over is answered and reported
+-- what is answered of this state: failed names are marked, what is left over is answered, and its imports are reported
 pub record IsFinished (end : State) (answer : Answer) : Type 0 where
   pub map : NoneFailed end.map → answer.map ≡ marked end.map (unresolved_imports end.imports)
   pub content : answer.content ≡ end.content
   pub local : answer.local ≡ end.local
   pub outcome : IsOutcome end answer.outcome
-  pub reported : answer.diagnostics ≡ report end
+  pub reported : answer.diagnostics ≡ with_import_reports end

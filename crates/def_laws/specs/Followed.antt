@@ -1,15 +1,10 @@
 -- What is to be done for globs.
-use Rattle.std.specs.Prelude.{◌≡◌, ◌⊎◌, true, false, List, [], ◌∷◌, Option, None, Some}
+use Rattle.std.specs.Prelude.{◌≡◌, ◌⊎◌, true, List, [], ◌∷◌, Option, None, Some}
 use Rattle.def_ids.specs.declared.ids.GlobId.{GlobId}
 use Rattle.def_ids.specs.declared.ids.ModuleId.{ModuleId}
 use Rattle.def_bindings.specs.declared.bindings.ImportOrExternCrate.TheVariants.{Glob}
-use Rattle.def_rules.specs.State.{State, Task}
-use Rattle.def_laws.specs.Roles.{Role, puts, links, stays, role_of, adds_edge, does_more}
-use Rattle.def_rules.specs.Targets.{target_of}
-
--- items are visited while no edge stands or is to be added
-abbrev pub AreApart : List Task → State → Type 0
-AreApart tasks s = (((source : ModuleId) → s.content.edges source ≡ []) × (adds_edge tasks ≡ false)) ⊎ (does_more tasks ≡ false)
+use Rattle.def_rules.specs.State.{Task}
+use Rattle.def_laws.specs.Roles.{Role, puts, links, stays, role_of, adds_edge}
 
 -- what a task is followed by, by its role: where a glob leads to a module, its puts are followed by an edge, which begins there
 abbrev pub IsFollowed : (GlobId → Option ModuleId) → Role → List Task → Type 0

@@ -7,4 +7,5 @@ pub mod Sound
 pub mod Travels
 pub mod Performs
 pub mod Work
+pub mod Depths
 pub mod Turns

@@ -17,6 +17,7 @@ use Rattle.def_modules.specs.MapState.{MapState}
 use Rattle.def_globs.specs.Waves.{HoldsBy}
 use Rattle.def_rules.specs.Globs.{Targets}
 use Rattle.def_rules.specs.State.{State, ImportDirective, Task}
+use Rattle.def_laws.specs.Depths.{WaitsIn}
 use Rattle.def_laws.specs.Roles.{Role, puts, links, stays, role_of, place_of}
 
 -- a module of this map
@@ -58,3 +59,4 @@ AreOwnTasks m targets (task ∷ tasks) = IsOwnTask m targets task × AreOwnTasks
 pub record Stands (todo : List Task) (s : State) : Type 0 where
   pub state : AreOwn s.map s.targets s.content s.imports
   pub tasks : AreOwnTasks s.map s.targets todo
+  pub waiting : (at : ModuleId) → WaitsIn s at → IsOwn s.map at

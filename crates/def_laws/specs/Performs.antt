@@ -1,18 +1,20 @@
 -- Tasks that are performed together, and what an item leaves to be done.
-use Rattle.std.specs.Prelude.{◌≡◌, List, ◌++◌, Option}
+use Rattle.std.specs.Prelude.{◌≡◌, List, [], ◌++◌, Option}
 use Rattle.item_tree.specs.declared.items.ItemNode.{ItemNode}
 use Rattle.def_ids.specs.declared.ids.ModuleId.{ModuleId}
 use Rattle.def_bindings.specs.declared.bindings.Entry.{Entry}
 use Rattle.def_bindings.specs.declared.visibility.Visibility.{Visibility}
 use Rattle.def_oracle.specs.Oracle.{Oracle}
 use Rattle.def_laws.specs.Travels.{Travels}
+use Rattle.def_rules.specs.Calls.{expansion_effect}
 use Rattle.def_rules.specs.Rules.{HandlesInSession}
-use Rattle.def_rules.specs.State.{State, Site, Task, Effect, order, with_content}
+use Rattle.def_rules.specs.State.{State, Expansion, Site, Task, Effect, followed_by, order, with_content}
+use Rattle.def_laws.specs.Depths.{WaitsAlike}
 use Rattle.def_laws.specs.Followed.{AreFollowed}
 use Rattle.def_laws.specs.Sound.{IsSound, KeepsSound}
 use Rattle.def_laws.specs.Own.{Stands}
 use Rattle.def_rules.specs.Targets.{target_of}
-use Rattle.def_laws.specs.Runs.{Runs, StaysRaised}
+use Rattle.def_laws.specs.Runs.{Leads, Runs, StaysRaised}
 use Rattle.item_tree.specs.declared.items.ImportKind.TheVariants as kind
 use Rattle.def_ids.specs.declared.ids.Def.{Def}
 use Rattle.def_ids.specs.declared.ids.GlobId.{GlobId}
@@ -22,11 +24,12 @@ use Rattle.def_rules.specs.Recording.{targets_after}
 abbrev pub target_state : State → GlobId → Option Def → State
 target_state s glob given = record s { targets = targets_after kind.Glob glob given s.targets }
 
--- these tasks are performed, whatever is to be done behind them; names stay sound where the edges of globs are among the tasks
+-- these tasks are performed, whatever is to be done behind them; names stay sound where the edges of globs are among the tasks, and nothing is queued
 pub record Performs (oracle : Oracle) (tasks : List Task) (s t : State) : Type 0 where
   pub runs : (rest : List Task) → Runs oracle (tasks ++ rest) s rest t
   pub keeps : AreFollowed (target_of s.map.id s.targets) tasks → KeepsSound tasks s t
   pub raised : (rest : List Task) → Stands tasks s → IsSound s → StaysRaised (runs rest)
+  pub waits : WaitsAlike s t
 
 -- a list was put in a module, what changed has travelled along the edges, and nothing else changed
 pub record Updated (at : ModuleId) (list : List (Entry Visibility)) (s t : State) : Type 0 where
@@ -44,3 +47,9 @@ pub record Handled (oracle : Oracle) (s t : State) (site : Site) (item : ItemNod
   pub effect : Effect
   pub handled : HandlesInSession oracle s site item effect
   pub done : IsDone oracle effect t inner
+
+-- an expansion was walked, or dropped
+pub record IsExpanded (oracle : Oracle) (expansion : Expansion) (s t : State) : Type 0 where
+  pub inner : List Task
+  pub opened : expansion_effect oracle s expansion ≡ followed_by s inner
+  pub leads : Leads oracle inner s [] t

@@ -43,8 +43,3 @@ is_still _ = false
 abbrev pub adds_edge : List Task → Bool
 adds_edge [] = false
 adds_edge (task ∷ tasks) = is_link (role_of task) || adds_edge tasks
-
--- whether something is to be done beside puts and edges, as a visit that may add a module
-abbrev pub does_more : List Task → Bool
-does_more [] = false
-does_more (task ∷ tasks) = is_still (role_of task) || does_more tasks

@@ -1,10 +1,10 @@
 -- Runs from some tasks to others, and what they keep.
-use Rattle.std.specs.Prelude.{List}
+use Rattle.std.specs.Prelude.{◌≡◌, ℕ, List}
 use Rattle.def_ids.specs.declared.ids.ModuleId.{ModuleId}
 use Rattle.def_bindings.specs.declared.bindings.Slot.{Slot}
 use Rattle.def_oracle.specs.Oracle.{Oracle}
 use Rattle.def_rules.specs.State.{State, Task, Event, Moment}
-use Rattle.def_laws.specs.Followed.{AreApart}
+use Rattle.def_laws.specs.Depths.{LieFrom, Queues}
 use Rattle.def_laws.specs.Sound.{IsRaisedIn, IsSound, KeepsSound}
 use Rattle.def_laws.specs.Own.{Stands}
 use Rattle.def_rules.specs.Steps.{Reaches, IsKeptAlong}
@@ -23,7 +23,13 @@ StaysRaised {s = s} {t = t} runs = (before : List Event) (importer : ModuleId) (
     → IsRaisedIn s importer slot → IsRaisedIn t importer slot
 
 -- so does a run of whole waves: names that are closed and coherent along the globs stay so, and places stay raised
-pub record Leads (oracle : Oracle) (tasks : List Task) (s : State) (tasks' : List Task) (t : State) : Type 0 where
+pub record Collects (oracle : Oracle) (tasks : List Task) (s : State) (tasks' : List Task) (t : State) : Type 0 where
   pub runs : Runs oracle tasks s tasks' t
   pub keeps : KeepsSound tasks s t
-  pub raised : AreApart tasks s → Stands tasks s → IsSound s → StaysRaised runs
+  pub raised : Stands tasks s → IsSound s → StaysRaised runs
+
+-- and no expansion comes or goes, and what is queued lies deeper than what is visited, where no macro or expansion has its turn
+pub record Leads (oracle : Oracle) (tasks : List Task) (s : State) (tasks' : List Task) (t : State) : Type 0 where
+  pub collects : Collects oracle tasks s tasks' t
+  pub expansions : t.expansions ≡ s.expansions
+  pub queues : (least : ℕ) → LieFrom least tasks → LieFrom least tasks' × Queues least s t

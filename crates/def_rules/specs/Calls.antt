@@ -27,7 +27,7 @@ use Rattle.def_paths.specs.OuterMaps.{first_of_each_map}
 use Rattle.def_paths.specs.Paths.{macro_named, map_of, scope}
 use Rattle.def_paths.specs.Sources.{World}
 use Rattle.def_rules.specs.Items.{position_of, top_items, walk}
-use Rattle.def_rules.specs.State.{State, Effect, MacroDirective, FnLike, WrittenCall, only, followed_by, Site, with_map, world}
+use Rattle.def_rules.specs.State.{State, Effect, Expansion, MacroDirective, FnLike, WrittenCall, only, followed_by, Site, with_map, world}
 
 -- Which macro a call finds at once
 
@@ -83,21 +83,25 @@ stored_directory directories at = unwrap_or (directories at) root_directory
 abbrev pub expansion_directory : Oracle → (ModuleId → Option Directory) → ModuleId → MacroCallId → Directory
 expansion_directory oracle directories at call = cond (oracle.is_include call) root_directory (stored_directory directories at)
 
--- where the items of an expansion stand: in the place of the call, one level deeper
-abbrev pub expansion_site : Oracle → State → Site → MacroCallId → Site
-expansion_site oracle s site call =
+-- the expansion of a call that stands here: in its place, one level deeper
+abbrev pub expansion_at : Site → MacroCallId → Expansion
+expansion_at site call = record { scope = site.scope; container = site.container; depth = deeper site.depth; call = call }
+
+-- where the items of an expansion stand
+abbrev pub expansion_site : Oracle → State → Expansion → Site
+expansion_site oracle s expansion =
     record {
-      scope = site.scope;
-      container = site.container;
-      tree = expansion_tree call;
-      depth = deeper site.depth;
-      directory = expansion_directory oracle s.directories site.scope call;
+      scope = expansion.scope;
+      container = expansion.container;
+      tree = expansion_tree expansion.call;
+      depth = expansion.depth;
+      directory = expansion_directory oracle s.directories expansion.scope expansion.call;
     }
 
 -- an expansion is walked, and one that lies too deep is dropped
-abbrev pub expansion_effect : Oracle → State → Site → MacroCallId → Effect
-expansion_effect oracle s site call =
-    cond (is_too_deep s.map (deeper site.depth)) (only s) (followed_by s (walk oracle (expansion_site oracle s site call) (top_items oracle (expansion_tree call))))
+abbrev pub expansion_effect : Oracle → State → Expansion → Effect
+expansion_effect oracle s expansion =
+    cond (is_too_deep s.map expansion.depth) (only s) (followed_by s (walk oracle (expansion_site oracle s expansion) (top_items oracle (expansion_tree expansion.call))))
 
 -- What a call does
 
@@ -110,16 +114,16 @@ invoking at (call ∷ calls) m = invoking at calls (with_module m at (with_invoc
 abbrev pub with_invocations : State → ModuleId → List (InFile FileAstId × MacroCallId) → State
 with_invocations s at calls = with_map s (invoking at.index calls s.map)
 
--- what an item's call is asked with
-abbrev pub call_query : MapState → Site → ItemNode → WrittenCall → PlainCall
-call_query m site item written =
+-- what a call at a position is asked with, by how deep its expansion would lie
+abbrev pub call_query : MapState → InFile FileAstId → ℕ → WrittenCall → PlainCall
+call_query m position depth written =
     record {
-      position = position_of site item;
+      position = position;
       path = written.path;
       ctxt = written.ctxt;
       kind = written.expand_to;
       krate = m.id.krate;
-      depth = deeper site.depth;
+      depth = depth;
       recursion_limit = limit_of m.krate;
     }
 
@@ -138,7 +142,7 @@ queued s site item written = record s { macros = s.macros ++ waiting site item w
 -- a call was made, and is expanded; where there is none, nothing follows
 abbrev pub made_effect : Oracle → State → Site → ItemNode → Option MacroCallId → Effect
 made_effect oracle s site item None = only s
-made_effect oracle s site item (Some call) = expansion_effect oracle (with_invocations s site.scope ((position_of site item, call) ∷ [])) site call
+made_effect oracle s site item (Some call) = expansion_effect oracle (with_invocations s site.scope ((position_of site item, call) ∷ [])) (expansion_at site call)
 
 -- an answer without an error is final, and a call with one waits
 abbrev pub told_effect : Oracle → State → Site → ItemNode → WrittenCall → Option MacroCallId → Option ℕ → Effect
@@ -152,4 +156,4 @@ answered_effect oracle s site item written (Err unresolved) = only (queued s sit
 
 -- a macro call is tried where it stands
 abbrev pub call_effect : Oracle → State → Site → ItemNode → WrittenCall → Effect
-call_effect oracle s site item written = answered_effect oracle s site item written (answer_by oracle (early_meaning (world oracle s) site.scope) (call_query s.map site item written))
+call_effect oracle s site item written = answered_effect oracle s site item written (answer_by oracle (early_meaning (world oracle s) site.scope) (call_query s.map (position_of site item) (deeper site.depth) written))

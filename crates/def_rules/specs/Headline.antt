@@ -16,8 +16,9 @@ use Rattle.def_rules.specs.Report.{Answer, IsAnswerOf, report}
 pub record Run (w : Setting) (before : Session) : Type 0 where
   pub end : Moment
   pub runs : Reaches w.oracle (start w before) end
-  -- every reached item is handled
+  -- every reached item is handled, and no expansion is left to be walked
   pub done : end.tasks ≡ []
+  pub expanded : end.state.expansions ≡ []
 
 -- one moment of the run comes before another
 pub record IsOnRun (w : Setting) (before : Session) (end a b : Moment) : Type 0 where
@@ -25,8 +26,8 @@ pub record IsOnRun (w : Setting) (before : Session) (end a b : Moment) : Type 0 
   pub goes_on : Reaches w.oracle a b
   pub ends : Reaches w.oracle b end
 
--- What is answered ends a run in which every reached item is handled, is closed, coherent and raised along the recorded globs, and has no import left over that resolves;
--- its diagnostics are the run's and those of the leftovers.
+-- What is answered ends a run in which every reached item is handled, is closed, coherent and raised along the recorded globs, and has no import left over that resolves
+-- and no macro left over that gives a call; its diagnostics are the run's and those of the leftovers.
 pub record Answers (w : Setting) (before after : Session) (answer : Answer) : Type 0 where
   pub run : Run w before
   pub session : run.end.state.session ≡ after
@@ -47,4 +48,4 @@ pub record Answers (w : Setting) (before after : Session) (answer : Answer) : Ty
   pub settled : IsSettled w.oracle run.end.state
   -- each namespace of each recorded import is bound
   pub every_namespace : HasEveryNamespace w.oracle run.end
-  pub reported : answer.diagnostics ≡ report run.end.state
+  pub reported : answer.diagnostics ≡ report w.oracle run.end.state

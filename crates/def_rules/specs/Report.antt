@@ -1,5 +1,5 @@
 -- What is answered of a run's end, and what is reported.
-use Rattle.std.specs.Prelude.{◌≡◌, ℕ, suc, Bool, true, false, cond, ◌&&◌, ◌||◌, nat_eq, List, [], ◌∷◌, ◌++◌, filter, map, Option, Some, Vec}
+use Rattle.std.specs.Prelude.{◌≡◌, ℕ, suc, Bool, true, false, cond, ◌&&◌, ◌||◌, nat_eq, List, [], ◌∷◌, ◌++◌, filter, map, Option, Some, Result, Ok, Err, Vec}
 use Rattle.std.specs.declared.alloc.Global.{Global}
 use Rattle.std.specs.List.{IsDistinct, flat_map}
 use Rattle.std.specs.Map.{keys_of, lookup}
@@ -18,14 +18,18 @@ use Rattle.def_bindings.specs.declared.visibility.Visibility.{Visibility}
 use Rattle.def_bindings.specs.Content.{Content}
 use Rattle.def_modules.specs.MapState.{MapState, ModuleState}
 use Rattle.def_modules.specs.MapView.{LocalView}
+use Rattle.def_oracle.specs.declared.source_database.CallAnswer.{CallAnswer}
+use Rattle.def_oracle.specs.declared.source_database.UnresolvedMacro.{UnresolvedMacro}
+use Rattle.def_oracle.specs.Oracle.{Oracle}
 use Rattle.def_rules.specs.declared.diagnostics.DefDiagnostic.{DefDiagnostic}
-use Rattle.def_rules.specs.declared.diagnostics.DefDiagnosticKind.TheVariants.{UnresolvedImport}
+use Rattle.def_rules.specs.declared.diagnostics.DefDiagnosticKind.TheVariants.{UnresolvedImport, UnresolvedMacroCall}
 use Rattle.def_rules.specs.declared.outcome.Edge.{Edge}
 use Rattle.def_rules.specs.declared.outcome.LeftImport.{LeftImport}
 use Rattle.def_rules.specs.declared.outcome.LeftMacro.{LeftMacro}
 use Rattle.def_rules.specs.declared.outcome.LeftMacroKind.{LeftMacroKind}
 use Rattle.def_rules.specs.declared.outcome.LeftMacroKind.TheVariants.{Fn}
 use Rattle.def_rules.specs.declared.outcome.Outcome.{Outcome}
+use Rattle.def_rules.specs.Directives.{macro_answer}
 use Rattle.def_rules.specs.Imports.{bound_name, unresolved_imports}
 use Rattle.def_rules.specs.Globs.{Targets}
 use Rattle.def_rules.specs.State.{State, Import, MacroDirective, MacroDirectiveKind, FnLike}
@@ -121,9 +125,30 @@ is_excused missing path = may_name_crate path.kind && begins_with missing path.s
 abbrev pub import_report : (Name → Bool) → Import → List DefDiagnostic
 import_report missing p = cond (is_excused missing p.written.path) [] (unresolved p ∷ [])
 
--- the run's diagnostics, and then those of the imports left over
-abbrev pub report : State → List DefDiagnostic
-report end = end.diagnostics ++ flat_map (import_report end.missing_crates) (unresolved_imports end.imports)
+-- a macro that is left over is reported, with the path that was not found
+abbrev pub unresolved_macro : MacroDirective → ModPath → DefDiagnostic
+unresolved_macro d path = record { «module» = d.scope; ast_id = d.position; kind = UnresolvedMacroCall (left_kind d.kind).0 path }
+
+-- what is reported of a call that is left over, by its answer: only that its macro is not found
+abbrev pub answer_report : MacroDirective → Result CallAnswer UnresolvedMacro → List DefDiagnostic
+answer_report d (Ok answer) = []
+answer_report d (Err unresolved) = unresolved_macro d unresolved.path ∷ []
+
+-- what is reported of what waits for a macro and is left over
+abbrev pub macro_report : Oracle → State → MacroDirective → List DefDiagnostic
+macro_report oracle end d = answer_report d (macro_answer oracle end d)
+
+-- the end, with the macros left over reported
+abbrev pub with_macro_reports : Oracle → State → State
+with_macro_reports oracle end = record end { diagnostics = end.diagnostics ++ flat_map (macro_report oracle end) end.macros }
+
+-- the diagnostics so far, and then those of the imports left over
+abbrev pub with_import_reports : State → List DefDiagnostic
+with_import_reports end = end.diagnostics ++ flat_map (import_report end.missing_crates) (unresolved_imports end.imports)
+
+-- the run's diagnostics, then those of the macros left over, and then those of the imports
+abbrev pub report : Oracle → State → List DefDiagnostic
+report oracle end = with_import_reports (with_macro_reports oracle end)
 
 -- the answer is what the end has, with the failed names marked
 pub record IsAnswerOf (end : State) (answer : Answer) : Type 0 where

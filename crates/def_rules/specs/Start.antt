@@ -37,6 +37,7 @@ seeded_state w session =
       directories = λ at. None;
       imports = [];
       macros = [];
+      expansions = [];
       diagnostics = [];
     }
 

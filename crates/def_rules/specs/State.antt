@@ -2,6 +2,7 @@
 use Rattle.std.specs.Prelude.{◌≡◌, ℕ, Bool, true, List, [], ◌∷◌, ◌++◌, map, Option, None, Some, unwrap_or, IsPermutation}
 use Rattle.item_tree.specs.declared.ids.FileAstId.{FileAstId}
 use Rattle.item_tree.specs.declared.ids.InFile.{InFile}
+use Rattle.item_tree.specs.declared.ids.MacroCallId.{MacroCallId}
 use Rattle.item_tree.specs.declared.ids.ModItemId.{ModItemId}
 use Rattle.item_tree.specs.declared.ids.TreeId.{TreeId}
 use Rattle.item_tree.specs.declared.ids.SyntaxContext.{SyntaxContext}
@@ -73,6 +74,14 @@ pub record MacroDirective : Type 0 where
   pub depth : ℕ
   pub kind : MacroDirectiveKind
 
+-- an expansion that is to be walked: its call, and where its items are to stand
+pub record Expansion : Type 0 where
+  pub scope : ModuleId
+  pub container : ItemContainerId
+  -- how deep in expansions they lie
+  pub depth : ℕ
+  pub call : MacroCallId
+
 -- a set of namespaces
 pub record NsSet : Type 0 where
   pub types : Bool
@@ -107,6 +116,8 @@ pub record State : Type 0 where
   pub imports : List ImportDirective
   -- the macro calls that wait for their macros
   pub macros : List MacroDirective
+  -- the expansions that are to be walked, of calls that waited
+  pub expansions : List Expansion
   pub diagnostics : List DefDiagnostic
 
 -- where the items of a list stand: their module, what contains them, the tree that holds them, how deep in expansions of macros, and the directory of their modules' files

@@ -3,6 +3,7 @@ use Rattle.std.specs.Prelude.{◌≡◌, List, [], ◌∷◌, Option, None, Some
 use Rattle.item_tree.specs.declared.name.Name.{Name}
 use Rattle.def_ids.specs.declared.ids.GlobId.{GlobId}
 use Rattle.def_ids.specs.declared.ids.ModuleId.{ModuleId}
+use Rattle.def_bindings.specs.declared.bindings.Binding.{Binding}
 use Rattle.def_bindings.specs.declared.bindings.EdgeTo.{EdgeTo}
 use Rattle.def_bindings.specs.declared.bindings.Entry.{Entry}
 use Rattle.def_bindings.specs.declared.bindings.Slot.{Slot}
@@ -15,6 +16,7 @@ use Rattle.def_oracle.specs.Oracle.{Oracle}
 use Rattle.def_globs.specs.Globs.{with_recorded}
 use Rattle.def_globs.specs.Raised.{KeepsDef}
 use Rattle.def_rules.specs.State.{State, Effect, Task, Enter, Visit, Put, AddEdge, Bring, Event, PutExplicit, Moment, after, entered, only, with_state, with_content, order, Rearranges}
+use Rattle.def_rules.specs.Directives.{ExpansionStep, MacroStep}
 use Rattle.def_rules.specs.Items.{noted_in}
 use Rattle.def_rules.specs.Recording.{ImportStep}
 use Rattle.def_rules.specs.Rules.{Visits}
@@ -49,7 +51,7 @@ pub record Copies (s : State) (content : Content Visibility) : Type 0 where
   pub stands : slice_get (s.content.edges source) index ≡ Some edge
   pub after : content ≡ copied (order s) source edge slot s.content
 
--- one step. What a rule leads to goes before the rest; no import has its turn before all that is to be done is done.
+-- one step. What a rule leads to goes before the rest; no import, macro or expansion has its turn before all that is to be done is done.
 pub data Step (oracle : Oracle) (a b : Moment) : Type 0 where
   -- the first task is performed, and its own tasks come before the rest
   performs : (task : Task) (rest : List Task) (effect : Effect) → a.tasks ≡ task ∷ rest → Does oracle a.state task effect → b ≡ after a rest effect → Step oracle a b
@@ -59,6 +61,10 @@ pub data Step (oracle : Oracle) (a b : Moment) : Type 0 where
   rearranges : (state : State) → Rearranges a.state state → b ≡ with_state a state → Step oracle a b
   -- where nothing is left to do, an import that is ready is recorded
   records : (effect : Effect) → a.tasks ≡ [] → ImportStep oracle a.state effect → b ≡ after a [] effect → Step oracle a b
+  -- a macro that waits is asked
+  asks : (effect : Effect) → a.tasks ≡ [] → MacroStep oracle a.state effect → b ≡ after a [] effect → Step oracle a b
+  -- the expansion of one that waited is walked
+  expands : (effect : Effect) → a.tasks ≡ [] → ExpansionStep oracle a.state effect → b ≡ after a [] effect → Step oracle a b
 
 -- steps in any order and number
 pub data Reaches (oracle : Oracle) : Moment → Moment → Type 0 where
@@ -66,9 +72,17 @@ pub data Reaches (oracle : Oracle) : Moment → Moment → Type 0 where
   one : {a b : Moment} → Step oracle a b → Reaches oracle a b
   join : {a b c : Moment} → Reaches oracle a b → Reaches oracle b c → Reaches oracle a c
 
--- what a step keeps of a place: its definition, and what the source of an edge that is still to be added to its module binds at its slot
+-- a visibility that stands near a place: of what is bound there, of an edge to it, or of what such an edge carries to it
+pub data StandsNear (c : Content Visibility) (importer : ModuleId) (slot : Slot) (vis : Visibility) : Type 0 where
+  bound : (b : Binding Visibility) → held c importer slot ≡ Some b → b.vis ≡ vis → StandsNear c importer slot vis
+  linked : (source : ModuleId) (index : ℕ) (edge : EdgeTo Visibility) → slice_get (c.edges source) index ≡ Some edge → edge.importer ≡ importer → edge.vis ≡ vis → StandsNear c importer slot vis
+  carried : (source : ModuleId) (index : ℕ) (edge : EdgeTo Visibility) (b : Binding Visibility) → slice_get (c.edges source) index ≡ Some edge → edge.importer ≡ importer
+      → held c source slot ≡ Some b → b.vis ≡ vis → StandsNear c importer slot vis
+
+-- what a step keeps of a place: its definition, how the visibilities that stand near it compare, and what the source of an edge that is still to be added to its module binds at its slot
 pub record KeepsPlace (a b : Moment) (importer : ModuleId) (slot : Slot) : Type 0 where
   pub def : KeepsDef a.state.content b.state.content importer slot
+  pub order : (v w : Visibility) → StandsNear a.state.content importer slot v → StandsNear a.state.content importer slot w → (order b.state).at_most v w ≡ (order a.state).at_most v w
   pub sources : (source : ModuleId) (edge : EdgeTo Visibility) → Contains a.tasks (AddEdge source edge) → Contains b.tasks (AddEdge source edge) → edge.importer ≡ importer
       → held b.state.content source slot ≡ held a.state.content source slot
 

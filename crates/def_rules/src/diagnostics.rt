@@ -1,7 +1,8 @@
 //! What a run reports.
 
+use crate::outcome::LeftMacroKind;
 use def_ids::ModuleId;
-use item_tree::{CfgExpr, FileAstId, InFile, Seq, Text};
+use item_tree::{CfgExpr, FileAstId, InFile, ModPath, Seq, Text};
 
 /// What a diagnostic says.
 #[derive(Clone, PartialEq, Eq, Debug, Drop)]
@@ -12,6 +13,8 @@ pub enum DefDiagnosticKind {
     UnresolvedImport { index: u32 },
     /// An extern crate that was not found.
     UnresolvedExternCrate,
+    /// A macro that no pass could expand: how it is called, and the path that was not found.
+    UnresolvedMacroCall { kind: LeftMacroKind, path: ModPath },
     /// A macro that is marked as builtin, and that no builtin implements.
     UnimplementedBuiltinMacro,
     /// An item or a file that is not compiled: the condition that is not met.

@@ -28,7 +28,7 @@ use Rattle.def_oracle.specs.Queries.{PlainCall}
 use Rattle.def_rules.specs.Headline.{Answers}
 use Rattle.def_rules.specs.Report.{Answer, IsOutcome}
 use Rattle.def_rules.specs.Start.{start}
-use Rattle.def_rules.specs.State.{Setting, Moment, PutExplicit}
+use Rattle.def_rules.specs.State.{Setting, Moment}
 use Rattle.def_rules.specs.Steps.{Reaches, join, one, performs}
 use Rattle.def_runs.proofs.RowLemmas.{answer_of, answers_without, no_targets}
 use Rattle.def_runs.proofs.Rows.{crate_of, knowing, loc, module_at, no_session, position, session_with, unchanged}
@@ -124,11 +124,11 @@ shown : IsOutcome last.state nothing_left
 shown = record { imports = refl; macros = refl; edges = λ source. refl; targets = no_targets; limit = refl }
 
 abbrev pub answered : Answer
-answered = answer_of last.state nothing_left
+answered = answer_of setting.oracle last.state nothing_left
 
 -- what is answered of this crate
 called_answers : Answers setting no_session session answered
-called_answers = answers_without setting no_session last nothing_left walked.1 refl refl shown (λ source. refl) refl
+called_answers = answers_without setting no_session last nothing_left walked.1 refl refl refl refl shown (λ source. refl) refl
 
 -- struct 0, of the root, as its expansion says
 abbrev pub declared : ℕ → Binding Visibility

@@ -203,12 +203,12 @@ both_edges : listed leaving ≡ listed_edge (module_at 1) (edge 2 1) ∷ listed_
 both_edges = refl
 
 abbrev answered : Answer
-answered = answer_of last.state outcome
+answered = answer_of setting.oracle last.state outcome
 
 -- what is answered of this crate
 cycle_answers : Answers setting no_session session answered
 cycle_answers =
-    answers setting no_session last outcome ran refl refl shown
+    answers setting no_session last outcome ran refl refl refl refl shown
     (closed_by_test rows leaving last.state.content is_table (order last.state) (leaves_out last.state) refl)
     (coherent_by_test rows leaving last.state.content is_table (order last.state) (leaves_out last.state) (target_of last.state.map.id last.state.targets) refl)
     (raised_by_test rows leaving last.state.content is_table (order last.state) refl)

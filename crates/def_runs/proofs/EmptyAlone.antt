@@ -1,5 +1,5 @@
 -- A crate without items has no other answer: whatever run is taken, one module is answered in which nothing is bound, and nothing is reported.
-use Rattle.std.proofs.Common.{◌≡◌, ◌⊎◌, inl, inr, flat_map, [], ◌∷◌, ◌++◌, None, slice_get, IsPermutation, refl, sym, subst, ap, ◌∙◌}
+use Rattle.std.proofs.Common.{◌≡◌, ◌⊎◌, inl, inr, flat_map, [], ◌∷◌, ◌++◌, None, slice_get, refl, sym, subst, ap, ◌∙◌}
 use Rattle.def_interner.specs.Session.{Session}
 use Rattle.def_bindings.specs.declared.visibility.Visibility.{Visibility}
 use Rattle.def_bindings.specs.declared.visibility.Visibility.TheVariants.{Public}
@@ -10,12 +10,12 @@ use Rattle.def_modules.specs.Scopes.{empty_module}
 use Rattle.def_laws.proofs.RunsLaws.{kept_along}
 use Rattle.def_rules.specs.Headline.{Answers}
 use Rattle.def_rules.specs.Imports.{unresolved_imports}
-use Rattle.def_rules.specs.Report.{Answer, import_report, marked}
+use Rattle.def_rules.specs.Report.{Answer, import_report, macro_report, marked}
 use Rattle.def_rules.specs.Start.{first_site, start}
 use Rattle.def_rules.specs.State.{Site, State, Effect, Enter, Moment, after, entered, only}
-use Rattle.def_rules.specs.Steps.{Does, Step, performs, copies, rearranges, records}
+use Rattle.def_rules.specs.Steps.{Does, Step, performs, asks, copies, expands, rearranges, records}
 use Rattle.def_runs.proofs.Empty.{setting}
-use Rattle.def_runs.proofs.RowLemmas.{none_in_any_order, none_recorded}
+use Rattle.def_runs.proofs.RowLemmas.{NoneWaits, none_asked, none_recorded, none_taken, none_waits_rearranged}
 use Rattle.def_runs.proofs.Rows.{no_session}
 
 -- where the items of the root stand
@@ -26,7 +26,7 @@ root = first_site setting.oracle setting.seeded setting.tree
 record IsBare (s : State) : Type 0 where
   map : s.map ≡ setting.seeded
   content : s.content ≡ empty
-  imports : s.imports ≡ []
+  waits : NoneWaits s
   diagnostics : s.diagnostics ≡ []
 
 record IsBareAt (m : Moment) : Type 0 where
@@ -35,7 +35,7 @@ record IsBareAt (m : Moment) : Type 0 where
 
 -- the state changes in its directories alone
 bare_entered : (s : State) → IsBare s → IsBare (entered s root.scope root.directory)
-bare_entered s bare = record { map = bare.map; content = bare.content; imports = bare.imports; diagnostics = bare.diagnostics }
+bare_entered s bare = record { map = bare.map; content = bare.content; waits = bare.waits; diagnostics = bare.diagnostics }
 
 bare_step : (a b : Moment) → Step setting.oracle a b → IsBareAt a → IsBareAt b
 bare_step a b (performs task rest effect first does is) bare = subst IsBareAt (sym is) (by bare.tasks)
@@ -56,14 +56,16 @@ bare_step a b (rearranges s same is) bare = subst IsBareAt (sym is) (record {
   state = subst IsBare (sym same.rest) (record {
     map = bare.state.map;
     content = bare.state.content;
-    imports = none_in_any_order s.imports (subst (λ ps. IsPermutation ps s.imports) bare.state.imports same.imports);
+    waits = subst NoneWaits same.rest (none_waits_rearranged a.state s bare.state.waits same);
     diagnostics = bare.state.diagnostics;
   });
 })
-bare_step a b (records effect idle step is) bare = absurd (none_recorded setting.oracle a.state effect bare.state.imports step)
+bare_step a b (records effect idle step is) bare = absurd (none_recorded setting.oracle a.state effect bare.state.waits.0 step)
+bare_step a b (asks effect idle step is) bare = absurd (none_asked setting.oracle a.state effect bare.state.waits.1 step)
+bare_step a b (expands effect idle step is) bare = absurd (none_taken setting.oracle a.state effect bare.state.waits.2 step)
 
 begins : IsBareAt (start setting no_session)
-begins = record { tasks = inl refl; state = record { map = refl; content = refl; imports = refl; diagnostics = refl } }
+begins = record { tasks = inl refl; state = record { map = refl; content = refl; waits = (refl, refl, refl); diagnostics = refl } }
 
 module _ (after : Session) (answer : Answer) (answers : Answers setting no_session after answer) where
   ends : IsBare answers.run.end.state
@@ -74,8 +76,11 @@ module _ (after : Session) (answer : Answer) (answers : Answers setting no_sessi
 
   nothing_is_reported : answer.diagnostics ≡ []
   nothing_is_reported =
-      answers.reported ∙ (ap (λ ps. answers.run.end.state.diagnostics ++ flat_map (import_report answers.run.end.state.missing_crates) (unresolved_imports ps)) ends.imports ∙ ap (λ ds. ds ++ []) ends.diagnostics)
+      let end = answers.run.end.state in
+      answers.reported
+      ∙ (ap (λ ps. (end.diagnostics ++ flat_map (macro_report setting.oracle end) end.macros) ++ flat_map (import_report end.missing_crates) (unresolved_imports ps)) ends.waits.0
+      ∙ (ap (λ ms. (end.diagnostics ++ flat_map (macro_report setting.oracle end) ms) ++ []) ends.waits.1 ∙ ap (λ ds. (ds ++ []) ++ []) ends.diagnostics))
 
   it_is_one_module : answer.map.modules ≡ empty_module None CrateRoot Public ∷ []
   it_is_one_module =
-      ap (λ (m : MapState). m.modules) (answers.answered.map ∙ (ap (λ ps. marked answers.run.end.state.map (unresolved_imports ps)) ends.imports ∙ ap (λ m. marked m []) ends.map))
+      ap (λ (m : MapState). m.modules) (answers.answered.map ∙ (ap (λ ps. marked answers.run.end.state.map (unresolved_imports ps)) ends.waits.0 ∙ ap (λ m. marked m []) ends.map))

@@ -2,6 +2,7 @@
 use Rattle.std.proofs.Common.{◌≡◌, Bool, true, false, Some, None, List, [], ◌∷◌, ◌++◌, map, refl, sym, subst, ap, ◌∙◌, Contains, lit<, append-nil, Option}
 use Rattle.std.specs.List.{flat_map}
 use Rattle.item_tree.specs.declared.name.Name.{Name}
+use Rattle.item_tree.specs.declared.ids.MacroCallId.{MacroCallId}
 use Rattle.def_ids.specs.declared.ids.GlobId.{GlobId}
 use Rattle.def_ids.specs.declared.ids.ModuleId.{ModuleId}
 use Rattle.def_interner.specs.Session.{Session}
@@ -19,14 +20,15 @@ use Rattle.def_laws.proofs.FootprintLaws.{visits_footprint}
 use Rattle.def_laws.proofs.StaysLaws.{explicit_stays_along}
 use Rattle.def_rules.specs.declared.diagnostics.DefDiagnostic.{DefDiagnostic}
 use Rattle.def_rules.specs.declared.outcome.LeftImport.{LeftImport}
+use Rattle.def_rules.specs.Directives.{ExpansionStep, given_call, macro_answer}
 use Rattle.def_rules.specs.Headline.{Answers, Run}
 use Rattle.def_rules.specs.Imports.{answer_now, is_ready, no_namespaces, unresolved_imports}
 use Rattle.def_rules.specs.Recording.{ImportStep}
-use Rattle.def_rules.specs.Report.{Answer, import_report, left_import, may_name_crate, report, unresolved}
-use Rattle.def_rules.specs.State.{Setting, State, Effect, Task, Enter, Visit, Put, Bring, AddEdge, Moment, Import, ImportDirective, Recorded}
-use Rattle.def_rules.specs.Steps.{Does, Reaches, Step, copies, event_of, performs, rearranges, records}
+use Rattle.def_rules.specs.Report.{Answer, import_report, left_import, may_name_crate, report, unresolved, with_macro_reports}
+use Rattle.def_rules.specs.State.{Setting, State, Effect, Task, Enter, Visit, Put, Bring, AddEdge, Moment, Import, ImportDirective, MacroDirective, Recorded}
+use Rattle.def_rules.specs.Steps.{Does, Reaches, Step, asks, copies, event_of, expands, performs, rearranges, records}
 use Rattle.def_runs.proofs.Plain as plain
-use Rattle.def_runs.proofs.RowLemmas.{none_recorded_unready}
+use Rattle.def_runs.proofs.RowLemmas.{none_recorded_unready, none_taken}
 use Rattle.def_runs.proofs.Rows.{no_session, not_recorded}
 
 -- Ends
@@ -53,6 +55,15 @@ both_left_is_no_answer after answer answers early =
     (λ left. answers.settled.imports.none waits left) (0, lit< tt, refl) in
     cc
 
+-- no answer leaves a macro over that is given a call
+no_macro_is_left_that_is_given_a_call : (w : Setting) (before after : Session) (answer : Answer) (answers : Answers w before after answer) (directive : MacroDirective) (call : MacroCallId)
+    → Contains answers.run.end.state.macros directive → given_call (macro_answer w.oracle answers.run.end.state directive) ≡ Some call → ⊥
+no_macro_is_left_that_is_given_a_call w before after answer answers directive call left given = let none = answers.settled.macros.none directive left in cc
+
+-- nor an expansion that is still to be walked or dropped
+no_expansion_is_left : (w : Setting) (before after : Session) (answer : Answer) (answers : Answers w before after answer) (effect : Effect) → ExpansionStep w.oracle answers.run.end.state effect → ⊥
+no_expansion_is_left w before after answer answers effect = none_taken w.oracle answers.run.end.state effect answers.run.expanded
+
 -- Diagnostics
 
 -- a list is empty only where its end is
@@ -76,16 +87,16 @@ an_answer_that_drops_a_diagnostic_is_none w before after answer answers left oth
     at (unresolved_imports answers.run.end.state.imports) (sym answers.answered.outcome.imports ∙ listed) (sym answers.reported ∙ none)
   where
     at : (imports : List Import) → map left_import imports ≡ left ∷ others
-        → answers.run.end.state.diagnostics ++ flat_map (import_report answers.run.end.state.missing_crates) imports ≡ [] → ⊥
+        → (with_macro_reports w.oracle answers.run.end.state).diagnostics ++ flat_map (import_report answers.run.end.state.missing_crates) imports ≡ [] → ⊥
     at [] shown none = cc
     at (p ∷ ps) shown none =
         let same : left_import p ≡ left = cc in
-        reports answers.run.end.state.missing_crates p ps answers.run.end.state.diagnostics (ap (λ (l : LeftImport). may_name_crate l.path.kind) same ∙ kind) none
+        reports answers.run.end.state.missing_crates p ps (with_macro_reports w.oracle answers.run.end.state).diagnostics (ap (λ (l : LeftImport). may_name_crate l.path.kind) same ∙ kind) none
 
 -- of the crate above, at the end of its run: `a::T` has to be reported
 t_has_to_be_reported : (after : Session) (answer : Answer) (answers : Answers plain.setting no_session after answer) → answers.run.end ≡ plain.last → answer.diagnostics ≡ [] → ⊥
 t_has_to_be_reported after answer answers ends none =
-    let nothing : report plain.last.state ≡ [] = subst (λ (m : Moment). report m.state ≡ []) ends (sym answers.reported ∙ none) in
+    let nothing : report plain.setting.oracle plain.last.state ≡ [] = subst (λ (m : Moment). report plain.setting.oracle m.state ≡ []) ends (sym answers.reported ∙ none) in
     cc
 
 -- Copies
@@ -147,3 +158,5 @@ no_import_before_its_turn oracle a b task rest p foreign left step happened = at
     at (copies content copy after) = nothing_happened (ap (λ (m : Moment). m.events) after)
     at (rearranges state same after) = nothing_happened (ap (λ (m : Moment). m.events) after)
     at (records effect idle recorded after) = cc
+    at (asks effect idle asked after) = cc
+    at (expands effect idle taken after) = cc

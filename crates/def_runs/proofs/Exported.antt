@@ -1,5 +1,5 @@
 -- `mod m { #[rustc_builtin_macro] #[macro_export] macro_rules! foo {} }`, where no builtin has the name: foo is reported, and declared in the root all the same.
-use Rattle.std.proofs.Common.{◌≡◌, ℕ, zero, false, Option, Some, None, [], ◌∷◌, refl, map}
+use Rattle.std.proofs.Common.{◌≡◌, ℕ, zero, Option, Some, None, [], ◌∷◌, refl, map}
 use Rattle.item_tree.specs.declared.attrs.Attr.{Attr}
 use Rattle.item_tree.specs.declared.attrs.AttrsOrCfg.TheVariants.{Enabled}
 use Rattle.item_tree.specs.declared.items.ItemNode.{ItemNode}
@@ -80,11 +80,11 @@ shown : IsOutcome last.state nothing_left
 shown = record { imports = refl; macros = refl; edges = λ source. refl; targets = no_targets; limit = refl }
 
 abbrev answered : Answer
-answered = answer_of last.state nothing_left
+answered = answer_of setting.oracle last.state nothing_left
 
 -- what is answered of this crate
 exported_answers : Answers setting no_session session answered
-exported_answers = answers_without setting no_session last nothing_left run.1 refl refl shown (λ source. refl) refl
+exported_answers = answers_without setting no_session last nothing_left run.1 refl refl refl refl shown (λ source. refl) refl
 
 -- macro 0 by rules, public, by declaration
 abbrev held : Binding Visibility

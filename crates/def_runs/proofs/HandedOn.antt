@@ -1,5 +1,5 @@
 -- `#[macro_use] mod m { macro_rules! foo {} } use foo as bar;`: once `m` is walked its textual macro is the root's too, and the import finds it.
-use Rattle.std.proofs.Common.{◌≡◌, ℕ, zero, true, false, Option, Some, None, [], ◌∷◌, refl}
+use Rattle.std.proofs.Common.{◌≡◌, ℕ, zero, Option, Some, None, [], ◌∷◌, refl}
 use Rattle.item_tree.specs.declared.attrs.AttrsOrCfg.TheVariants.{Enabled}
 use Rattle.item_tree.specs.declared.items.ImportKind.TheVariants.{Plain as PlainImport}
 use Rattle.item_tree.specs.declared.items.ItemNode.{ItemNode}
@@ -114,11 +114,11 @@ shown : IsOutcome last.state nothing_left
 shown = record { imports = refl; macros = refl; edges = λ source. refl; targets = no_targets; limit = refl }
 
 abbrev answered : Answer
-answered = answer_of last.state nothing_left
+answered = answer_of setting.oracle last.state nothing_left
 
 -- what is answered of this crate
 handed_on_answers : Answers setting no_session session answered
-handed_on_answers = answers_without setting no_session last nothing_left ran refl refl shown (λ source. refl) refl
+handed_on_answers = answers_without setting no_session last nothing_left ran refl refl refl refl shown (λ source. refl) refl
 
 -- both modules have the macro, and neither binds its name
 in_both : (textual_at answered.map 0 foo ≡ the_macro ∷ []) × (textual_at answered.map 1 foo ≡ the_macro ∷ [])

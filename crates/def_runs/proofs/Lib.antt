@@ -20,3 +20,4 @@ pub mod OneStructAlone
 pub mod Excused
 pub mod Called
 pub mod Waiting
+pub mod Unresolved

@@ -1,5 +1,5 @@
 -- Each answer of `pub struct S;` binds S, whatever run is taken: so the map as it was seeded, with nothing bound, is no answer.
-use Rattle.std.proofs.Common.{◌≡◌, inl, inr, ℕ, Some, None, List, [], ◌∷◌, ◌++◌, IsPermutation, refl, sym, subst, ap, ◌∙◌, append-nil}
+use Rattle.std.proofs.Common.{◌≡◌, inl, inr, ℕ, Some, None, List, [], ◌∷◌, ◌++◌, refl, sym, subst, ap, ◌∙◌, append-nil}
 use Rattle.def_ids.specs.declared.ids.Def.TheVariants.{Struct}
 use Rattle.def_interner.specs.Session.{Session}
 use Rattle.def_bindings.specs.declared.bindings.Binding.{Binding}
@@ -16,9 +16,9 @@ use Rattle.def_rules.specs.Report.{Answer}
 use Rattle.def_rules.specs.Settled.{IsDeclared}
 use Rattle.def_rules.specs.Start.{first_site, start}
 use Rattle.def_rules.specs.State.{Site, State, Effect, Task, Enter, Visit, Event, PutExplicit, Moment, after, with_content, with_state}
-use Rattle.def_rules.specs.Steps.{Does, Step, performs, copies, rearranges, records}
+use Rattle.def_rules.specs.Steps.{Does, Step, performs, asks, copies, expands, rearranges, records}
 use Rattle.def_runs.proofs.OneStruct.{S, setting}
-use Rattle.def_runs.proofs.RowLemmas.{none_in_any_order, none_recorded}
+use Rattle.def_runs.proofs.RowLemmas.{NoneWaits, none_asked, none_recorded, none_taken, none_waits_rearranged}
 use Rattle.def_runs.proofs.Rows.{module_at, no_session}
 
 -- where the items of the root stand
@@ -44,20 +44,20 @@ data Stage (m : Moment) : Type 0 where
   puts_values : (n : ℕ) → m.tasks ≡ put_in Values n ∷ [] → m.events ≡ was_put_in Types n ∷ [] → Stage m
   ends : (n : ℕ) → m.tasks ≡ [] → m.events ≡ was_put_in Types n ∷ was_put_in Values n ∷ [] → Stage m
 
--- and no import ever waits
+-- and nothing ever waits for its turn
 record IsOnWay (m : Moment) : Type 0 where
   stage : Stage m
-  imports : m.state.imports ≡ []
+  waits : NoneWaits m.state
 
 -- a run goes on where a task's effect is known
 record Moves (a : Moment) (rest : List Task) (effect : Effect) : Type 0 where
   stage : Stage (after a rest effect)
-  imports : effect.state.imports ≡ []
+  waits : NoneWaits effect.state
 
 -- the directory of the root is stored
 enters : (a : Moment) (rest : List Task) (effect : Effect) → IsOnWay a → a.events ≡ [] → rest ≡ Visit root (record { 0 = 0 }) ∷ [] → Does setting.oracle a.state (Enter root.scope root.directory) effect → Moves a rest effect
 enters a rest effect way none left does =
-    subst (Moves a rest) (sym does) (record { stage = visits left (append-nil a.events ∙ none); imports = way.imports })
+    subst (Moves a rest) (sym does) (record { stage = visits left (append-nil a.events ∙ none); waits = way.waits })
 
 -- the struct is visited, in a session that may have more, and gets some number
 visited : (a : Moment) (rest : List Task) (effect : Effect) → IsOnWay a → a.events ≡ [] → rest ≡ [] → Does setting.oracle a.state (Visit root (record { 0 = 0 })) effect → Moves a rest effect
@@ -65,17 +65,17 @@ visited a rest effect way none left does =
     let n = does.2.0 in
     subst (Moves a rest) (sym does.2.2) (record {
       stage = puts_types n (ap (λ l. put_in Types n ∷ put_in Values n ∷ l) left) (append-nil a.events ∙ none);
-      imports = way.imports;
+      waits = way.waits;
     })
 
 -- its entries are put
 types_put : (a : Moment) (rest : List Task) (effect : Effect) (n : ℕ) → IsOnWay a → a.events ≡ [] → rest ≡ put_in Values n ∷ [] → Does setting.oracle a.state (put_in Types n) effect → Moves a rest effect
 types_put a rest effect n way none left does =
-    subst (Moves a rest) (sym does) (record { stage = puts_values n left (ap (λ es. es ++ was_put_in Types n ∷ []) none); imports = way.imports })
+    subst (Moves a rest) (sym does) (record { stage = puts_values n left (ap (λ es. es ++ was_put_in Types n ∷ []) none); waits = way.waits })
 
 values_put : (a : Moment) (rest : List Task) (effect : Effect) (n : ℕ) → IsOnWay a → a.events ≡ was_put_in Types n ∷ [] → rest ≡ [] → Does setting.oracle a.state (put_in Values n) effect → Moves a rest effect
 values_put a rest effect n way before left does =
-    subst (Moves a rest) (sym does) (record { stage = ends n left (ap (λ es. es ++ was_put_in Values n ∷ []) before); imports = way.imports })
+    subst (Moves a rest) (sym does) (record { stage = ends n left (ap (λ es. es ++ was_put_in Values n ∷ []) before); waits = way.waits })
 
 -- a task is performed
 performed : (a : Moment) (task : Task) (rest : List Task) (effect : Effect) → a.tasks ≡ task ∷ rest → Does setting.oracle a.state task effect → IsOnWay a → Moves a rest effect
@@ -101,8 +101,8 @@ performed a task rest effect first does way = by way.stage
     by (ends n todo happened) = absurd cc
 
 -- what changes neither what is to be done nor what happened
-stays : (a : Moment) (s : State) → s.imports ≡ [] → IsOnWay a → IsOnWay (with_state a s)
-stays a s no_imports way = record { stage = by way.stage; imports = no_imports }
+stays : (a : Moment) (s : State) → NoneWaits s → IsOnWay a → IsOnWay (with_state a s)
+stays a s none_waits way = record { stage = by way.stage; waits = none_waits }
   where
     by : Stage a → Stage (with_state a s)
     by (begins todo none) = begins todo none
@@ -114,15 +114,15 @@ stays a s no_imports way = record { stage = by way.stage; imports = no_imports }
 goes_on : (a b : Moment) → Step setting.oracle a b → IsOnWay a → IsOnWay b
 goes_on a b (performs task rest effect first does is) way =
     let moves = performed a task rest effect first does way in
-    subst IsOnWay (sym is) (record { stage = moves.stage; imports = moves.imports })
-goes_on a b (copies content copy is) way = subst IsOnWay (sym is) (stays a (with_content a.state content) way.imports way)
-goes_on a b (rearranges s same is) way =
-    subst IsOnWay (sym is)
-    (stays a s (none_in_any_order s.imports (subst (λ ps. IsPermutation ps s.imports) way.imports same.imports)) way)
-goes_on a b (records effect idle step is) way = absurd (none_recorded setting.oracle a.state effect way.imports step)
+    subst IsOnWay (sym is) (record { stage = moves.stage; waits = moves.waits })
+goes_on a b (copies content copy is) way = subst IsOnWay (sym is) (stays a (with_content a.state content) way.waits way)
+goes_on a b (rearranges s same is) way = subst IsOnWay (sym is) (stays a s (none_waits_rearranged a.state s way.waits same) way)
+goes_on a b (records effect idle step is) way = absurd (none_recorded setting.oracle a.state effect way.waits.0 step)
+goes_on a b (asks effect idle step is) way = absurd (none_asked setting.oracle a.state effect way.waits.1 step)
+goes_on a b (expands effect idle step is) way = absurd (none_taken setting.oracle a.state effect way.waits.2 step)
 
 sets_out : IsOnWay (start setting no_session)
-sets_out = record { stage = begins refl refl; imports = refl }
+sets_out = record { stage = begins refl refl; waits = (refl, refl, refl) }
 
 -- S is bound in types and in values, to one struct, public, by declaration
 record Binds (c : Content Visibility) : Type 0 where

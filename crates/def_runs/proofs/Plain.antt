@@ -131,11 +131,11 @@ shown : IsOutcome last.state one_left
 shown = record { imports = refl; macros = refl; edges = λ source. refl; targets = no_targets; limit = refl }
 
 abbrev pub answered : Answer
-answered = answer_of last.state one_left
+answered = answer_of setting.oracle last.state one_left
 
 -- what is answered of this crate
 plain_answers : Answers setting no_session session answered
-plain_answers = answers_without setting no_session last one_left ran refl refl shown (λ source. refl) refl
+plain_answers = answers_without setting no_session last one_left ran refl refl refl refl shown (λ source. refl) refl
 
 -- module 1 is `a`, in the root
 two_modules : map (λ m. m.name) answered.map.modules ≡ None ∷ Some a ∷ []

@@ -1,5 +1,5 @@
 -- What rows share of their answers: what follows of each run is cited, and only what is special of a row is left to it.
-use Rattle.std.proofs.Common.{◌≡◌, ℕ, List, [], ◌∷◌, true, Some, None, slice_get, refl, sym, subst, ap, ◌∙◌, IsPermutation, Contains, Bool, not, inl, inr}
+use Rattle.std.proofs.Common.{◌≡◌, ℕ, List, [], ◌∷◌, ◌++◌, true, false, Option, Some, None, is_some, slice_get, refl, sym, subst, ap, ◌∙◌, IsPermutation, Contains, Bool, not, inl, inr}
 use Rattle.std.proofs.lemmas.List.Sorted.{Contains-permutation, IsPermutation-sym}
 use Rattle.std.proofs.lemmas.Bool.{and_parts}
 use Rattle.std.specs.List.{IsDistinct, list_all}
@@ -19,13 +19,15 @@ use Rattle.def_laws.proofs.DeclaredLaws.{declared_along, was_put_along}
 use Rattle.def_laws.proofs.EveryNamespaceLaws.{every_namespace_along}
 use Rattle.def_laws.proofs.StaysLaws.{explicit_stays_along}
 use Rattle.def_rules.specs.declared.outcome.Outcome.{Outcome}
+use Rattle.def_rules.specs.Calls.{expansion_effect}
+use Rattle.def_rules.specs.Directives.{ExpansionStep, MacroStep, NoneGiven, given_call, macro_answer, turn_state}
 use Rattle.def_rules.specs.Headline.{Answers}
 use Rattle.def_rules.specs.Imports.{answer_now, is_ready, unresolved_imports}
 use Rattle.def_rules.specs.Recording.{ImportStep, NoneReady, import_effect}
 use Rattle.def_rules.specs.Report.{Answer, AreTargets, IsOutcome, marked, report}
 use Rattle.def_rules.specs.Start.{start}
-use Rattle.def_rules.specs.State.{Setting, State, Effect, Moment, ImportDirective, after, order, with_content, with_state}
-use Rattle.def_rules.specs.Steps.{Reaches, one, copies, records}
+use Rattle.def_rules.specs.State.{Setting, State, Effect, Expansion, MacroDirective, Moment, ImportDirective, Rearranges, after, only, order, with_content, with_state}
+use Rattle.def_rules.specs.Steps.{Reaches, one, asks, copies, expands, records}
 use Rattle.def_rules.specs.Targets.{leaves_out, target_of}
 use Rattle.def_runs.proofs.TableLemmas.{is_false}
 
@@ -44,6 +46,24 @@ pub import_recorded : (oracle : Oracle) (a : Moment) (directive : ImportDirectiv
 import_recorded oracle a directive rest idle first ready =
     let stands = subst (λ ds. IsPermutation a.state.imports ds) first (same_order a.state.imports) in
     one (records _ idle (record { directive = directive; rest = rest; stands = stands; ready = ready; is = refl }) refl)
+
+-- the moment after the first macro that waits was asked, with what it is answered
+abbrev pub moment_asked : Oracle → Moment → MacroDirective → List MacroDirective → Moment
+moment_asked oracle a directive rest = after a [] (only (turn_state a.state [] directive rest (macro_answer oracle a.state directive)))
+
+-- the first macro that waits is asked
+pub macro_asked : (oracle : Oracle) (a : Moment) (directive : MacroDirective) (rest : List MacroDirective) → a.tasks ≡ [] → a.state.macros ≡ directive ∷ rest
+    → Reaches oracle a (moment_asked oracle a directive rest)
+macro_asked oracle a directive rest idle first = one (asks _ idle (record { before = []; directive = directive; behind = rest; stands = first; is = refl }) refl)
+
+-- the moment after the first expansion that is to be walked had its turn
+abbrev pub moment_expanded : Oracle → Moment → Expansion → List Expansion → Moment
+moment_expanded oracle a expansion rest = after a [] (expansion_effect oracle (record a.state { expansions = rest }) expansion)
+
+-- the first expansion has its turn
+pub expansion_taken : (oracle : Oracle) (a : Moment) (expansion : Expansion) (rest : List Expansion) → a.tasks ≡ [] → a.state.expansions ≡ expansion ∷ rest
+    → Reaches oracle a (moment_expanded oracle a expansion rest)
+expansion_taken oracle a expansion rest idle first = one (expands _ idle (record { before = []; expansion = expansion; behind = rest; stands = first; is = refl }) refl)
 
 -- one slot is copied along an edge
 pub copied_along : (oracle : Oracle) (a : Moment) (source : ModuleId) (index : ℕ) (edge : EdgeTo Visibility) (slot : Slot) → slice_get (a.state.content.edges source) index ≡ Some edge
@@ -77,6 +97,32 @@ pub settled_by_test : (oracle : Oracle) (s : State) → none_is_ready oracle s �
 settled_by_test oracle s passes =
     record { none = λ directive h. is_false (is_ready directive.recorded (answer_now oracle s directive.import)) (passes_in (waits_on oracle s) s.imports directive passes h) }
 
+-- whether a macro that waits is given no call
+abbrev pub is_not_given : Oracle → State → MacroDirective → Bool
+is_not_given oracle s directive = not (is_some (given_call (macro_answer oracle s directive)))
+
+-- whether no macro that waits is given a call, as a test that computes
+abbrev pub none_is_given : Oracle → State → Bool
+none_is_given oracle s = list_all (is_not_given oracle s) s.macros
+
+-- what is not there is none
+is_none : {X : Type 0} (x : Option X) → is_some x ≡ false → x ≡ None
+is_none None h = refl
+is_none (Some x) h = cc
+
+-- no macro that waits is given a call where the test says so
+pub none_given_by_test : (oracle : Oracle) (s : State) → none_is_given oracle s ≡ true → NoneGiven oracle s
+none_given_by_test oracle s passes =
+    record {
+      none = λ directive h.
+          let given = given_call (macro_answer oracle s directive) in
+          is_none given (is_false (is_some given) (passes_in (is_not_given oracle s) s.macros directive passes h));
+    }
+
+-- nothing waits for its turn: no import, no macro and no expansion
+abbrev pub NoneWaits : State → Type 0
+NoneWaits s = (s.imports ≡ []) × (s.macros ≡ []) × (s.expansions ≡ [])
+
 -- nothing in any order is nothing
 pub none_in_any_order : {X : Type 0} (ys : List X) → IsPermutation [] ys → ys ≡ []
 none_in_any_order [] same = refl
@@ -95,21 +141,44 @@ none_recorded_unready oracle s effect none step =
     let ready = step.ready in
     cc
 
--- what is answered of an end, with this outcome
-abbrev pub answer_of : State → Outcome → Answer
-answer_of end outcome = record { map = marked end.map (unresolved_imports end.imports); content = end.content; local = end.local; outcome = outcome; diagnostics = report end }
+-- a list with an element is not empty
+no_element : {X : Type 0} (xs : List X) (x : X) (ys : List X) → [] ≡ xs ++ x ∷ ys → ⊥
+no_element [] x ys h = cc
+no_element (z ∷ zs) x ys h = cc
 
--- the answer of a run's end is right where names are closed, coherent and raised at the end, and no import is ready
-pub answers : (w : Setting) (before : Session) (end : Moment) (outcome : Outcome) → Reaches w.oracle (start w before) end → end.tasks ≡ [] → none_is_ready w.oracle end.state ≡ true
+-- no macro is asked where none waits
+pub none_asked : (oracle : Oracle) (s : State) (effect : Effect) → s.macros ≡ [] → MacroStep oracle s effect → ⊥
+none_asked oracle s effect no_macros step = no_element step.before step.directive step.behind (sym no_macros ∙ step.stands)
+
+-- and no expansion has its turn where none is to be walked
+pub none_taken : (oracle : Oracle) (s : State) (effect : Effect) → s.expansions ≡ [] → ExpansionStep oracle s effect → ⊥
+none_taken oracle s effect no_expansions step = no_element step.before step.expansion step.behind (sym no_expansions ∙ step.stands)
+
+-- nothing waits where nothing did, when imports are put into another order
+pub none_waits_rearranged : (s t : State) → NoneWaits s → Rearranges s t → NoneWaits t
+none_waits_rearranged s t waits same = (
+  none_in_any_order t.imports (subst (λ ps. IsPermutation ps t.imports) waits.0 same.imports),
+  ap (λ (x : State). x.macros) same.rest ∙ waits.1,
+  ap (λ (x : State). x.expansions) same.rest ∙ waits.2,
+)
+
+-- what is answered of an end, with this outcome
+abbrev pub answer_of : Oracle → State → Outcome → Answer
+answer_of oracle end outcome =
+    record { map = marked end.map (unresolved_imports end.imports); content = end.content; local = end.local; outcome = outcome; diagnostics = report oracle end }
+
+-- the answer of a run's end is right where names are closed, coherent and raised at the end, no expansion is left, no import is ready and no macro is given a call
+pub answers : (w : Setting) (before : Session) (end : Moment) (outcome : Outcome) → Reaches w.oracle (start w before) end → end.tasks ≡ [] → end.state.expansions ≡ []
+    → none_is_ready w.oracle end.state ≡ true → none_is_given w.oracle end.state ≡ true
     → IsOutcome end.state outcome
     → IsClosed (order end.state) (leaves_out end.state) end.state.content
     → IsCoherent (order end.state) (leaves_out end.state) (target_of end.state.map.id end.state.targets) end.state.content
     → ((importer : ModuleId) (slot : Slot) → IsRaisedAt (order end.state) end.state.content importer slot)
-    → Answers w before end.state.session (answer_of end.state outcome)
-answers w before end outcome runs done passes shown closed coherent raised =
-    let settled = settled_by_test w.oracle end.state passes in
+    → Answers w before end.state.session (answer_of w.oracle end.state outcome)
+answers w before end outcome runs done expanded ready given shown closed coherent raised =
+    let settled = settled_by_test w.oracle end.state ready in
     record {
-      run = record { end = end; runs = runs; done = done };
+      run = record { end = end; runs = runs; done = done; expanded = expanded };
       session = refl;
       answered = record { map = refl; content = refl; local = refl; outcome = shown };
       closed = closed;
@@ -118,7 +187,7 @@ answers w before end outcome runs done passes shown closed coherent raised =
       declared = declared_along runs refl refl;
       was_put = was_put_along runs refl refl;
       explicit_stays = λ a b run. explicit_stays_along run.goes_on;
-      settled = record { imports = settled };
+      settled = record { imports = settled; macros = none_given_by_test w.oracle end.state given };
       every_namespace = every_namespace_along runs refl refl done settled;
       reported = refl;
     }
@@ -139,12 +208,13 @@ raised_without : (o : Order Visibility) (c : Content Visibility) → NoEdge c �
 raised_without o c none importer slot source index edge at =
     let at_none = sym (ap (λ es. slice_get es index) (none source)) ∙ at in absurd cc
 
--- so the answer of a run in which no glob was recorded is right where no import is ready
-pub answers_without : (w : Setting) (before : Session) (end : Moment) (outcome : Outcome) → Reaches w.oracle (start w before) end → end.tasks ≡ [] → none_is_ready w.oracle end.state ≡ true
+-- so the answer of a run in which no glob was recorded is right where no expansion is left, no import is ready and no macro is given a call
+pub answers_without : (w : Setting) (before : Session) (end : Moment) (outcome : Outcome) → Reaches w.oracle (start w before) end → end.tasks ≡ [] → end.state.expansions ≡ []
+    → none_is_ready w.oracle end.state ≡ true → none_is_given w.oracle end.state ≡ true
     → IsOutcome end.state outcome → NoEdge end.state.content → end.state.targets ≡ (λ glob. None)
-    → Answers w before end.state.session (answer_of end.state outcome)
-answers_without w before end outcome runs done passes shown none no_target =
-    answers w before end outcome runs done passes shown
+    → Answers w before end.state.session (answer_of w.oracle end.state outcome)
+answers_without w before end outcome runs done expanded ready given shown none no_target =
+    answers w before end outcome runs done expanded ready given shown
     (closed_without (order end.state) (leaves_out end.state) end.state.content none)
     (coherent_without (order end.state) (leaves_out end.state) end.state.content end.state no_target)
     (raised_without (order end.state) end.state.content none)

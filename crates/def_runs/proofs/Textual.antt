@@ -139,11 +139,11 @@ shown : IsOutcome last.state nothing_left
 shown = record { imports = refl; macros = refl; edges = λ source. refl; targets = no_targets; limit = refl }
 
 abbrev pub answered : Answer
-answered = answer_of last.state nothing_left
+answered = answer_of setting.oracle last.state nothing_left
 
 -- what is answered of this crate
 textual_answers : Answers setting no_session session answered
-textual_answers = answers_without setting no_session last nothing_left ran refl refl shown (λ source. refl) refl
+textual_answers = answers_without setting no_session last nothing_left ran refl refl refl refl shown (λ source. refl) refl
 
 -- macro 0 by rules
 abbrev pub the_macro : MacroId

@@ -1,28 +1,49 @@
--- `foo!(); macro_rules! foo {}`: a macro is in scope behind its definition alone, so the call waits, and is left over.
-use Rattle.std.proofs.Common.{◌≡◌, ℕ, zero, true, false, Option, Some, None, Ok, Err, List, Result, [], ◌∷◌, refl, map, lit<}
+-- `foo!(); macro_rules! foo {}`, where the call gives `struct S;`: no macro is in scope where the call stands, so it waits; once all is walked it is asked, S is declared, and nothing is left over.
+use Rattle.std.proofs.Common.{◌≡◌, ℕ, zero, true, false, Option, Some, None, [], ◌∷◌, Contains, refl, subst, map, lit<}
+use Rattle.item_tree.specs.declared.ids.HirFileId.{HirFileId}
+use Rattle.item_tree.specs.declared.ids.HirFileId.TheVariants.{File, Macro as MacroFile}
+use Rattle.item_tree.specs.declared.ids.MacroCallId.{MacroCallId}
 use Rattle.item_tree.specs.declared.items.ExpandTo.TheVariants.{Items}
 use Rattle.item_tree.specs.declared.items.ModItemKind.TheVariants.{MacroCall, MacroRules as RulesItem}
 use Rattle.item_tree.specs.declared.tree.ItemTree.{ItemTree}
-use Rattle.def_rules.specs.declared.outcome.LeftMacro.{LeftMacro}
-use Rattle.def_rules.specs.declared.outcome.LeftMacroKind.TheVariants.{Fn}
-use Rattle.def_rules.specs.declared.outcome.Outcome.{Outcome}
+use Rattle.def_ids.specs.declared.ids.ItemContainerId.TheVariants.{Module}
+use Rattle.def_interner.specs.Session.{Session, AddsLocations, ItemKind, ItemLoc, StructItem}
+use Rattle.def_bindings.specs.declared.bindings.Namespace.TheVariants.{Types, Values}
+use Rattle.def_rules.specs.Directives.{given_call, macro_answer}
 use Rattle.def_rules.specs.Headline.{Answers}
 use Rattle.def_rules.specs.Report.{Answer, IsOutcome}
 use Rattle.def_rules.specs.Start.{start}
-use Rattle.def_rules.specs.State.{Setting, Moment}
+use Rattle.def_rules.specs.State.{Setting, Expansion, FnLike, MacroDirective, Moment, PutExplicit}
 use Rattle.def_rules.specs.Steps.{Reaches, join, one, performs}
-use Rattle.def_runs.proofs.Called.{answer_to, foo, of_foo}
-use Rattle.def_runs.proofs.RowLemmas.{answer_of, answers_without, no_targets}
-use Rattle.def_runs.proofs.Rows.{crate_of, knowing, module_at, no_session, position, unchanged}
-use Rattle.def_runs.proofs.Textual.{macros, session, more}
+use Rattle.def_runs.proofs.Called.{answer_to, declared, expansion, foo, in_expansion, of_foo, s}
+use Rattle.def_runs.proofs.RowLemmas.{answer_of, answers_without, expansion_taken, macro_asked, no_targets}
+use Rattle.def_runs.proofs.Rows.{crate_of, knowing, module_at, no_session, position, session_with, unchanged}
+use Rattle.def_runs.proofs.Textual.{macros}
 use Rattle.def_runs.proofs.Trees.{items, node, tree_with}
-use Rattle.def_runs.proofs.Vectors.{nothing_left, vec_of}
+use Rattle.def_runs.proofs.Vectors.{nothing_left}
 
 abbrev pub tree : ItemTree
 tree = tree_with (node 1 (MacroCall of_foo Items (record { 0 = 0 })) ∷ node 0 (RulesItem foo) ∷ []) (items (0 ∷ 1 ∷ [])) refl
 
+-- every file is the root file, and every call has the expansion `struct S;`
+abbrev pub tree_of : HirFileId → Option ItemTree
+tree_of (File file) = Some tree
+tree_of (MacroFile call) = Some expansion
+
+-- the resolver is asked for the call's path, and a call whose macro is found is number 0
 abbrev pub setting : Setting
-setting = record (crate_of tree) { oracle = record (knowing tree) { asked_paths = λ call. call.path ∷ []; macro_call = answer_to; rule_styles = λ file krate. record { 0 = 1 } } }
+setting = record (crate_of tree) { oracle = record (knowing tree) { item_tree = λ id. tree_of id.file; asked_paths = λ call. call.path ∷ []; macro_call = answer_to; rule_styles = λ file krate. record { 0 = 1 } } }
+
+-- S is item 0 of the expansion
+abbrev pub numbers : ItemKind → ℕ → Option ItemLoc
+numbers StructItem zero = Some (record { container = Module (module_at 0); position = in_expansion })
+numbers _ _ = None
+
+abbrev pub session : Session
+session = record (session_with numbers) { macro_at = macros }
+
+pub more : AddsLocations no_session session
+more = record { text = refl; grows = record { text = λ n t h. cc; item = λ k i at h. cc; macro_at = λ m at h. cc; derive_impl = λ i at h. cc } }
 
 -- the walk: no macro is found for the call, and then foo is defined
 abbrev pub walked : (m : Moment) × Reaches setting.oracle (start setting no_session) m
@@ -33,32 +54,101 @@ walked = (
       (one (performs _ _ _ refl (session, more, (0, Some foo, refl, refl, refl)) refl))),
 )
 
+abbrev pub walked_to : Moment
+walked_to = walked.0
+
+-- nothing is left to do but the call
+idle : walked_to.tasks ≡ []
+idle = refl
+
+-- the call as it waits: its expansion will lie one level deep
+abbrev pub waiting : MacroDirective
+waiting = record { scope = module_at 0; container = Module (module_at 0); position = position 1; depth = 1; kind = FnLike (record { path = of_foo; expand_to = Items; ctxt = record { 0 = 0 } }) }
+
+it_waits : walked_to.state.macros ≡ waiting ∷ []
+it_waits = refl
+
+-- no name is bound so far, no call is recorded, and nothing has happened
+nothing_happened : (walked_to.state.content.names (module_at 0) ≡ []) × (map (λ m. m.invoked (position 1) (record { 0 = 0 })) walked_to.state.map.modules ≡ false ∷ []) × (walked_to.events ≡ [])
+nothing_happened = (refl, refl, refl)
+
+-- call 0
+abbrev pub the_call : MacroCallId
+the_call = record { 0 = 0 }
+
+-- the call is asked, and foo is found
+abbrev pub asked : (m : Moment) × Reaches setting.oracle walked_to m
+asked = (_, macro_asked setting.oracle walked_to waiting [] refl refl)
+
+abbrev pub asked_to : Moment
+asked_to = asked.0
+
+-- it waits no more, and its expansion is to be walked where it stood, one level deep
+abbrev pub pending : Expansion
+pending = record { scope = module_at 0; container = Module (module_at 0); depth = 1; call = the_call }
+
+it_is_given : (asked_to.state.macros ≡ []) × (asked_to.state.expansions ≡ pending ∷ [])
+it_is_given = (refl, refl)
+
+-- its expansion is walked, and S declared
+abbrev pub expanded : (m : Moment) × Reaches setting.oracle asked_to m
+expanded = (
+  _,
+  join (expansion_taken setting.oracle asked_to pending [] refl refl)
+      (join (one (performs _ _ _ refl refl refl))
+      (join (one (performs _ _ _ refl (session, unchanged session, (0, refl, refl)) refl))
+      (join (one (performs _ _ _ refl refl refl))
+      (one (performs _ _ _ refl refl refl))))),
+)
+
 abbrev pub last : Moment
-last = walked.0
+last = expanded.0
 
--- the call as it is left over: its expansion would lie one level deep
-abbrev pub left : LeftMacro
-left = record { «module» = module_at 0; ast_id = position 1; kind = Fn; path = of_foo; depth = 1 }
+ran : Reaches setting.oracle (start setting no_session) last
+ran = join walked.1 (join asked.1 expanded.1)
 
-abbrev pub one_left : Outcome
-one_left = record nothing_left { macros = vec_of (left ∷ []) (lit< tt) }
-
-shown : IsOutcome last.state one_left
+shown : IsOutcome last.state nothing_left
 shown = record { imports = refl; macros = refl; edges = λ source. refl; targets = no_targets; limit = refl }
 
 abbrev pub answered : Answer
-answered = answer_of last.state one_left
+answered = answer_of setting.oracle last.state nothing_left
 
 -- what is answered of this crate
 waiting_answers : Answers setting no_session session answered
-waiting_answers = answers_without setting no_session last one_left walked.1 refl refl shown (λ source. refl) refl
+waiting_answers = answers_without setting no_session last nothing_left ran refl refl refl refl shown (λ source. refl) refl
 
--- nothing is bound, no call is recorded, and nothing reported
-nothing_is_bound : answered.content.names (module_at 0) ≡ []
-nothing_is_bound = refl
+-- S is bound, and nothing else
+s_is_bound : (answered.content.binding (module_at 0) s Types ≡ Some (declared 0)) × (answered.content.binding (module_at 0) s Values ≡ Some (declared 0))
+s_is_bound = (refl, refl)
 
-no_call_is_recorded : map (λ m. m.invoked (position 1) (record { 0 = 0 })) answered.map.modules ≡ false ∷ []
-no_call_is_recorded = refl
+names_of_root : answered.content.names (module_at 0) ≡ s ∷ []
+names_of_root = refl
+
+-- the call is recorded at its position, and at no other
+recorded : (map (λ m. m.invoked (position 1) the_call) answered.map.modules ≡ true ∷ []) × (map (λ m. m.invoked (position 0) the_call) answered.map.modules ≡ false ∷ [])
+recorded = (refl, refl)
+
+-- both entries of S were put, and nothing else happened
+all_that_happened : last.events ≡ PutExplicit (module_at 0) s Types (declared 0) ∷ PutExplicit (module_at 0) s Values (declared 0) ∷ []
+all_that_happened = refl
+
+-- no macro is left over, and no expansion
+nothing_is_left : (last.state.macros ≡ []) × (last.state.expansions ≡ [])
+nothing_is_left = (refl, refl)
 
 nothing_is_reported : answered.diagnostics ≡ []
 nothing_is_reported = refl
+
+-- stopping where the call still waits is no answer: it is given a call
+stopping_at_the_walk_is_no_answer : (after : Session) (answer : Answer) (answers : Answers setting no_session after answer) → answers.run.end ≡ walked_to → ⊥
+stopping_at_the_walk_is_no_answer after answer answers early =
+    let at_end : given_call (macro_answer setting.oracle walked_to.state waiting) ≡ None =
+    subst (λ (m : Moment). Contains m.state.macros waiting → given_call (macro_answer setting.oracle m.state waiting) ≡ None) early
+    (λ left. answers.settled.macros.none waiting left) (0, lit< tt, refl) in
+    cc
+
+-- nor is stopping where its expansion is still to be walked
+stopping_before_the_expansion_is_no_answer : (after : Session) (answer : Answer) (answers : Answers setting no_session after answer) → answers.run.end ≡ asked_to → ⊥
+stopping_before_the_expansion_is_no_answer after answer answers early =
+    let none : asked_to.state.expansions ≡ [] = subst (λ (m : Moment). m.state.expansions ≡ []) early answers.run.expanded in
+    cc

@@ -91,6 +91,7 @@ impl DefCollector<'_> {
             unresolved_imports: _,
             indeterminate_imports: _,
             unresolved_macros: _,
+            expansions: _,
             diagnostics,
         } = self;
         Collected {

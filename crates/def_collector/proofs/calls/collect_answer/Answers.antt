@@ -1,4 +1,4 @@
-use Rattle.std.proofs.Common.{◌≡◌, ap, ◌∙◌}
+use Rattle.std.proofs.Common.{◌≡◌, ap, sym, ◌∙◌}
 use Rattle.def_calls.specs.Shown.{written_of}
 use Rattle.def_collector.specs.Collector.{state_of}
 use Rattle.def_collector.specs.Walk.{inner_of}
@@ -6,7 +6,7 @@ use Rattle.def_imports.proofs.ResultLaws.{if_ok}
 use Rattle.def_items.specs.Parts.{site_of}
 use Rattle.def_modules.specs.Maps.{map_state, with_module}
 use Rattle.def_modules.specs.Scopes.{with_invocation}
-use Rattle.def_rules.specs.Calls.{invoking}
+use Rattle.def_rules.specs.Calls.{expansion_effect, invoking}
 use Rattle.def_rules.specs.Items.{position_of}
 use Rattle.def_rules.specs.State.{State}
 use Rattle.def_collector.proofs.CallLemmas.{answered_nothing, answered_opens, answered_waits}
@@ -31,7 +31,7 @@ returns-in_default-value-clause-done g c = λ session.
     (λ i. record before { map = made i })
 
 pub returns-clause-done : goal.returns-clause-done
-returns-clause-done g c = if_ok c.expansion.result c.expansion.ensures.opened (λ opened done session.
+returns-clause-done g c = if_ok c.open_expansion.result c.open_expansion.ensures.opened (λ opened done session.
     let before : State = state_of c.args.collector.now session in
     let oracle = g.D.SourceDatabase.oracle c.args.db.now in
     let at = c.args.site.module_id.index in
@@ -44,4 +44,5 @@ returns-clause-done g c = if_ok c.expansion.result c.expansion.ensures.opened (�
     ∙ ap (λ p. with_module (map_state c.record_calls.new.def_map) at (with_invocation p call)) c.position-position.ensures
     ∙ ap (λ m. with_module m at (with_invocation item call)) made in
     answered_opens oracle before _ (site_of c.args.site) c.args.node.now (written_of c.args.written) c.args.answer.now call (inner_of oracle opened) c.in_default.is c.in-Some-value.is
-    (λ i. record before { map = called i }) (done session))
+    (λ i. record before { map = called i })
+    (ap (λ depth. expansion_effect oracle (record before { map = map_state c.add_macro_invoc.new.self }) (record { scope = c.args.site.module_id; container = c.args.site.container; depth = depth; call = call })) (sym c.deeper.ensures) ∙ done session))

@@ -1,5 +1,6 @@
 use Rattle.std.proofs.Common.{ap, map as map_of, option_map, ◌∙◌}
-use Rattle.def_calls.specs.Shown.{macro_directive_of}
+use Rattle.def_calls.specs.Shown.{expansion_shown}
+use Rattle.def_calls.proofs.WaitingLemmas.{no_macros}
 use Rattle.def_interner.specs.Session.{session_of}
 use Rattle.def_modules.specs.Locals.{local_view}
 use Rattle.def_modules.specs.Tables.{bound_by}
@@ -9,11 +10,11 @@ use Rattle.def_collector.proofs.CollectLemmas.{begins, no_imports}
 use Rattle.def_laws.proofs.GlobsLaws.{no_targets}
 use Rattle.def_collector.proofs.run.begin.Goals as goal
 
-pub returns : goal.returns
-returns g c = λ tree session.
+pub returns-clause-seeded : goal.returns-clause-seeded
+returns-clause-seeded g c = λ tree session.
     let oracle = g.D.SourceDatabase.oracle c.args.db.now in
     let map = c.into_parts-data.ensures.state in
-    begins (setting_of oracle c.args.def_map tree (option_map (λ l. local_view l.now) c.args.crate_local)) (session_of session) _ _ _ _ _ _ _ _ _ _ _
+    begins (setting_of oracle c.args.def_map tree (option_map (λ l. local_view l.now) c.args.crate_local)) (session_of session) _ _ _ _ _ _ _ _ _ _ _ _
     map (ap bound_by c.new.ensures ∙ c.into_parts-data.ensures.content ∙ c.requires.bindings) (no_targets c.new-2.result c.new-2.ensures.empty) c.new-3.ensures
     (c.is_proc_macro_crate-is_proc_macro.ensures ∙ ap (λ m. is_proc_macro_crate oracle m.id.krate) map) (c.in_ok-deps.ensures ∙ ap (λ m. deps_by_name oracle m.id.krate) map) c.new-4.ensures c.new-5.ensures
-    (no_imports c.new-6.result.items c.new-7.result.items c.new-6.ensures.items c.new-7.ensures.items) (ap (map_of macro_directive_of) c.new-8.ensures.items) c.new-9.ensures.items
+    (no_imports c.new-6.result.items c.new-7.result.items c.new-6.ensures.items c.new-7.ensures.items) (no_macros c.new-8.result.items c.new-8.ensures.items) (ap (map_of expansion_shown) c.new-9.ensures.items) c.new-10.ensures.items

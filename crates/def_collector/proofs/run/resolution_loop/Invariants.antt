@@ -1,15 +1,20 @@
-use Rattle.std.proofs.Common.{[]}
+use Rattle.std.proofs.Common.{◌≡◌, []}
 use Rattle.def_collector.specs.Collector.{state_of}
-use Rattle.def_laws.specs.Runs.{Leads}
+use Rattle.def_interner.specs.Session.{AddsLocations, session_of}
+use Rattle.def_laws.specs.Depths.{waiting_work}
+use Rattle.def_laws.specs.Runs.{Collects}
 use Rattle.def_laws.specs.Sound.{IsSoundWith}
-use Rattle.def_laws.specs.Turns.{turns_left}
+use Rattle.def_rules.specs.Recording.{NoneReady}
 use Rattle.def_collector.proofs.run.resolution_loop.Given as goal
 
-abbrev pub invariant-resolve_imports : goal.invariant-resolve_imports
-invariant-resolve_imports g l = record {
-  run : Leads (g.D.SourceDatabase.oracle l.db) [] (state_of l.initial.collector l.session) [] (state_of l.collector l.session);
+abbrev pub invariant-resolve_macros : goal.invariant-resolve_macros
+invariant-resolve_macros g l = record {
+  run : Collects (g.D.SourceDatabase.oracle l.db) [] (state_of l.fn.collector l.fn.session) [] (state_of l.collector l.session);
   sound : IsSoundWith [] (state_of l.collector l.session);
+  ready : NoneReady (g.D.SourceDatabase.oracle l.db) (state_of l.collector l.session);
+  bare : l.collector.expansions.items ≡ [];
+  adds : AddsLocations (session_of l.fn.session) (session_of l.session);
 }
 
-abbrev pub decreases-resolve_imports : goal.decreases-resolve_imports
-decreases-resolve_imports g l = turns_left (state_of l.collector l.session)
+abbrev pub decreases-resolve_macros : goal.decreases-resolve_macros
+decreases-resolve_macros g l = waiting_work (state_of l.collector l.session)

@@ -1,6 +1,6 @@
 use Rattle.std.proofs.Common.{ap, map, refl, subst, sym, ◌∙◌}
 use Rattle.std.specs.HashMap.{IsUnique}
-use Rattle.def_calls.specs.Shown.{macro_directive_of}
+use Rattle.def_calls.specs.Shown.{macros_in}
 use Rattle.def_ids.specs.Equality.{glob_eq}
 use Rattle.def_modules.specs.Maps.{map_state}
 use Rattle.def_modules.specs.Tables.{bound_by}
@@ -32,7 +32,7 @@ returns c = λ session.
     refl told.map refl told.imports refl told.diagnostics
     became.map (became.content ∙ ap (λ (x : DefCollector). bound_by x.table) frame) (ap (λ (x : Collected). (shown x).local) became.rest ∙ ap (λ (x : DefCollector). (state_of x session).local) frame)
     (ap (λ (x : Collected). x.diagnostics) became.rest)
-    (ap (λ (x : Collected). x.outcome.imports.items) became.rest) (ap (λ (x : Collected). x.outcome.macros.items) became.rest ∙ c.in_ok-macros.ensures ∙ ap (map left_macro) (ap (map macro_directive_of) (c.as_slice.ensures.value ∙ ap (λ (x : DefCollector). x.unresolved_macros.items) frame)))
+    (ap (λ (x : Collected). x.outcome.imports.items) became.rest) (ap (λ (x : Collected). x.outcome.macros.items) became.rest ∙ c.in_ok-macros.ensures ∙ ap (map left_macro) (ap macros_in (c.as_slice.ensures.value ∙ ap (λ (x : DefCollector). x.unresolved_macros.items) frame)))
     (subst (λ (x : Collected). AreEdges end.content x.outcome.edges.items) (sym became.rest) edges)
     (subst (λ (x : Collected). AreTargets end.targets (map shown_targets x.outcome.targets.items)) (sym became.rest) targets)
     (ap (λ (x : Collected). x.outcome.limit_met) became.rest)
