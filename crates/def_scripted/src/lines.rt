@@ -256,8 +256,69 @@ fn print_edges<W: io::Write>(alloc: Global, edges: &[Edge], out: &mut W) -> Resu
     Ok(())
 }
 
-/// The kind of a diagnostic, and the number that it says, if it says one. The files that were looked
-/// for stand behind a space.
+/// The word with which a path begins, if one does.
+fn path_word(kind: PathKind) -> Word<'static> {
+    match kind {
+        PathKind::Plain | PathKind::Abs => Word::Text(""),
+        PathKind::Crate => Word::Text("crate"),
+        PathKind::Super(0) => Word::Text("self"),
+        PathKind::Super(_) => Word::Text("super"),
+        PathKind::DollarCrate(krate) => Word::Number("$", krate.0),
+    }
+}
+
+/// How often `::super` stands behind the word with which a path begins.
+fn levels(kind: PathKind) -> u8 {
+    match kind {
+        PathKind::Super(levels) => levels.saturating_sub(1),
+        _ => 0,
+    }
+}
+
+/// Prints the segments of a path behind its first word.
+fn print_segments<W: io::Write>(session: &Interner, path: &ModPath, out: &mut W) -> io::Result<()> {
+    let mut is_due = !matches!(path.kind, PathKind::Plain);
+    for segment in &path.segments {
+        let before = if is_due { "::" } else { "" };
+        let segment = text_of(session, Some(*segment));
+        write!(out, "{before}{segment}")?;
+        is_due = true;
+    }
+    Ok(())
+}
+
+/// Prints a path, behind a space.
+fn print_path<W: io::Write>(session: &Interner, path: &ModPath, out: &mut W) -> io::Result<()> {
+    print_word(path_word(path.kind), out)?;
+    for _ in 0..levels(path.kind) {
+        write!(out, "::super")?;
+    }
+    print_segments(session, path, out)
+}
+
+/// Prints a line that ends with a path, behind these words.
+fn print_path_line<W: io::Write>(
+    session: &Interner,
+    words: &[Word<'_>],
+    path: &ModPath,
+    out: &mut W,
+) -> io::Result<()> {
+    print_words(words, out)?;
+    print_path(session, path, out)?;
+    writeln!(out)
+}
+
+/// How a macro that was not found is called.
+fn caller_word(kind: LeftMacroKind) -> Word<'static> {
+    match kind {
+        LeftMacroKind::Fn => Word::Text("fn"),
+        LeftMacroKind::Derive(attr, place) => Word::Numbers("derive:", attr.0, '.', place),
+        LeftMacroKind::Attr(attr) => Word::Number("attr:", attr.0),
+    }
+}
+
+/// The kind of a diagnostic, and the word or the number that it says, if it says one. The files
+/// that were looked for stand behind a space.
 fn kind_words(kind: &DefDiagnosticKind) -> (Word<'static>, Word<'static>) {
     match kind {
         DefDiagnosticKind::UnresolvedModule { .. } => {
@@ -265,6 +326,9 @@ fn kind_words(kind: &DefDiagnosticKind) -> (Word<'static>, Word<'static>) {
         }
         DefDiagnosticKind::UnresolvedExternCrate => {
             (Word::Text("unresolved-extern-crate"), Word::Bare(""))
+        }
+        DefDiagnosticKind::UnresolvedMacroCall { kind, .. } => {
+            (Word::Text("unresolved-macro"), caller_word(*kind))
         }
         DefDiagnosticKind::UnimplementedBuiltinMacro => {
             (Word::Text("unimplemented-builtin"), Word::Bare(""))
@@ -291,7 +355,11 @@ fn print_candidates<W: io::Write>(candidates: &[Text], out: &mut W) -> io::Resul
 }
 
 /// Prints a diagnostic: its kind, the module and the item that it speaks of, and what it says.
-fn print_diagnostic<W: io::Write>(diagnostic: &DefDiagnostic, out: &mut W) -> io::Result<()> {
+fn print_diagnostic<W: io::Write>(
+    session: &Interner,
+    diagnostic: &DefDiagnostic,
+    out: &mut W,
+) -> io::Result<()> {
     let (kind, detail) = kind_words(&diagnostic.kind);
     let words = [
         Word::Bare("diag"),
@@ -301,64 +369,26 @@ fn print_diagnostic<W: io::Write>(diagnostic: &DefDiagnostic, out: &mut W) -> io
         detail,
     ];
     print_words(&words, out)?;
-    if let DefDiagnosticKind::UnresolvedModule { candidates } = &diagnostic.kind {
-        print_candidates(candidates.as_slice(), out)?;
+    match &diagnostic.kind {
+        DefDiagnosticKind::UnresolvedModule { candidates } => {
+            print_candidates(candidates.as_slice(), out)?;
+        }
+        DefDiagnosticKind::UnresolvedMacroCall { path, .. } => print_path(session, path, out)?,
+        _ => {}
     }
     writeln!(out)
 }
 
 /// Prints the diagnostics of a run.
-fn print_diagnostics<W: io::Write>(diagnostics: &[DefDiagnostic], out: &mut W) -> io::Result<()> {
-    for diagnostic in diagnostics {
-        print_diagnostic(diagnostic, out)?;
-    }
-    Ok(())
-}
-
-/// The word with which a path begins, if one does.
-fn path_word(kind: PathKind) -> Word<'static> {
-    match kind {
-        PathKind::Plain | PathKind::Abs => Word::Text(""),
-        PathKind::Crate => Word::Text("crate"),
-        PathKind::Super(0) => Word::Text("self"),
-        PathKind::Super(_) => Word::Text("super"),
-        PathKind::DollarCrate(krate) => Word::Number("$", krate.0),
-    }
-}
-
-/// How often `::super` stands behind the word with which a path begins.
-fn levels(kind: PathKind) -> u8 {
-    match kind {
-        PathKind::Super(levels) => levels.saturating_sub(1),
-        _ => 0,
-    }
-}
-
-/// Prints the segments of a path behind its first word, and ends the line.
-fn print_segments<W: io::Write>(session: &Interner, path: &ModPath, out: &mut W) -> io::Result<()> {
-    let mut is_due = !matches!(path.kind, PathKind::Plain);
-    for segment in &path.segments {
-        let before = if is_due { "::" } else { "" };
-        let segment = text_of(session, Some(*segment));
-        write!(out, "{before}{segment}")?;
-        is_due = true;
-    }
-    writeln!(out)
-}
-
-/// Prints a line that ends with a path, behind these words.
-fn print_path_line<W: io::Write>(
+fn print_diagnostics<W: io::Write>(
     session: &Interner,
-    words: &[Word<'_>],
-    path: &ModPath,
+    diagnostics: &[DefDiagnostic],
     out: &mut W,
 ) -> io::Result<()> {
-    print_words(words, out)?;
-    print_word(path_word(path.kind), out)?;
-    for _ in 0..levels(path.kind) {
-        write!(out, "::super")?;
+    for diagnostic in diagnostics {
+        print_diagnostic(session, diagnostic, out)?;
     }
-    print_segments(session, path, out)
+    Ok(())
 }
 
 /// Prints an import that a run left over.
@@ -455,7 +485,7 @@ pub fn print<W: io::Write>(
 ) -> Result<(), Fault> {
     print_map(alloc, session, &collected.def_map, out)?;
     print_edges(alloc, collected.outcome.edges.as_slice(), out)?;
-    print_diagnostics(collected.diagnostics.as_slice(), out)?;
+    print_diagnostics(session, collected.diagnostics.as_slice(), out)?;
     print_left_imports(session, collected.outcome.imports.as_slice(), out)?;
     Ok(print_left_macros(session, collected.outcome.macros.as_slice(), out)?)
 }

@@ -1,6 +1,7 @@
 //! Scripted workspaces, and the commands that print what is collected of them.
 #![tactic(auto)]
 
+mod chain;
 mod command;
 mod vectors;
 mod workspace;

@@ -4,13 +4,32 @@ ghost use Rattle.std.specs.Prelude.{◌≡◌, map, is_some, bytes_eq};
 ghost use Rattle.std.specs.List.{list_any};
 ghost use Rattle.def_workspace.specs.Vectors.{is_vector, vector_names};
 
-use def_scripted::{ALONE, Vector};
+use crate::chain::CHAIN;
+use def_ids::{Macro2Id, MacroId};
+use def_scripted::{ALONE, CALL, CallText, Vector};
+use item_tree::{HirFileId, MacroCallId};
+
+/// A call of the first `macro` item.
+const LATE: CallText = CallText {
+    of: MacroId::Macro2(Macro2Id(0)),
+    ..CALL
+};
 
 /// The vectors in byte order of their names.
-static VECTORS: [Vector; 13] = [
+static VECTORS: [Vector; 17] = [
     Vector {
         name: "attrs",
         files: &[r#"#![recursion_limit = "4"] #![no_core] #![no_std] #![feature(register_tool)]"#],
+        ..ALONE
+    },
+    Vector {
+        name: "chain",
+        files: &[CHAIN],
+        calls: &[CallText {
+            ast_id: 2,
+            gives: "pub struct N;",
+            ..LATE
+        }],
         ..ALONE
     },
     Vector {
@@ -46,6 +65,19 @@ static VECTORS: [Vector; 13] = [
         ..ALONE
     },
     Vector {
+        name: "follow",
+        files: &[
+            "mod t { pub struct N; pub macro late {} }
+            mod s { pub use crate::t::*; crate::t::late!(); } use s::*;",
+        ],
+        calls: &[CallText {
+            ast_id: 5,
+            gives: "pub struct N;",
+            ..LATE
+        }],
+        ..ALONE
+    },
+    Vector {
         name: "glob",
         files: &["mod a { pub struct S; } use a::*;"],
         ..ALONE
@@ -65,6 +97,27 @@ static VECTORS: [Vector; 13] = [
         ..ALONE
     },
     Vector {
+        name: "partial",
+        files: &[
+            "pub macro one {} pub macro two {}
+            mod s { pub trait Q {} crate::one!(); } use s::Q;",
+        ],
+        calls: &[
+            CallText {
+                ast_id: 4,
+                gives: "pub fn Q() {} crate::two!();",
+                ..LATE
+            },
+            CallText {
+                file: HirFileId::Macro(MacroCallId(0)),
+                of: MacroId::Macro2(Macro2Id(1)),
+                gives: "pub macro Q {}",
+                ..LATE
+            },
+        ],
+        ..ALONE
+    },
+    Vector {
         name: "plain",
         files: &["mod a { pub struct S; } use a::S; use a::T;"],
         ..ALONE
@@ -72,6 +125,19 @@ static VECTORS: [Vector; 13] = [
     Vector {
         name: "private",
         files: &["mod a { pub struct T(u8); } use a::*;"],
+        ..ALONE
+    },
+    Vector {
+        name: "targets",
+        files: &[
+            "mod t { pub mod q { pub struct A; } } pub macro late {}
+            mod s { pub use crate::t::*; crate::late!(); } use s::q::*;",
+        ],
+        calls: &[CallText {
+            ast_id: 6,
+            gives: "pub mod q { pub struct B; } pub fn q() {}",
+            ..LATE
+        }],
         ..ALONE
     },
     Vector {

@@ -1,5 +1,6 @@
 //! What no contract says: the printed lines, and worked rows over scripted crates.
 
+mod answers;
 mod attrs;
 mod calls;
 mod examples;
@@ -8,7 +9,9 @@ mod extern_crates;
 mod files;
 mod glob_kinds;
 mod kinds;
+mod late_names;
 mod macros;
+mod passes;
 mod paths;
 mod program;
 mod rows;

@@ -24,7 +24,7 @@ pub struct Asked {
 }
 
 /// What each word asks for.
-static WORDS: [(&str, Subject); 12] = [
+static WORDS: [(&str, Subject); 13] = [
     ("all", Subject::All),
     ("items", Subject::One(Shape::Items)),
     ("imports", Subject::One(Shape::Imports)),
@@ -34,6 +34,7 @@ static WORDS: [(&str, Subject); 12] = [
     ("passes", Subject::One(Shape::OneEachPass)),
     ("calls", Subject::One(Shape::Calls)),
     ("call-chain", Subject::One(Shape::CallChain)),
+    ("queued", Subject::One(Shape::QueuedCalls)),
     ("trees", Subject::Trees),
     ("tables", Subject::Tables),
     ("globs", Subject::Globs),

@@ -26,6 +26,8 @@ pub enum Shape {
     Calls,
     /// Calls in a row, each of which gives the macro of the next one.
     CallChain,
+    /// Calls of a macro that is defined behind them, each of which gives a struct.
+    QueuedCalls,
     /// Modules in one another with structs around them, always the same, and no imports: a text
     /// for trees alone.
     Nested,
@@ -102,6 +104,7 @@ impl Shape {
             }
             Shape::Calls => "calls of one macro, each of which gives a struct",
             Shape::CallChain => "a chain of calls: each gives the macro of the next one",
+            Shape::QueuedCalls => "calls before their macro: one pass expands them all",
             Shape::Nested => "modules in one another with structs around them",
         }
     }
@@ -131,7 +134,7 @@ fn length(plan: Plan) -> usize {
         Shape::Items | Shape::Nested => plan.size,
         Shape::Imports => half + 1 + half / USER_LINES * USER_LINES,
         Shape::RealCode => plan.size / REAL_LINES * REAL_LINES,
-        Shape::Calls | Shape::CallChain => plan.size.saturating_add(1),
+        Shape::Calls | Shape::CallChain | Shape::QueuedCalls => plan.size.saturating_add(1),
         _ => half.saturating_mul(2).saturating_add(SOURCE_LINES),
     }
 }
@@ -323,10 +326,19 @@ fn call_line(place: usize, called: usize) -> Line {
     }
 }
 
+/// Calls of one macro, and the macro behind them.
+fn queued_line(calls: usize, place: usize) -> Line {
+    if place < calls {
+        root_line(Item::Call(0))
+    } else {
+        root_line(Item::Macro(0))
+    }
+}
+
 /// What the call on the line at a place gives. Where no calls are written, there is nothing.
 fn given_at(shape: Shape, place: usize) -> Option<Item> {
     match shape {
-        Shape::Calls => Some(Item::Plain {
+        Shape::Calls | Shape::QueuedCalls => Some(Item::Plain {
             number: place,
             kind: Kind::Struct,
             seen: Seen::Everywhere,
@@ -347,6 +359,7 @@ fn line_at(plan: Plan, random: &mut Random, open: usize, place: usize) -> Line {
         Shape::OneEachPass => passes_line(plan.size / 2, place),
         Shape::Calls => call_line(place, 0),
         Shape::CallChain => call_line(place, place.saturating_sub(1)),
+        Shape::QueuedCalls => queued_line(plan.size, place),
         Shape::Nested => pattern_line(place),
     }
 }

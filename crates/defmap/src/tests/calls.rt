@@ -1,31 +1,16 @@
 //! Macro calls among items.
 #![tactic(auto)]
 
-use crate::tests::rows::{OVER_D, Row, expect_rows};
-use def_ids::{Macro2Id, MacroId, MacroRulesId};
+use crate::tests::rows::{A_ALONE, A_AND_D, GIVES_A, ITEM, OVER_D, Row, expect_rows};
+use def_ids::{MacroId, MacroRulesId};
 use def_workspace::{ALONE, CALL, CallText, Fault, Vector};
 use item_tree::{HirFileId, MacroCallId};
 
 /// The second macro by rules.
 const SECOND: MacroId = MacroId::MacroRules(MacroRulesId(1));
 
-/// The first `macro` item.
-const ITEM: MacroId = MacroId::Macro2(Macro2Id(0));
-
-/// A call of the first macro by rules, which gives a struct.
-const GIVES_A: CallText = CallText {
-    gives: "pub struct A;",
-    ..CALL
-};
-
 /// A crate with an exported macro.
 const EXPORTS: &str = "#[macro_export] macro_rules! m {}";
-
-/// Only `A` is bound.
-const A_ALONE: &str = "module 0 - crate
-binding 0 A types struct:0 pub decl
-binding 0 A values struct:0 pub decl
-";
 
 /// `A` is bound, and a module `m`.
 const A_AND_M: &str = "module 0 - crate
@@ -33,13 +18,6 @@ module 1 0 m
 binding 0 A types struct:0 pub decl
 binding 0 A values struct:0 pub decl
 binding 0 m types mod:1 in:0 decl
-";
-
-/// `A` is bound, and the crate `d`.
-const A_AND_D: &str = "module 0 - crate
-binding 0 A types struct:0 pub decl
-binding 0 A values struct:0 pub decl
-binding 0 d types mod:1/0 in:0 extern:0
 ";
 
 static TEXTUAL: [Row; 6] = [
@@ -247,24 +225,10 @@ fn bound_macros_are_called_at_once(rt: HostRuntime) -> Result<(), Fault> {
     expect_rows(&rt, rt.alloc(), &BOUND)
 }
 
-static LEFT: [Row; 6] = [
+static LEFT: [Row; 8] = [
     (
         Vector {
-            name: "a call before its macro waits",
-            files: &["foo!(); macro_rules! foo {}"],
-            calls: &[CallText {
-                ast_id: 0,
-                ..GIVES_A
-            }],
-            ..ALONE
-        },
-        "module 0 - crate
-left macro 0 fn foo
-",
-    ),
-    (
-        Vector {
-            name: "so does one of a macro that a module keeps",
+            name: "a macro that a module keeps is not found",
             files: &["mod m { macro_rules! foo {} } foo!();"],
             calls: &[CallText {
                 ast_id: 2,
@@ -275,12 +239,32 @@ left macro 0 fn foo
         "module 0 - crate
 module 1 0 m
 binding 0 m types mod:1 in:0 decl
+diag unresolved-macro 0 0:2 fn foo
 left macro 0 fn foo
 ",
     ),
     (
         Vector {
-            name: "and one of more than a name",
+            name: "so an import of it brings none",
+            files: &["mod m { macro_rules! foo {} } use m::foo as bar; bar!();"],
+            calls: &[CallText {
+                ast_id: 3,
+                ..GIVES_A
+            }],
+            ..ALONE
+        },
+        "module 0 - crate
+module 1 0 m
+binding 0 m types mod:1 in:0 decl
+diag unresolved-macro 0 0:3 fn bar
+diag unresolved-import 0 0:2 0
+left import 0 m::foo
+left macro 0 fn bar
+",
+    ),
+    (
+        Vector {
+            name: "a textual macro has no path",
             files: &["macro_rules! foo {} self::foo!(); crate::foo!();"],
             calls: &[
                 GIVES_A,
@@ -292,38 +276,42 @@ left macro 0 fn foo
             ..ALONE
         },
         "module 0 - crate
+diag unresolved-macro 0 0:1 fn self::foo
+diag unresolved-macro 0 0:2 fn crate::foo
 left macro 0 fn self::foo
 left macro 0 fn crate::foo
 ",
     ),
     (
         Vector {
-            name: "no import is resolved so early",
-            files: &["mod a { pub macro m {} } use a::m; m!();"],
-            calls: &[CallText {
-                ast_id: 3,
-                of: ITEM,
-                ..GIVES_A
-            }],
+            name: "paths are reported as they are written",
+            files: &["mod m { super::a!(); super::super::b!(); ::c::d!(); e::f::g!(); }"],
             ..ALONE
         },
         "module 0 - crate
-module 1 0 a
-binding 0 a types mod:1 in:0 decl
-binding 0 m macros macro:0 in:0 import:0.0
-binding 1 m macros macro:0 pub decl
-left macro 0 fn m
+module 1 0 m
+binding 0 m types mod:1 in:0 decl
+diag unresolved-macro 1 0:1 fn super::a
+diag unresolved-macro 1 0:2 fn super::super::b
+diag unresolved-macro 1 0:3 fn ::c::d
+diag unresolved-macro 1 0:4 fn e::f::g
+left macro 1 fn super::a
+left macro 1 fn super::super::b
+left macro 1 fn ::c::d
+left macro 1 fn e::f::g
 ",
     ),
     (
         Vector {
-            name: "calls that are left stand behind imports that are left",
+            name: "calls are reported before imports and listed behind them",
             files: &["mod m { foo!{} } foo![]; use b::C;"],
             ..ALONE
         },
         "module 0 - crate
 module 1 0 m
 binding 0 m types mod:1 in:0 decl
+diag unresolved-macro 1 0:1 fn foo
+diag unresolved-macro 0 0:2 fn foo
 diag unresolved-import 0 0:3 0
 left import 0 b::C
 left macro 1 fn foo
@@ -332,10 +320,46 @@ left macro 0 fn foo
     ),
     (
         Vector {
-            name: "a call whose answer has an error waits",
+            name: "what a run reports stands before them",
+            files: &["foo!(); #[cfg(7)] struct S; mod x;"],
+            ..ALONE
+        },
+        "module 0 - crate
+module 1 0 x
+binding 0 x types mod:1 in:0 decl
+diag unconfigured 0 0:1 7
+diag unresolved-module 0 0:2 x.rs,x/mod.rs
+diag unresolved-macro 0 0:0 fn foo
+left macro 0 fn foo
+",
+    ),
+    (
+        Vector {
+            name: "calls of an expansion stand behind those that are kept",
+            files: &["pub macro late {} gone!(); crate::late!();"],
+            calls: &[CallText {
+                ast_id: 2,
+                of: ITEM,
+                gives: "lost!();",
+                ..CALL
+            }],
+            ..ALONE
+        },
+        "module 0 - crate
+binding 0 late macros macro:0 pub decl
+diag unresolved-macro 0 0:1 fn gone
+diag unresolved-macro 0 m0:0 fn lost
+left macro 0 fn gone
+left macro 0 fn lost
+",
+    ),
+    (
+        Vector {
+            name: "a call whose answer has only an error is left without a report",
             files: &["macro_rules! foo {} foo!();"],
             calls: &[CallText {
                 err: Some(0),
+                is_silent: true,
                 ..GIVES_A
             }],
             ..ALONE

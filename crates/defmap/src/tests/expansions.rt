@@ -1,18 +1,12 @@
 //! What macro calls expand to: its items, the files of its modules, and how deep it may lie.
 #![tactic(auto)]
 
-use crate::tests::rows::{Row, expect_rows};
+use crate::tests::rows::{GIVES_A, ITEM, Row, expect_rows};
 use def_ids::{MacroId, MacroRulesId};
 use def_workspace::{ALONE, CALL, CallText, Fault, Vector, Workspace};
 use item_tree::{FileId, HirFileId, MacroCallId};
 use std::alloc::Global;
 use std::process::Abort;
-
-/// A call of the first macro by rules, which gives a struct.
-const GIVES_A: CallText = CallText {
-    gives: "pub struct A;",
-    ..CALL
-};
 
 static ITEMS: [Row; 4] = [
     (
@@ -193,24 +187,20 @@ fn expansions_end_at_the_limit(rt: HostRuntime) -> Result<(), Fault> {
 }
 
 /// The call of a chain by its number: the first stands in file 0, each other one in the expansion
-/// of the one before it.
-fn chained(number: usize) -> CallText {
+/// of the one before it. All else they have in common.
+fn chained(each: CallText, number: usize) -> CallText {
     let file = match number.checked_sub(1) {
         Some(before) => HirFileId::Macro(MacroCallId(before)),
         None => HirFileId::File(FileId(0)),
     };
-    CallText {
-        file,
-        gives: "struct A; foo!();",
-        ..CALL
-    }
+    CallText { file, ..each }
 }
 
 /// How many calls the root of a crate records, where each expansion holds the next call.
-fn recorded(alloc: Global, vector: &Vector) -> Result<Option<usize>, Fault> {
+fn recorded(alloc: Global, vector: &Vector, each: CallText) -> Result<Option<usize>, Fault> {
     let mut workspace = Workspace::new(alloc, vector)?;
     for number in 0..140 {
-        workspace.add_call(MacroCallId(number), &chained(number))?;
+        workspace.add_call(MacroCallId(number), &chained(each, number))?;
     }
     let Some(krate) = vector.crates.first() else {
         return Ok(None);
@@ -220,14 +210,29 @@ fn recorded(alloc: Global, vector: &Vector) -> Result<Option<usize>, Fault> {
     Ok(root.map(|scope| scope.invocations().len()))
 }
 
-/// Crates, and how many calls are recorded: those that are expanded, and the first that is not.
-static ENDLESS: [(Vector, usize); 3] = [
+/// A call that is made at once, and gives another one.
+const AT_ONCE: CallText = CallText {
+    gives: "struct A; foo!();",
+    ..CALL
+};
+
+/// A call that waits, and gives another one.
+const WAITING: CallText = CallText {
+    of: ITEM,
+    gives: "struct A; crate::foo!();",
+    ..CALL
+};
+
+/// Crates with their calls, and how many are recorded: those that are expanded, and the first that
+/// is not.
+static ENDLESS: [(Vector, CallText, usize); 6] = [
     (
         Vector {
             name: "the limit is 128 where none is written",
             files: &["macro_rules! foo {} foo!();"],
             ..ALONE
         },
+        AT_ONCE,
         129,
     ),
     (
@@ -236,6 +241,7 @@ static ENDLESS: [(Vector, usize); 3] = [
             files: &[r#"#![recursion_limit = "7"] macro_rules! foo {} foo!();"#],
             ..ALONE
         },
+        AT_ONCE,
         8,
     ),
     (
@@ -244,15 +250,43 @@ static ENDLESS: [(Vector, usize); 3] = [
             files: &[r#"#![recursion_limit = "0"] macro_rules! foo {} foo!();"#],
             ..ALONE
         },
+        AT_ONCE,
+        1,
+    ),
+    (
+        Vector {
+            name: "it holds for calls that wait",
+            files: &["pub macro foo {} crate::foo!();"],
+            ..ALONE
+        },
+        WAITING,
+        129,
+    ),
+    (
+        Vector {
+            name: "also another one",
+            files: &[r#"#![recursion_limit = "7"] pub macro foo {} crate::foo!();"#],
+            ..ALONE
+        },
+        WAITING,
+        8,
+    ),
+    (
+        Vector {
+            name: "and none",
+            files: &[r#"#![recursion_limit = "0"] pub macro foo {} crate::foo!();"#],
+            ..ALONE
+        },
+        WAITING,
         1,
     ),
 ];
 
 #[test]
 fn a_macro_without_an_end_stops(rt: HostRuntime) -> Result<(), Fault> {
-    for (vector, want) in &ENDLESS {
+    for (vector, each, want) in &ENDLESS {
         let name = vector.name;
-        assert_eq!(rt; recorded(rt.alloc(), vector)?, Some(*want), "{name}");
+        assert_eq!(rt; recorded(rt.alloc(), vector, *each)?, Some(*want), "{name}");
     }
     Ok(())
 }
