@@ -259,8 +259,11 @@ fn has_targets(alloc: Global, name: &str, glob: GlobId, want: &[Def]) -> Result<
     let Some(vector) = find(name) else {
         return Ok(false);
     };
+    let Some(krate) = vector.crates.last() else {
+        return Ok(false);
+    };
     let mut workspace = Workspace::new(alloc, vector)?;
-    let collected = workspace.collect(&vector.crates[0])?;
+    let collected = workspace.collect(krate)?;
     for (of, targets) in &collected.outcome.targets {
         if *of == glob {
             return Ok(targets.as_slice() == want);
