@@ -8,10 +8,14 @@ use Rattle.def_modules.specs.EqualityLaws.{macros_same, positions_same}
 use Rattle.def_modules.specs.Updates.{set_where}
 use Rattle.def_oracle.specs.declared.source_database.CallAnswer.{CallAnswer}
 use Rattle.def_oracle.specs.declared.source_database.UnresolvedMacro.{UnresolvedMacro}
-use Rattle.def_oracle.specs.Queries.{PlainCall}
+use Rattle.def_modules.specs.MapState.{Position}
+use Rattle.def_oracle.specs.Queries.{PlainAttrCall, PlainCall}
+use Rattle.item_tree.specs.declared.ids.Crate.{Crate}
+use Rattle.item_tree.specs.declared.ids.MacroCallId.{MacroCallId}
+use Rattle.item_tree.specs.declared.macro_flags.MacroCallStyles.{MacroCallStyles}
 use Rattle.def_database.specs.declared.database.CallKey.{CallKey}
 use Rattle.def_database.specs.contracts.database.CallKeyPartialEq.TheImpl as keys
-use Rattle.def_database.specs.Calls.{call_answer, call_key_eq, has_key, key_of, no_expansion}
+use Rattle.def_database.specs.Calls.{attr_call, attr_key, call_answer, call_key_eq, has_key, key_of, no_call, no_expansion}
 
 -- the derived test of calls is that of the definitions
 pub keys_same : keys.ghosts.eq ≡ call_key_eq
@@ -48,3 +52,27 @@ pub answer-read : (answers : CallKey → Option CallAnswer) (query : PlainCall) 
     → looked ≡ Some found → answers (key_of query found) ≡ Some answer → Ok answer ≡ call_answer answers query (looked ∷ [])
 answer-read answers query found looked answer is written =
     sym (ap (λ o. call_answer answers query (o ∷ [])) is ∙ ap gives written)
+
+-- what attribute macros give, once one more call is written down
+pub attr_call-set : (key : CallKey) (call : MacroCallId) (old new : CallKey → Option MacroCallId) → new ≡ set_where (call_key_eq key) (Some call) old
+    → attr_call new ≡ (λ (query : PlainAttrCall). cond (call_key_eq key (attr_key query)) call (attr_call old query))
+attr_call-set key call old new written = λ i query. at query i
+  where
+    by : (b : Bool) (o : Option MacroCallId) → unwrap_or (cond b (Some call) o) no_call ≡ cond b call (unwrap_or o no_call)
+    by true o = refl
+    by false o = refl
+
+    at : (query : PlainAttrCall) → attr_call new query ≡ cond (call_key_eq key (attr_key query)) call (attr_call old query)
+    at query = ap (λ f. unwrap_or (f (attr_key query)) no_call) written ∙ by (call_key_eq key (attr_key query)) (old (attr_key query))
+
+-- in which ways macros may be called, once that is written down of one more
+pub styles-set : (position : Position) (styles : MacroCallStyles) (old new : Position → Option MacroCallStyles) → new ≡ set_where (position_eq position) (Some styles) old
+    → ◌≡◌ {A = Position → Crate → MacroCallStyles} (λ p krate. unwrap_or (new p) (record { 0 = 1 })) (λ p krate. cond (position_eq position p) styles (unwrap_or (old p) (record { 0 = 1 })))
+styles-set position styles old new written = λ i p krate. at p i
+  where
+    by : (b : Bool) (o : Option MacroCallStyles) → unwrap_or (cond b (Some styles) o) (record { 0 = 1 }) ≡ cond b styles (unwrap_or o (record { 0 = 1 }))
+    by true o = refl
+    by false o = refl
+
+    at : (p : Position) → unwrap_or (new p) (record { 0 = 1 }) ≡ cond (position_eq position p) styles (unwrap_or (old p) (record { 0 = 1 }))
+    at p = ap (λ f. unwrap_or (f p) (record { 0 = 1 })) written ∙ by (position_eq position p) (old p)

@@ -1,6 +1,7 @@
 -- What macro calls are answered, by what was written down of them.
-use Rattle.std.specs.Prelude.{Bool, false, true, ◌==◌, ◌&&◌, cond, List, [], ◌∷◌, Option, Some, None, unwrap_or, Result, Ok, Err}
+use Rattle.std.specs.Prelude.{Bool, false, true, ◌==◌, ◌&&◌, ◌-◌, ◌^◌, cond, List, [], ◌∷◌, Option, Some, None, unwrap_or, Result, Ok, Err}
 use Rattle.item_tree.specs.declared.ids.MacroCallId.{MacroCallId}
+use Rattle.item_tree.specs.declared.macro_flags.MacroCallStyles.{MacroCallStyles}
 use Rattle.def_ids.specs.declared.ids.MacroId.{MacroId}
 use Rattle.def_interner.specs.declared.macro_def.MacroDefId.{MacroDefId}
 use Rattle.def_ids.specs.Equality.{macro_eq}
@@ -8,7 +9,7 @@ use Rattle.def_modules.specs.Equality.{position_eq}
 use Rattle.def_modules.specs.MapState.{Position}
 use Rattle.def_modules.specs.Updates.{set_where}
 use Rattle.def_map.specs.Oracle.{Oracle}
-use Rattle.def_map.specs.Queries.{PlainCall}
+use Rattle.def_map.specs.Queries.{PlainCall, PlainAttrCall}
 use Rattle.def_oracle.specs.declared.source_database.CallAnswer.{CallAnswer}
 use Rattle.def_oracle.specs.declared.source_database.UnresolvedMacro.{UnresolvedMacro}
 use Rattle.def_database.specs.declared.database.CallKey.{CallKey}
@@ -44,6 +45,27 @@ has_key key query _ = false
 abbrev pub with_call : Oracle → Position → MacroId → CallAnswer → Oracle
 with_call o position macro_id answer =
     record o { macro_call = λ query found. cond (has_key (record { position = position; macro_id = macro_id }) query found) (Ok answer) (o.macro_call query found) }
+
+-- what the call of an attribute macro is found by
+abbrev pub attr_key : PlainAttrCall → CallKey
+attr_key query = record { position = query.position; macro_id = query.macro_def.id }
+
+-- a call that nothing was written down of
+abbrev pub no_call : MacroCallId
+no_call = record { 0 = 2 ^ 64 - 1 }
+
+-- the call of an attribute macro
+abbrev pub attr_call : (CallKey → Option MacroCallId) → PlainAttrCall → MacroCallId
+attr_call calls query = unwrap_or (calls (attr_key query)) no_call
+
+-- the call of an attribute macro on the item at a position
+abbrev pub with_attr_call : Oracle → Position → MacroId → MacroCallId → Oracle
+with_attr_call o position macro_id call =
+    record o { make_attr_call = λ query. cond (call_key_eq (record { position = position; macro_id = macro_id }) (attr_key query)) call (o.make_attr_call query) }
+
+-- the ways in which the macro at a position may be called
+abbrev pub with_styles : Oracle → Position → MacroCallStyles → Oracle
+with_styles o position styles = record o { rule_styles = λ p krate. cond (position_eq position p) styles (o.rule_styles p krate) }
 
 -- one more call of `include!`
 abbrev pub with_include : Oracle → MacroCallId → Oracle

@@ -1,5 +1,5 @@
 -- What a database whose answers were written down answers.
-use Rattle.std.specs.Prelude.{Bool, false, ◌==◌, ◌&&◌, List, [], ◌∷◌, ℕ, String, Option, Some, None, option_map}
+use Rattle.std.specs.Prelude.{Bool, false, ◌==◌, ◌&&◌, ◌||◌, nat_le, List, [], ◌∷◌, ℕ, String, Option, Some, None, option_map, unwrap_or}
 use Rattle.indexmap.specs.IndexMap.{IndexMap, get, get_by_text}
 use Rattle.indexmap.specs.IndexSet.{contains}
 use Rattle.item_tree.specs.declared.ids.BlockId.{BlockId}
@@ -8,14 +8,16 @@ use Rattle.item_tree.specs.declared.ids.FileId.{FileId}
 use Rattle.item_tree.specs.declared.ids.HirFileId.{HirFileId}
 use Rattle.item_tree.specs.declared.ids.HirFileId.TheVariants.{File, Macro}
 use Rattle.item_tree.specs.declared.ids.TreeId.{TreeId}
+use Rattle.item_tree.specs.declared.name.Name.{Name}
 use Rattle.def_ids.specs.Ids.{is_same_block}
 use Rattle.def_bindings.specs.Content.{is_name}
 use Rattle.def_map.specs.DefMaps.{view_of}
 use Rattle.def_modules.specs.Equality.{file_eq, position_eq}
 use Rattle.def_modules.specs.Locals.{local_view}
 use Rattle.def_map.specs.Oracle.{Oracle}
+use Rattle.def_database.specs.declared.database.CfgFlag.{CfgFlag}
 use Rattle.def_database.specs.declared.database.Database.{Database}
-use Rattle.def_database.specs.Calls.{call_answer, call_eq, call_key_eq}
+use Rattle.def_database.specs.Calls.{attr_call, call_answer, call_eq, call_key_eq}
 
 -- whether two trees are one
 abbrev pub tree_eq : TreeId → TreeId → Bool
@@ -32,6 +34,14 @@ file_id_eq a b = a.0 == b.0
 -- whether two blocks are one
 abbrev pub block_eq : BlockId → BlockId → Bool
 block_eq a b = a.0 == b.0
+
+-- whether two flags are one
+abbrev pub flag_eq : CfgFlag → CfgFlag → Bool
+flag_eq a b = (a.krate.0 == b.krate.0) && (a.name.0 == b.name.0)
+
+-- whether definitions are collected by attributes of a name
+abbrev pub is_read_attr : Name → Bool
+is_read_attr name = (nat_le 8 name.0 && nat_le name.0 18) || (nat_le 20 name.0 && nat_le name.0 24)
 
 -- the source file of a file; that of an expansion is file 0
 abbrev pub source_file : HirFileId → FileId
@@ -61,21 +71,21 @@ answers_of s =
       expansion_depth = λ file. 0;
       asked_paths = λ query. query.path ∷ [];
       macro_call = call_answer (get call_key_eq s.calls.answers);
-      make_attr_call = λ query. record { 0 = 0 };
+      make_attr_call = attr_call (get call_key_eq s.calls.attrs);
       make_derive_call = λ query. record { 0 = 0 };
       is_include = contains call_eq s.calls.includes;
       enum_variants = λ loc. option_map (λ v. v.items) (get position_eq s.types.variants loc.position);
       assoc_items = λ owner. None;
-      rule_styles = λ position krate. record { 0 = 1 };
+      rule_styles = λ position krate. unwrap_or (get position_eq s.calls.styles position) (record { 0 = 1 });
       proc_macros = λ krate. [];
       find_builtin_macro = λ name. get is_name s.builtins.macros name;
       find_builtin_derive = λ name. get is_name s.builtins.derives name;
       find_builtin_attr = λ name. get is_name s.builtins.attrs name;
       builtin_type = λ name. get is_name s.types.builtin name;
-      is_builtin_attr = λ name. false;
+      is_builtin_attr = λ name. is_read_attr name || contains is_name s.builtins.inert name;
       has_builtin_derive_impl = λ derive. false;
       derive_traits = λ derive. [];
-      cfg_flag = λ krate name. false;
+      cfg_flag = λ krate name. contains flag_eq s.crates.flags (record { krate = krate; name = name });
       builtin_derive_fast_path = false;
       expand_proc_attr_macros = false;
     }

@@ -1,5 +1,5 @@
 -- What a database answers once something more is written down: what is given, and all else as before.
-use Rattle.std.specs.Prelude.{ℕ, ◌&&◌, cond, List, Option, Some, bytes_eq}
+use Rattle.std.specs.Prelude.{ℕ, true, ◌&&◌, cond, List, Option, Some, bytes_eq}
 use Rattle.either.specs.declared.Either.{Either}
 use Rattle.item_tree.specs.declared.ids.BlockId.{BlockId}
 use Rattle.item_tree.specs.declared.ids.Crate.{Crate}
@@ -68,3 +68,11 @@ with_builtin_attr o name attr = record o { find_builtin_attr = set_where (is_nam
 -- the builtin type of a name
 abbrev pub with_builtin : Oracle → Name → ℕ → Oracle
 with_builtin o name number = record o { builtin_type = set_where (is_name name) (Some number) o.builtin_type }
+
+-- one more attribute that is no macro
+abbrev pub with_inert_attr : Oracle → Name → Oracle
+with_inert_attr o name = record o { is_builtin_attr = set_where (is_name name) true o.is_builtin_attr }
+
+-- one more condition under which a crate is compiled
+abbrev pub with_flag : Oracle → Crate → Name → Oracle
+with_flag o krate name = record o { cfg_flag = λ k n. cond (crate_eq krate k && is_name name n) true (o.cfg_flag k n) }

@@ -1,6 +1,6 @@
 //! A database whose answers are data.
 ghost use Rattle.std.specs.Prelude.{◌≡◌, IfOk};
-ghost use Rattle.def_database.specs.Database.{answers_of};
+ghost use Rattle.def_database.specs.Database.{answers_of, is_read_attr};
 
 use def_ids::MacroId;
 use def_locs::{BuiltinAttr, EnumLoc};
@@ -30,6 +30,7 @@ pub struct Crates {
     pub maps: IndexMap<Crate, DefMap>,
     pub local_maps: IndexMap<Crate, LocalDefMap>,
     pub outer_maps: IndexMap<BlockId, DefMap>,
+    pub flags: IndexSet<CfgFlag>,
 }
 
 /// The variants of the enum at each position, and builtin types.
@@ -39,13 +40,15 @@ pub struct Types {
     pub builtin: IndexMap<Name, u32>,
 }
 
-/// The builtin macros, derives and attributes, by their names. Of the macros those on the left are
-/// expanded as they stand, those on the right are eager.
+/// The builtin macros, derives and attribute macros, by their names. Of the macros those on the left
+/// are expanded as they stand, those on the right are eager. Attributes that are no macros are inert;
+/// those that definitions are collected by are so without being listed.
 #[derive(Drop)]
 pub struct Builtins {
     pub macros: IndexMap<Name, Either<u32, u32>>,
     pub derives: IndexMap<Name, u32>,
     pub attrs: IndexMap<Name, BuiltinAttr>,
+    pub inert: IndexSet<Name>,
 }
 
 /// The call at a position, of the macro that is found for its path.
@@ -55,16 +58,27 @@ pub struct CallKey {
     pub macro_id: MacroId,
 }
 
-/// What macro calls give, and which of them are calls of `include!`.
+/// What macro calls and attribute macros give, which calls are calls of `include!`, and in which ways
+/// the macro at a position may be called.
 #[derive(Drop)]
 pub struct Calls {
     pub answers: IndexMap<CallKey, CallAnswer>,
+    pub attrs: IndexMap<CallKey, MacroCallId>,
     pub includes: IndexSet<MacroCallId>,
+    pub styles: IndexMap<InFile<FileAstId>, MacroCallStyles>,
+}
+
+/// A condition of one word under which a crate is compiled.
+#[derive(Clone, Copy, PartialEq, Eq, Hash)]
+pub struct CfgFlag {
+    pub krate: Crate,
+    pub name: Name,
 }
 
 /// A database whose answers were written down. A macro call asks the resolver for its path alone,
-/// and gives nothing where nothing was written down of the macro that is found. The source file of
-/// each expansion is file 0.
+/// and gives nothing where nothing was written down of the macro that is found; an attribute macro
+/// then gives a call without items. A macro is called as `m!(..)` where nothing else was written down.
+/// The source file of each expansion is file 0.
 pub struct Database {
     pub files: Files,
     pub crates: Crates,
@@ -98,6 +112,7 @@ impl Database {
                 maps: IndexMap::new(alloc),
                 local_maps: IndexMap::new(alloc),
                 outer_maps: IndexMap::new(alloc),
+                flags: IndexSet::new(alloc),
             },
             types: Types {
                 variants: IndexMap::new(alloc),
@@ -107,13 +122,23 @@ impl Database {
                 macros: IndexMap::new(alloc),
                 derives: IndexMap::new(alloc),
                 attrs: IndexMap::new(alloc),
+                inert: IndexSet::new(alloc),
             },
             calls: Calls {
                 answers: IndexMap::new(alloc),
+                attrs: IndexMap::new(alloc),
                 includes: IndexSet::new(alloc),
+                styles: IndexMap::new(alloc),
             },
         }
     }
+}
+
+/// Whether definitions are collected by attributes of this name.
+fn is_read_attr(name: Name) -> bool
+    ensures { result ≡ is_read_attr name }
+{
+    matches!(name.0, 8..=18 | 20..=24)
 }
 
 /// A copy of an answer.
@@ -193,8 +218,15 @@ impl SourceDatabase for Database {
         }
     }
 
-    fn make_attr_call(&self, _query: AttrCallQuery<'_>) -> MacroCallId {
-        MacroCallId(0)
+    fn make_attr_call(&self, query: AttrCallQuery<'_>) -> MacroCallId {
+        let key = CallKey {
+            position: query.position,
+            macro_id: query.macro_def.id,
+        };
+        match self.calls.attrs.get(&key) {
+            Some(call) => *call,
+            None => MacroCallId(usize::MAX),
+        }
     }
 
     fn make_derive_call(&self, _query: DeriveCallQuery) -> MacroCallId {
@@ -216,8 +248,11 @@ impl SourceDatabase for Database {
         None
     }
 
-    fn rule_styles(&self, _position: InFile<FileAstId>, _krate: Crate) -> MacroCallStyles {
-        MacroCallStyles::FN_LIKE
+    fn rule_styles(&self, position: InFile<FileAstId>, _krate: Crate) -> MacroCallStyles {
+        match self.calls.styles.get(&position) {
+            Some(styles) => *styles,
+            None => MacroCallStyles::FN_LIKE,
+        }
     }
 
     fn proc_macros(&self, _krate: Crate) -> &[(Name, u32, bool)] {
@@ -240,8 +275,8 @@ impl SourceDatabase for Database {
         self.types.builtin.get(&name).copied()
     }
 
-    fn is_builtin_attr(&self, _name: Name) -> bool {
-        false
+    fn is_builtin_attr(&self, name: Name) -> bool {
+        is_read_attr(name) || self.builtins.inert.contains(&name)
     }
 
     fn has_builtin_derive_impl(&self, _derive: u32) -> bool {
@@ -252,8 +287,8 @@ impl SourceDatabase for Database {
         &[]
     }
 
-    fn cfg_flag(&self, _krate: Crate, _name: Name) -> bool {
-        false
+    fn cfg_flag(&self, krate: Crate, name: Name) -> bool {
+        self.crates.flags.contains(&CfgFlag { krate, name })
     }
 
     fn builtin_derive_fast_path(&self) -> bool {

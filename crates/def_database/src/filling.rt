@@ -2,17 +2,19 @@
 ghost use Rattle.std.specs.Prelude.{◌≡◌, Some, bytes_eq, OnOk, OnErr};
 ghost use Rattle.indexmap.specs.IndexMap.{get_by_text};
 ghost use Rattle.def_modules.specs.Updates.{set_where};
-ghost use Rattle.def_database.specs.Calls.{with_call, with_include};
+ghost use Rattle.def_database.specs.Calls.{with_attr_call, with_call, with_include, with_styles};
 ghost use Rattle.def_database.specs.Database.{answers_of, leads};
-ghost use Rattle.def_database.specs.Filling.{with_tree, with_path, with_crate, with_maps, with_outer_map, with_variants, with_builtin, with_builtin_attr, with_builtin_derive, with_builtin_macro, with_lead};
+ghost use Rattle.def_database.specs.Filling.{with_tree, with_path, with_crate, with_maps, with_outer_map, with_variants, with_builtin, with_builtin_attr, with_builtin_derive, with_builtin_macro, with_flag, with_inert_attr, with_lead};
 
-use crate::database::{CallKey, Database};
+use crate::database::{CallKey, CfgFlag, Database};
 use def_ids::MacroId;
 use def_locs::BuiltinAttr;
 use def_map::{CallAnswer, CrateData, DefMap, EnumVariant, LocalDefMap};
 use either::Either;
 use indexmap::IndexMap;
-use item_tree::{BlockId, Crate, FileAstId, FileId, InFile, ItemTree, MacroCallId, Name, TreeId};
+use item_tree::{
+    BlockId, Crate, FileAstId, FileId, InFile, ItemTree, MacroCallId, MacroCallStyles, Name, TreeId,
+};
 use std::alloc::AllocError;
 
 impl Database {
@@ -29,7 +31,8 @@ impl Database {
     pub fn add_path(&mut self, from: FileId, path: &str, to: FileId) -> Result<(), AllocError>
         ensures ok { OnOk result (answers_of self.new ≡ with_path (answers_of self.old) from path.now to) }
     {
-        lead_from(&mut self.files.paths, from, path, to)
+        lead_from(&mut self.files.paths, from, path, to)?;
+        Ok(())
     }
 
     /// Says what is known of a crate.
@@ -131,6 +134,52 @@ impl Database {
     {
         let key = CallKey { position, macro_id };
         self.calls.answers.insert(key, answer)?;
+        Ok(())
+    }
+
+    /// Gives an attribute macro its call on the item at a position.
+    pub fn add_attr_call(
+        &mut self,
+        position: InFile<FileAstId>,
+        macro_id: MacroId,
+        call: MacroCallId,
+    ) -> Result<(), AllocError>
+        ensures ok { OnOk result (answers_of self.new ≡ with_attr_call (answers_of self.old) position macro_id call) }
+        ensures err { OnErr result (answers_of self.new ≡ answers_of self.old) }
+    {
+        let key = CallKey { position, macro_id };
+        self.calls.attrs.insert(key, call)?;
+        Ok(())
+    }
+
+    /// Says in which ways the macro at a position may be called.
+    pub fn add_styles(
+        &mut self,
+        position: InFile<FileAstId>,
+        styles: MacroCallStyles,
+    ) -> Result<(), AllocError>
+        ensures ok { OnOk result (answers_of self.new ≡ with_styles (answers_of self.old) position styles) }
+        ensures err { OnErr result (answers_of self.new ≡ answers_of self.old) }
+    {
+        self.calls.styles.insert(position, styles)?;
+        Ok(())
+    }
+
+    /// Makes attributes of a name no macros.
+    pub fn add_inert_attr(&mut self, name: Name) -> Result<(), AllocError>
+        ensures ok { OnOk result (answers_of self.new ≡ with_inert_attr (answers_of self.old) name) }
+        ensures err { OnErr result (answers_of self.new ≡ answers_of self.old) }
+    {
+        self.builtins.inert.insert(name)?;
+        Ok(())
+    }
+
+    /// Compiles a crate with a condition of one word.
+    pub fn add_flag(&mut self, krate: Crate, name: Name) -> Result<(), AllocError>
+        ensures ok { OnOk result (answers_of self.new ≡ with_flag (answers_of self.old) krate name) }
+        ensures err { OnErr result (answers_of self.new ≡ answers_of self.old) }
+    {
+        self.crates.flags.insert(CfgFlag { krate, name })?;
         Ok(())
     }
 

@@ -4,4 +4,4 @@
 mod database;
 mod filling;
 
-pub use database::{Builtins, CallKey, Calls, Crates, Database, Files, Types};
+pub use database::{Builtins, CallKey, Calls, CfgFlag, Crates, Database, Files, Types};
