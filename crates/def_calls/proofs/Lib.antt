@@ -1,2 +1,3 @@
 pub mod CallsLemmas
 pub mod WaitingLemmas
+pub mod AttrsLemmas

@@ -6,7 +6,6 @@ use Rattle.def_calls.specs.Shown.{macro_directive_of, macros_in}
 use Rattle.def_rules.specs.declared.outcome.LeftMacro.{LeftMacro}
 use Rattle.def_rules.specs.Report.{left_macro}
 use Rattle.def_rules.specs.State as rules
-use Rattle.def_steps.specs.ImportLists.{present}
 use Rattle.def_steps.proofs.ImportListsLaws.{Around, around, present-nil, present_pushed, present_same}
 
 -- what waits at an entry

@@ -1,15 +1,17 @@
 -- Calls that are written or wait for their macros, as the rules see them.
-use Rattle.std.specs.Prelude.{◌≡◌, List, ◌∷◌, ◌++◌, map, Option, Result}
+use Rattle.std.specs.Prelude.{◌≡◌, Bool, true, false, List, ◌∷◌, ◌++◌, map, Option}
+use Rattle.def_calls.specs.declared.attrs.AttrUse.{AttrUse}
+use Rattle.def_calls.specs.declared.attrs.AttrUse.TheVariants.{PassesOver, ReadsDerives, ReplacesItem}
+use Rattle.def_calls.specs.declared.attrs.WrittenAttr.{WrittenAttr}
 use Rattle.def_calls.specs.declared.directives.Expansion.{Expansion}
 use Rattle.def_calls.specs.declared.directives.MacroDirective.{MacroDirective}
 use Rattle.def_calls.specs.declared.directives.MacroDirectiveKind.{MacroDirectiveKind}
-use Rattle.def_calls.specs.declared.directives.MacroDirectiveKind.TheVariants.{FnLike}
+use Rattle.def_calls.specs.declared.directives.MacroDirectiveKind.TheVariants.{FnLike, Attr}
 use Rattle.def_calls.specs.declared.directives.WrittenCall.{WrittenCall}
 use Rattle.def_modules.specs.declared.map.MapData.{MapData}
 use Rattle.def_modules.specs.Maps.{map_state}
-use Rattle.def_oracle.specs.declared.source_database.CallAnswer.{CallAnswer}
-use Rattle.def_oracle.specs.declared.source_database.UnresolvedMacro.{UnresolvedMacro}
-use Rattle.def_rules.specs.Directives.{turn_state}
+use Rattle.def_rules.specs.Attributes as attributes
+use Rattle.def_rules.specs.Directives.{Told, Turn, Stays, GivesCall, WalksItem, turn_effect}
 use Rattle.def_steps.specs.ImportLists.{present}
 use Rattle.def_rules.specs.State as rules
 
@@ -17,9 +19,14 @@ use Rattle.def_rules.specs.State as rules
 abbrev pub written_of : WrittenCall → rules.WrittenCall
 written_of call = record { path = call.path.now; expand_to = call.expand_to; ctxt = call.ctxt }
 
+-- an attribute, with itself in the place of the reference
+abbrev pub written_attr_of : WrittenAttr → rules.WrittenAttr
+written_attr_of written = record { tree = written.tree_id; item = written.item; id = written.attr_id; attr = written.attr.now }
+
 -- what waits for a macro
 abbrev pub kind_of : MacroDirectiveKind → rules.MacroDirectiveKind
 kind_of (FnLike call) = rules.FnLike (written_of call)
+kind_of (Attr written) = rules.Attr (written_attr_of written)
 
 -- the same with its place and depth
 abbrev pub macro_directive_of : MacroDirective → rules.MacroDirective
@@ -37,9 +44,28 @@ expansion_shown e = record { scope = e.module_id; container = e.container; depth
 abbrev pub with_waiting : rules.State → MapData → List (Option MacroDirective) → List Expansion → rules.State
 with_waiting s m directives expansions = record s { map = map_state m; macros = macros_in directives; expansions = map expansion_shown expansions }
 
--- what waits for a macro had its turn, by this answer
-pub record IsTurned (s : rules.State) (d : rules.MacroDirective) (answer : Result CallAnswer UnresolvedMacro) (t : rules.State) : Type 0 where
+-- whether what was told leaves
+abbrev pub leaves : Turn → Bool
+leaves Stays = false
+leaves (GivesCall call) = true
+leaves (WalksItem written) = true
+
+-- what waits for a macro had its turn, in which this was told
+pub record IsTurned (s : rules.State) (d : rules.MacroDirective) (given : Told) (t : rules.State) : Type 0 where
   pub before : List rules.MacroDirective
   pub behind : List rules.MacroDirective
   pub stands : s.macros ≡ before ++ d ∷ behind
-  pub is : t ≡ turn_state s before d behind answer
+  pub is : t ≡ (turn_effect given.state before d behind given.turn).state
+
+-- one that waited left the others
+pub record IsLeft (macros : List rules.MacroDirective) (d : rules.MacroDirective) (others : List rules.MacroDirective) : Type 0 where
+  pub before : List rules.MacroDirective
+  pub behind : List rules.MacroDirective
+  pub stands : macros ≡ before ++ d ∷ behind
+  pub left : others ≡ before ++ behind
+
+-- what a macro does with the item of its attribute
+abbrev pub attr_use_of : AttrUse → attributes.AttrUse
+attr_use_of PassesOver = attributes.PassesOver
+attr_use_of ReadsDerives = attributes.ReadsDerives
+attr_use_of ReplacesItem = attributes.ReplacesItem

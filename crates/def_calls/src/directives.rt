@@ -1,13 +1,14 @@
-//! Calls as they are written, those that wait for their macros, and those that were made.
-ghost use Rattle.std.specs.Prelude.{◌≡◌, ◌++◌, ◌∷◌, [], false, Some, is_some, length, map, slice_get, IfOk, OnOk};
-ghost use Rattle.def_calls.specs.Shown.{IsTurned, expansion_shown, macro_directive_of, macros_in, with_waiting, written_of};
+//! Calls as they are written, calls and items that wait for macros, and calls that were made.
+ghost use Rattle.std.specs.Prelude.{◌≡◌, ◌++◌, ◌∷◌, [], false, Some, map, slice_get, IfOk, OnOk};
+ghost use Rattle.def_calls.specs.Shown.{IsLeft, IsTurned, expansion_shown, kind_of, leaves, macro_directive_of, macros_in, with_waiting};
 ghost use Rattle.def_modules.specs.Maps.{map_state};
 ghost use Rattle.def_items.specs.Parts.{site_of};
 ghost use Rattle.def_rules.specs.Calls.{invoking, waiting};
-ghost use Rattle.def_rules.specs.Directives.{expansion_of, given_call};
+ghost use Rattle.def_rules.specs.Directives.{GivesCall, call_told, expansion_of};
 ghost use Rattle.def_rules.specs.Report.{answer_report, left_macro};
-ghost use Rattle.def_rules.specs.State.{State};
+ghost use Rattle.def_rules.specs.State.{FnLike, State, WrittenCall as WrittenCallRule};
 
+use crate::attrs::WrittenAttr;
 use crate::queries::deeper;
 use def_ids::{ItemContainerId, ModuleId};
 use def_items::Site;
@@ -26,10 +27,11 @@ pub struct WrittenCall<'a> {
     pub ctxt: SyntaxContext,
 }
 
-/// What waits for a macro.
+/// What waits for a macro: a call, or an item for the macro of one of its attributes.
 #[derive(Clone, Copy)]
 pub enum MacroDirectiveKind<'a> {
     FnLike(WrittenCall<'a>),
+    Attr(WrittenAttr<'a>),
 }
 
 /// What waits for a macro: the module and the container in which the items of its expansion are to
@@ -67,31 +69,31 @@ pub struct Expansion {
     pub call: MacroCallId,
 }
 
-/// Lets a call wait for its macro, whose expansion is to stand one level deeper. On `Err` nothing but
+/// Lets an item wait for a macro, whose expansion is to stand one level deeper. On `Err` nothing but
 /// safety is promised.
-pub fn queue_call<'a>(
+pub fn queue_macro<'a>(
     directives: &mut Vec<Option<MacroDirective<'a>>>,
     site: Site<'_>,
     node: &ItemNode,
-    written: WrittenCall<'a>,
+    kind: MacroDirectiveKind<'a>,
 ) -> Result<(), AllocError>
     ensures { OnOk result (macros_in directives.new.items
-        ≡ macros_in directives.old.items ++ waiting (site_of site.entry) node.now (written_of written.entry) ∷ []) }
+        ≡ macros_in directives.old.items ++ waiting (site_of site.entry) node.now (kind_of kind.entry) ∷ []) }
 {
     directives.push(Some(MacroDirective {
         module_id: site.module_id,
         container: site.container,
         position: site.position(node),
         depth: deeper(site.depth),
-        kind: MacroDirectiveKind::FnLike(written),
+        kind,
     }))?;
     Ok(())
 }
 
-/// Gives a macro that waits its answer: the calls that were made for its arguments are recorded, and
+/// Gives a call that waits its answer: the calls that were made for its arguments are recorded, and
 /// with a call of its own it leaves, and its expansion is to be walked. Answers whether it was given
 /// one. On `Err` nothing but safety is promised.
-pub fn settle_macro<'a>(
+pub fn settle_call<'a>(
     def_map: &mut MapData,
     directives: &mut Vec<Option<MacroDirective<'a>>>,
     expansions: &mut VecDeque<Expansion>,
@@ -100,25 +102,56 @@ pub fn settle_macro<'a>(
     answer: &Result<CallAnswer, UnresolvedMacro>,
 ) -> Result<bool, AllocError>
     requires { slice_get directives.old.items i ≡ Some (Some directive) }
-    ensures len { length directives.new.items ≡ length directives.old.items }
     ensures turned { OnOk result ((s : State) →
-        IsTurned (with_waiting s def_map.old directives.old.items expansions.old.items) (macro_directive_of directive.entry) answer.now
-        (with_waiting s def_map.new directives.new.items expansions.new.items)) }
-    ensures given { IfOk result (λ given. given ≡ is_some (given_call answer.now)) }
+        let d = macro_directive_of directive.entry in
+        let before = with_waiting s def_map.old directives.old.items expansions.old.items in
+        IsTurned before d (call_told before d answer.now) (with_waiting s def_map.new directives.new.items expansions.new.items)) }
+    ensures given { IfOk result (λ given. (s : State) → given ≡ leaves (call_told s (macro_directive_of directive.entry) answer.now).turn) }
     ensures same { IfOk result (λ given. given ≡ false → directives.new.items ≡ directives.old.items) }
 {
     let Ok(answer) = answer else {
         return Ok(false);
     };
-    let module = directive.module_id.index;
-    record_calls(def_map, module, answer.inner.as_slice())?;
+    record_calls(def_map, directive.module_id.index, answer.inner.as_slice())?;
     let Some(call) = answer.value else {
         return Ok(false);
     };
-    def_map.add_macro_invoc(module, directive.position, call)?;
-    directives[i] = None;
-    expansions.push_back(directive.expansion(call))?;
+    give_call(def_map, directives, expansions, i, directive, call)?;
     Ok(true)
+}
+
+/// Gives what waits a call: it leaves, the call is recorded, and its expansion is to be walked. On
+/// `Err` nothing but safety is promised.
+pub fn give_call<'a>(
+    def_map: &mut MapData,
+    directives: &mut Vec<Option<MacroDirective<'a>>>,
+    expansions: &mut VecDeque<Expansion>,
+    i: usize,
+    directive: MacroDirective<'a>,
+    call: MacroCallId,
+) -> Result<(), AllocError>
+    requires { slice_get directives.old.items i ≡ Some (Some directive) }
+    ensures { OnOk result ((s : State) →
+        let before = with_waiting s def_map.old directives.old.items expansions.old.items in
+        IsTurned before (macro_directive_of directive.entry) (record { state = before; turn = GivesCall call })
+        (with_waiting s def_map.new directives.new.items expansions.new.items)) }
+{
+    def_map.add_macro_invoc(directive.module_id.index, directive.position, call)?;
+    leave(directives, i, directive);
+    expansions.push_back(directive.expansion(call))?;
+    Ok(())
+}
+
+/// Lets what waits leave.
+pub fn leave<'a>(
+    directives: &mut Vec<Option<MacroDirective<'a>>>,
+    i: usize,
+    directive: MacroDirective<'a>,
+)
+    requires { slice_get directives.old.items i ≡ Some (Some directive) }
+    ensures { IsLeft (macros_in directives.old.items) (macro_directive_of directive.entry) (macros_in directives.new.items) }
+{
+    directives[i] = None;
 }
 
 /// Records calls in a module, each at its position. On `Err` nothing but safety is promised.
@@ -157,6 +190,12 @@ fn left_macro(directive: &MacroDirective<'_>) -> Result<LeftMacro, AllocError>
 {
     let (kind, path) = match directive.kind {
         MacroDirectiveKind::FnLike(written) => (LeftMacroKind::Fn, written.path.clone()?),
+        MacroDirectiveKind::Attr(written) => {
+            (
+                LeftMacroKind::Attr(written.attr_id),
+                written.attr.path.clone()?,
+            )
+        }
     };
     Ok(LeftMacro {
         module: directive.module_id,
@@ -167,26 +206,24 @@ fn left_macro(directive: &MacroDirective<'_>) -> Result<LeftMacro, AllocError>
     })
 }
 
-/// Reports what waits for a macro and is left over, by its answer: only that its macro is not found.
-/// On `Err` nothing but safety is promised.
-pub fn report_left_macro(
+/// Reports a call that is left over, by its answer: only that its macro is not found. On `Err`
+/// nothing but safety is promised.
+pub fn report_left_call(
     diagnostics: &mut Vec<DefDiagnostic>,
     directive: &MacroDirective<'_>,
     answer: Result<CallAnswer, UnresolvedMacro>,
 ) -> Result<(), AllocError>
-    ensures { OnOk result (diagnostics.new.items ≡ diagnostics.old.items ++ answer_report (macro_directive_of directive.now) answer) }
+    ensures { OnOk result ((written : WrittenCallRule) → (macro_directive_of directive.now).kind ≡ FnLike written →
+        diagnostics.new.items ≡ diagnostics.old.items ++ answer_report (macro_directive_of directive.now) answer) }
 {
     let Err(unresolved) = answer else {
         return Ok(());
-    };
-    let kind = match directive.kind {
-        MacroDirectiveKind::FnLike(_) => LeftMacroKind::Fn,
     };
     diagnostics.push(DefDiagnostic {
         module: directive.module_id,
         ast_id: directive.position,
         kind: DefDiagnosticKind::UnresolvedMacroCall {
-            kind,
+            kind: LeftMacroKind::Fn,
             path: unresolved.path,
         },
     })?;

@@ -1,17 +1,26 @@
-//! Macro calls: which macro one finds where it stands and once imports are resolved, what it is asked
-//! with, and what waits for its macro, each step over the parts of the state that it reads or
-//! changes.
+//! Macros that items call or have as attributes: which macro one finds where it stands and once
+//! imports are resolved, what it is asked with, what it does with an item, and what waits for its
+//! macro, each step over the parts of the state that it reads or changes.
 #![tactic(auto)]
 
+mod attrs;
 mod directives;
 mod early_resolver;
+mod item_attrs;
 mod path_resolver;
 mod queries;
 
+pub use attrs::{
+    AttrUse, WrittenAttr, attr_call, attr_macro, attr_use, awaited_attr,
+    is_builtin_or_registered_attr, is_helper, report_derives,
+};
 pub use directives::{
-    Expansion, MacroDirective, MacroDirectiveKind, WrittenCall, left_macros, queue_call,
-    record_calls, report_left_macro, settle_macro,
+    Expansion, MacroDirective, MacroDirectiveKind, WrittenCall, give_call, leave, left_macros,
+    queue_macro, record_calls, report_left_call, settle_call,
 };
 pub use early_resolver::EarlyResolver;
+pub use item_attrs::ItemAttrs;
 pub use path_resolver::PathResolver;
-pub use queries::{call_query, deeper, early_answer, expansion_dir, is_too_deep, macro_answer};
+pub use queries::{
+    call_answer, call_query, deeper, early_answer, expansion_dir, is_too_deep, stored_dir,
+};

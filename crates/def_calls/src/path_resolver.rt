@@ -3,7 +3,6 @@ ghost use Rattle.def_map.specs.Asking.{world_lent};
 ghost use Rattle.def_modules.specs.Tables.{bound_by};
 ghost use Rattle.def_map.specs.Paths.{resolver};
 ghost use Rattle.def_paths.specs.declared.asked.BuiltinShadowMode.TheVariants as shadow;
-ghost use Rattle.def_paths.specs.declared.per_ns.MacroSubNs.TheVariants as sub;
 
 use def_ids::{Def, ModuleId};
 use def_interner::MacroDefId;
@@ -14,10 +13,11 @@ use def_map::{
 use item_tree::ModPath;
 
 /// Finds the macros that paths name in a module once imports are resolved. Of a name that stands
-/// alone, only macros count that can be called.
+/// alone, only macros count that can be called in this way.
 pub struct PathResolver<'a, D> {
     pub world: World<'a, D, Table>,
     pub module_id: ModuleId,
+    pub sub: MacroSubNs,
 }
 
 impl<'a, D> Drop for PathResolver<'a, D> {
@@ -25,18 +25,19 @@ impl<'a, D> Drop for PathResolver<'a, D> {
         let PathResolver {
             world: _,
             module_id: _,
+            sub: _,
         } = self;
     }
 }
 
 impl<'a, D: SourceDatabase> MacroResolver for PathResolver<'a, D> {
-    ghost resolved = { λ r. resolver (world_lent D.oracle bound_by r.world) shadow.Module sub.Bang r.module_id };
+    ghost resolved = { λ r. resolver (world_lent D.oracle bound_by r.world) shadow.Module r.sub r.module_id };
 
     fn resolve(&self, path: &ModPath) -> Option<MacroDefId> {
         let asked = Asked {
             mode: ResolveMode::Other,
             shadow: BuiltinShadowMode::Module,
-            sub: Some(MacroSubNs::Bang),
+            sub: Some(self.sub),
         };
         let found = resolve_path_fp_with_macro(&self.world, asked, self.module_id, path);
         match found.resolved_def.macros?.def {

@@ -9,12 +9,14 @@ ghost use Rattle.def_modules.specs.Tables.{bound_by};
 ghost use Rattle.def_rules.specs.Calls as calls;
 ghost use Rattle.def_rules.specs.Directives.{answer_in};
 
-use crate::directives::{MacroDirective, MacroDirectiveKind, WrittenCall};
+use crate::directives::{MacroDirective, WrittenCall};
 use crate::early_resolver::EarlyResolver;
 use crate::path_resolver::PathResolver;
 use def_ids::ModuleId;
 use def_items::ModDirs;
-use def_map::{CallAnswer, CallQuery, MapData, SourceDatabase, Table, UnresolvedMacro, World};
+use def_map::{
+    CallAnswer, CallQuery, MacroSubNs, MapData, SourceDatabase, Table, UnresolvedMacro, World,
+};
 use def_parts::ModDir;
 use item_tree::{FileAstId, InFile, MacroCallId};
 use std::alloc::{AllocError, Global};
@@ -71,27 +73,25 @@ pub fn early_answer<D: SourceDatabase>(
     world.db.macro_call(alloc, query, &resolver)
 }
 
-/// Asks the database for what waits for a macro, by the macros that paths name once imports are
-/// resolved. On `Err` nothing but safety is promised.
-pub fn macro_answer<D: SourceDatabase>(
+/// Asks the database for a call that waits, by the macros that paths name once imports are resolved.
+/// On `Err` nothing but safety is promised.
+pub fn call_answer<D: SourceDatabase>(
     alloc: Global,
     world: &World<'_, D, Table>,
     def_map: &MapData,
     directive: &MacroDirective<'_>,
+    written: WrittenCall<'_>,
 ) -> Result<Result<CallAnswer, UnresolvedMacro>, AllocError>
-    ensures { let d = macro_directive_of directive.now in
-        IfOk result (λ answer. answer ≡ answer_in (world_lent D.oracle bound_by world.now) (map_state def_map.now) d d.kind) }
+    ensures { IfOk result (λ answer. answer
+        ≡ answer_in (world_lent D.oracle bound_by world.now) (map_state def_map.now) (macro_directive_of directive.now) (written_of written.entry)) }
 {
-    match directive.kind {
-        MacroDirectiveKind::FnLike(written) => {
-            let query = call_query(def_map, directive.position, directive.depth, written);
-            let resolver = PathResolver {
-                world: *world,
-                module_id: directive.module_id,
-            };
-            world.db.macro_call(alloc, query, &resolver)
-        }
-    }
+    let query = call_query(def_map, directive.position, directive.depth, written);
+    let resolver = PathResolver {
+        world: *world,
+        module_id: directive.module_id,
+        sub: MacroSubNs::Bang,
+    };
+    world.db.macro_call(alloc, query, &resolver)
 }
 
 /// The directory in which the modules of an expansion have their files: of `include!` that of the
@@ -109,6 +109,17 @@ pub fn expansion_dir<D: SourceDatabase>(
     if db.is_include(call) {
         return Ok(ModDir::root(alloc));
     }
+    stored_dir(alloc, mod_dirs, module_id)
+}
+
+/// The directory that is stored for a module, else the root's.
+pub fn stored_dir(
+    alloc: Global,
+    mod_dirs: &ModDirs,
+    module_id: ModuleId,
+) -> Result<ModDir, AllocError>
+    ensures { IfOk result (λ dir. dir ≡ calls.stored_directory (directories_of mod_dirs.now) module_id) }
+{
     match mod_dirs.get(module_id) {
         Some(dir) => Ok(dir.clone()?),
         None => Ok(ModDir::root(alloc)),

@@ -6,7 +6,7 @@ use Rattle.def_map.specs.Oracle.{Oracle}
 use Rattle.def_oracle.specs.declared.source_database.CallAnswer.{CallAnswer}
 use Rattle.def_rules.specs.Calls.{answered_effect, expansion_at, expansion_effect, made_effect, queued, told_effect, with_invocations}
 use Rattle.def_rules.specs.Items.{position_of}
-use Rattle.def_rules.specs.State.{State, followed_by, only, Site, Task, WrittenCall}
+use Rattle.def_rules.specs.State.{State, FnLike, followed_by, only, Site, Task, WrittenCall}
 use Rattle.def_laws.specs.Performs.{IsDone}
 use Rattle.def_laws.proofs.CallsLaws.{left_done}
 
@@ -16,7 +16,7 @@ module _ (oracle : Oracle) (s t : State) (site : Site) (item : ItemNode) (writte
   recorded = with_invocations s site.scope answer.inner
 
   -- a call with an error waits
-  pub answered_waits : (error : ℕ) → answer.err ≡ Some error → t ≡ queued recorded site item written → IsDone oracle (answered_effect oracle s site item written (Ok answer)) t []
+  pub answered_waits : (error : ℕ) → answer.err ≡ Some error → t ≡ queued recorded site item (FnLike written) → IsDone oracle (answered_effect oracle s site item written (Ok answer)) t []
   answered_waits error is after = left_done oracle (answered_effect oracle s site item written (Ok answer)) t [] (ap (told_effect oracle recorded site item written answer.value) is ∙ ap only (sym after))
 
   -- without one it is final, and may give nothing

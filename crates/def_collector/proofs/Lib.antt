@@ -6,3 +6,4 @@ mod VisitLemmas
 mod WalkLemmas
 mod CallLemmas
 mod MacroPassLemmas
+mod TurnLemmas

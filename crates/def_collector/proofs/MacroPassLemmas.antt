@@ -1,8 +1,8 @@
--- A pass over the macros that wait: turns of single ones, and the expansions behind them.
+-- A pass over the macros that wait: turns in a row, and the expansions behind them.
 use Rattle.std.proofs.Common.{◌≡◌, ◌<◌, ◌≤◌, ◌+◌, ◌^◌, ℕ, Bool, true, false, true≢false, List, [], ◌∷◌, length, map, slice_get, Option, Some, None, is_some, ◌++◌, Result, Ok, Err, get_or, refl, sym, ap, subst, ◌∙◌, append-nil, append_assoc, take, arith, inl, inr, Vec}
 use Rattle.std.specs.List.{flat_map}
 use Rattle.std.specs.Option.{option_map_or}
-use Rattle.std.specs.Prelude.{IfOk, OnOk}
+use Rattle.std.specs.Prelude.{IfOk, OnOk, option_and_then}
 use Rattle.std.proofs.lemmas.Grind.{flat_map-append}
 use Rattle.std.specs.declared.alloc.Global.{Global}
 use Rattle.std.proofs.lemmas.Bool.{cases_lt}
@@ -11,24 +11,25 @@ use Rattle.std.proofs.lemmas.List.Elements.{All-contains, All-map}
 use Rattle.std.proofs.lemmas.Option.{slice_get-get_or, slice_get_within}
 use Rattle.def_calls.specs.declared.directives.Expansion.{Expansion}
 use Rattle.def_calls.specs.declared.directives.MacroDirective.{MacroDirective}
-use Rattle.def_calls.specs.Shown.{IsTurned, expansion_shown, macro_directive_of, macros_in}
+use Rattle.def_calls.specs.Shown.{expansion_shown, macro_directive_of, macros_in}
 use Rattle.def_interner.specs.declared.interner.Interner.{Interner}
-use Rattle.def_oracle.specs.declared.source_database.CallAnswer.{CallAnswer}
-use Rattle.def_oracle.specs.declared.source_database.UnresolvedMacro.{UnresolvedMacro}
 use Rattle.def_map.specs.Oracle.{Oracle}
 use Rattle.def_collector.specs.declared.collector.DefCollector.{DefCollector}
 use Rattle.def_collector.specs.Collector.{state_of}
-use Rattle.def_paths.specs.Sources.{World}
-use Rattle.def_rules.specs.Directives.{NoneGiven, answer_in, given_call, macro_answer, turn_state}
+use Rattle.def_collector.specs.Passes.{HadTurns}
+use Rattle.def_rules.specs.Directives.{AllStay, Stays, answer_in, told}
 use Rattle.def_rules.specs.State as rules
 use Rattle.def_rules.specs.State.{world}
-use Rattle.def_laws.specs.Depths.{OnlyInvokes, waiting_work}
+use Rattle.def_laws.specs.Depths.{waiting_work}
 use Rattle.def_laws.specs.Performs.{IsExpanded}
 use Rattle.def_laws.specs.Runs.{Collects}
-use Rattle.def_laws.proofs.PassLaws.{answer_same, asked_lighter, asked_stays, collects_asked, collects_expanded, expanded_lighter, invokes_refl, invokes_trans, none_given_same, turned, work_same}
-use Rattle.def_laws.proofs.StepsLaws.{collects_refl, collects_trans}
+use Rattle.def_laws.proofs.PassLaws.{all_stay_same, collects_expanded, expanded_lighter, turn_same}
+use Rattle.def_collector.proofs.TurnLemmas.{no_turns, turns_kept, turns_left}
 use Rattle.def_calls.proofs.WaitingLemmas.{entry_macros, macros_all, macros_more, no_macros}
-use Rattle.def_rules.specs.Report.{macro_report, with_macro_reports}
+use Rattle.def_oracle.specs.declared.source_database.CallAnswer.{CallAnswer}
+use Rattle.def_oracle.specs.declared.source_database.UnresolvedMacro.{UnresolvedMacro}
+use Rattle.def_paths.specs.Sources.{World}
+use Rattle.def_rules.specs.Report.{answer_report, kind_report, macro_report, with_macro_reports}
 use Rattle.def_steps.specs.ImportLists.{present}
 use Rattle.def_steps.proofs.ImportListsLaws.{present-all}
 
@@ -49,6 +50,12 @@ one_at o x y first second = let twice : Some x ≡ Some y = sym first ∙ second
 
 pub same_some : {X : Type 0} {x y : X} → Some x ≡ Some y → x ≡ y
 same_some same = cc
+
+-- what an entry of a list is, where it is there and not empty
+pub entry_is : {X : Type 0} (o : Option (Option X)) (x : X) → option_and_then (λ entry. entry) o ≡ Some x → o ≡ Some (Some x)
+entry_is None x is = absurd (cc is)
+entry_is (Some None) x is = absurd (cc is)
+entry_is (Some (Some y)) x is = ap (λ entry. Some entry) is
 
 -- an empty place has nothing that is given a call
 pub nothing_at : (xs : List (Option MacroDirective)) (i : ℕ) (d : MacroDirective) → slice_get xs i ≡ Some None → slice_get xs i ≡ Some (Some d) → ⊥
@@ -86,107 +93,51 @@ few_macros v =
     let small = v.small in
     omega (arith, shown, most, within, cap, small)
 
--- A turn
-
-module _ (oracle : Oracle) (s t : rules.State) (d : rules.MacroDirective) (answer : Result CallAnswer UnresolvedMacro) (asks : answer ≡ macro_answer oracle s d) (turn : IsTurned s d answer t) where
-  same : t ≡ turned oracle s turn.before d turn.behind turn.stands
-  same = turn.is ∙ ap (turn_state s turn.before d turn.behind) asks
-
-  pub ask_run : Collects oracle [] s [] t
-  ask_run = subst (λ u. Collects oracle [] s [] u) (sym same) (collects_asked oracle s turn.before d turn.behind turn.stands)
-
-  pub ask_fewer : (given : Bool) → given ≡ is_some (given_call answer) → given ≡ true → waiting_work t < waiting_work s
-  ask_fewer given known was =
-      let call = something_of (given_call answer) (sym known ∙ was) in
-      subst (λ u. waiting_work u < waiting_work s) (sym same) (asked_lighter oracle s turn.before d turn.behind turn.stands call.0 (ap given_call (sym asks) ∙ call.1))
-
-  pub ask_none : (given : Bool) → given ≡ is_some (given_call answer) → given ≡ false → given_call (macro_answer oracle s d) ≡ None
-  ask_none given known was = ap given_call (sym asks) ∙ nothing_of (given_call answer) (sym known ∙ was)
-
-  pub ask_still : (given : Bool) → given ≡ is_some (given_call answer) → given ≡ false → OnlyInvokes s t
-  ask_still given known was = subst (OnlyInvokes s) (sym same) (asked_stays oracle s turn.before d turn.behind turn.stands (ask_none given known was))
-
--- what waits is asked in the state that the code's world shows
-pub asks_now : (oracle : Oracle) (s : rules.State) (w : World) (d : rules.MacroDirective) (answer : Result CallAnswer UnresolvedMacro) → w ≡ world oracle s → answer ≡ answer_in w s.map d d.kind → answer ≡ macro_answer oracle s d
-asks_now oracle s w d answer same gives = gives ∙ ap (λ x. answer_in x s.map d d.kind) same
-
 -- Turns in a row
 
 -- what is known once the places up to one had their turns
-pub record AskedSoFar (oracle : Oracle) (session : Interner) (start c : DefCollector) (moved : Bool) (i : ℕ) : Type 0 where
-  pub run : Collects oracle [] (state_of start session) [] (state_of c session)
-  pub fewer : moved ≡ true → waiting_work (state_of c session) < waiting_work (state_of start session)
-  pub still : moved ≡ false → OnlyInvokes (state_of start session) (state_of c session)
+pub record AskedSoFar (oracle : Oracle) (first : Interner) (start : DefCollector) (session : Interner) (c : DefCollector) (moved : Bool) (i : ℕ) : Type 0 where
+  pub turns : HadTurns oracle (state_of start first) moved (state_of c session)
   pub same : moved ≡ false → c.unresolved_macros.items ≡ start.unresolved_macros.items
   pub none : moved ≡ false → (index : ℕ) → index < i → (d : MacroDirective) → slice_get start.unresolved_macros.items index ≡ Some (Some d)
-      → given_call (macro_answer oracle (state_of start session) (macro_directive_of d)) ≡ None
+      → (told oracle (state_of start first) (macro_directive_of d)).turn ≡ Stays
 
-pub asked_none : (oracle : Oracle) (session : Interner) (c : DefCollector) → AskedSoFar oracle session c c false 0
-asked_none oracle session c = record {
-  run = collects_refl [] (state_of c session);
-  fewer = λ was. absurd (true≢false (sym was));
-  still = λ was. invokes_refl (state_of c session);
-  same = λ was. refl;
-  none = λ was index before. absurd (omega (arith, before));
-}
+pub asked_none : (oracle : Oracle) (session : Interner) (c : DefCollector) → AskedSoFar oracle session c session c false 0
+asked_none oracle session c = record { turns = no_turns oracle (state_of c session); same = λ was. refl; none = λ was index before. absurd (omega (arith, before)) }
 
-module _ (oracle : Oracle) (session : Interner) (start c : DefCollector) (moved : Bool) where
-  -- empty places are passed over
-  pub asked_passed : (from i : ℕ) → AskedSoFar oracle session start c moved from → ((index : ℕ) → from ≤ index → index < i → slice_get c.unresolved_macros.items index ≡ Some None) → AskedSoFar oracle session start c moved i
-  asked_passed from i so_far empty = record {
-    run = so_far.run;
-    fewer = so_far.fewer;
-    still = so_far.still;
-    same = so_far.same;
-    none = λ was index before d here. elim (cases_lt index from) [
+module _ (oracle : Oracle) (first : Interner) (start : DefCollector) (session : Interner) (c : DefCollector) (moved : Bool) (next_session : Interner) (next : DefCollector) (i : ℕ) (so_far : AskedSoFar oracle first start session c moved i) where
+  -- one that left
+  pub asked_given : HadTurns oracle (state_of c session) true (state_of next next_session) → AskedSoFar oracle first start next_session next true (i + 1)
+  asked_given turns = record {
+    turns = turns_left oracle (state_of start first) (state_of c session) (state_of next next_session) moved so_far.turns turns;
+    same = λ was. absurd (true≢false was);
+    none = λ was. absurd (true≢false was);
+  }
+
+  -- one that stays
+  pub asked_kept : HadTurns oracle (state_of c session) false (state_of next next_session) → next.unresolved_macros.items ≡ c.unresolved_macros.items
+      → ((d : MacroDirective) → slice_get c.unresolved_macros.items i ≡ Some (Some d) → (told oracle (state_of c session) (macro_directive_of d)).turn ≡ Stays)
+      → AskedSoFar oracle first start next_session next moved (i + 1)
+  asked_kept turns same none = record {
+    turns = turns_kept oracle (state_of start first) (state_of c session) (state_of next next_session) moved so_far.turns turns;
+    same = λ was. same ∙ so_far.same was;
+    none = λ was index before d here. elim (cases_lt index i) [
       | inl earlier ↦ so_far.none was index earlier d here
       | inr after ↦
-          let none : Some None ≡ Some (Some d) = sym (empty index after before) ∙ ap (λ xs. slice_get xs index) (so_far.same was) ∙ here in
-          absurd (cc none)
+          let at : index ≡ i = omega (arith, before, after) in
+          sym (turn_same oracle (state_of start first) (state_of c session) (so_far.turns.still was) (macro_directive_of d))
+          ∙ none d (ap (λ xs. slice_get xs i) (so_far.same was) ∙ subst (λ k. slice_get start.unresolved_macros.items k ≡ Some (Some d)) at here)
     ];
   }
 
-  module _ (next : DefCollector) (i : ℕ) (so_far : AskedSoFar oracle session start c moved i) (run : Collects oracle [] (state_of c session) [] (state_of next session)) where
-    no_more : (was : Bool) → moved ≡ was → waiting_work (state_of c session) ≤ waiting_work (state_of start session)
-    no_more true is = let less = so_far.fewer is in omega (arith, less)
-    no_more false is = let same = work_same oracle (state_of start session) (state_of c session) (so_far.still is) in omega (arith, same)
-
-    -- one that was given a call
-    pub asked_given : waiting_work (state_of next session) < waiting_work (state_of c session) → AskedSoFar oracle session start next true (i + 1)
-    asked_given less = record {
-      run = collects_trans so_far.run run;
-      fewer = λ was. let most = no_more moved refl in omega (arith, less, most);
-      still = λ was. absurd (true≢false was);
-      same = λ was. absurd (true≢false was);
-      none = λ was. absurd (true≢false was);
-    }
-
-    -- one that stays
-    pub asked_kept : OnlyInvokes (state_of c session) (state_of next session) → next.unresolved_macros.items ≡ c.unresolved_macros.items
-        → ((d : MacroDirective) → slice_get c.unresolved_macros.items i ≡ Some (Some d) → given_call (macro_answer oracle (state_of c session) (macro_directive_of d)) ≡ None)
-        → AskedSoFar oracle session start next moved (i + 1)
-    asked_kept still same none = record {
-      run = collects_trans so_far.run run;
-      fewer = λ was. let less = so_far.fewer was in let same_work = work_same oracle (state_of c session) (state_of next session) still in omega (arith, less, same_work);
-      still = λ was. invokes_trans (state_of start session) (state_of c session) (state_of next session) (so_far.still was) still;
-      same = λ was. same ∙ so_far.same was;
-      none = λ was index before d here. elim (cases_lt index i) [
-        | inl earlier ↦ so_far.none was index earlier d here
-        | inr after ↦
-            let at : index ≡ i = omega (arith, before, after) in
-            ap given_call (sym (answer_same oracle (state_of start session) (state_of c session) (so_far.still was) (macro_directive_of d)))
-            ∙ none d (ap (λ xs. slice_get xs i) (so_far.same was) ∙ subst (λ k. slice_get start.unresolved_macros.items k ≡ Some (Some d)) at here)
-      ];
-    }
-
--- where all had their turns and none was given a call, none is
-pub none_given_after : (oracle : Oracle) (session : Interner) (start c : DefCollector) (i : ℕ) → AskedSoFar oracle session start c false i → length start.unresolved_macros.items ≤ i → NoneGiven oracle (state_of c session)
-none_given_after oracle session start c i so_far all =
-    none_given_same oracle (state_of start session) (state_of c session) (so_far.still refl)
+-- where all had their turns and none left, each stays
+pub all_stay_after : (oracle : Oracle) (first : Interner) (start : DefCollector) (session : Interner) (c : DefCollector) (i : ℕ) → AskedSoFar oracle first start session c false i → length start.unresolved_macros.items ≤ i → AllStay oracle (state_of c session)
+all_stay_after oracle first start session c i so_far all =
+    all_stay_same oracle (state_of start first) (state_of c session) (so_far.turns.still refl)
     (record {
-      none = λ d there. All-contains (λ x. given_call (macro_answer oracle (state_of start session) x) ≡ None) (macros_in start.unresolved_macros.items) d
-          (All-map (λ x. given_call (macro_answer oracle (state_of start session) x) ≡ None) macro_directive_of (present start.unresolved_macros.items)
-          (present-all (λ x. given_call (macro_answer oracle (state_of start session) (macro_directive_of x)) ≡ None) start.unresolved_macros.items
+      stay = λ d there. All-contains (λ x. (told oracle (state_of start first) x).turn ≡ Stays) (macros_in start.unresolved_macros.items) d
+          (All-map (λ x. (told oracle (state_of start first) x).turn ≡ Stays) macro_directive_of (present start.unresolved_macros.items)
+          (present-all (λ x. (told oracle (state_of start first) (macro_directive_of x)).turn ≡ Stays) start.unresolved_macros.items
           (λ index x here. so_far.none refl index (let within = slice_get_within start.unresolved_macros.items index (Some x) here in omega (arith, within, all)) x here))) there;
     })
 
@@ -201,6 +152,12 @@ module _ (oracle : Oracle) (s t : rules.State) (e : Expansion) (rest : List Expa
   walked_fewer small few = expanded_lighter oracle s t (expansion_shown e) (map expansion_shown rest) walked.inner first walked.opened walked.leads (omega (arith, small)) few
 
 -- Reports
+
+-- a call that is left over is reported by the answer that the code's world shows
+pub call_report : (oracle : Oracle) (s : rules.State) (w : World) (d : rules.MacroDirective) (written : rules.WrittenCall) (answer : Result CallAnswer UnresolvedMacro) → d.kind ≡ rules.FnLike written → w ≡ world oracle s
+    → answer ≡ answer_in w s.map d written → answer_report d answer ≡ macro_report oracle s d
+call_report oracle s w d written answer kind same gives =
+    ap (answer_report d) (gives ∙ ap (λ x. answer_in x s.map d written) same) ∙ sym (ap (kind_report oracle s d) kind)
 
 -- what was reported of the entries up to one
 pub record ReportedSoFar (oracle : Oracle) (session : Interner) (start c : DefCollector) (i : ℕ) : Type 0 where

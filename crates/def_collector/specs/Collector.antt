@@ -3,6 +3,7 @@ use Rattle.std.specs.Prelude.{◌++◌, map, option_map}
 use Rattle.def_interner.specs.declared.interner.Interner.{Interner}
 use Rattle.def_ids.specs.Equality.{glob_eq}
 use Rattle.def_interner.specs.Session.{session_of}
+use Rattle.def_calls.specs.ItemAttrs.{active_of, skipped_of}
 use Rattle.def_calls.specs.Shown.{expansion_shown, macros_in}
 use Rattle.def_crates.specs.Missing.{missing_in}
 use Rattle.def_items.specs.Parts.{directories_of}
@@ -29,6 +30,8 @@ state_of c session =
       missing_crates = missing_in c.missing_crates;
       directories = directories_of c.mod_dirs;
       imports = directives_in c.unresolved_imports.items ++ directives_in c.indeterminate_imports.items;
+      skipped = skipped_of c.item_attrs;
+      active = active_of c.item_attrs;
       macros = macros_in c.unresolved_macros.items;
       expansions = map expansion_shown c.expansions.items;
       diagnostics = c.diagnostics.items;

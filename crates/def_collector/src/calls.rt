@@ -11,8 +11,8 @@ ghost use Rattle.def_rules.specs.State.{followed_by};
 
 use crate::collector::DefCollector;
 use def_calls::{
-    Expansion, WrittenCall, call_query, deeper, early_answer, expansion_dir, is_too_deep,
-    queue_call, record_calls,
+    Expansion, MacroDirectiveKind, WrittenCall, call_query, deeper, early_answer, expansion_dir,
+    is_too_deep, queue_macro, record_calls,
 };
 use def_interner::Interner;
 use def_items::{ItemList, Site, top_items};
@@ -43,7 +43,8 @@ pub(crate) fn collect_macro_call<'a, D: SourceDatabase>(
     match answer {
         Ok(answer) => collect_answer(collector, db, site, node, written, &answer),
         Err(_) => {
-            queue_call(&mut collector.unresolved_macros, site, node, written)?;
+            let kind = MacroDirectiveKind::FnLike(written);
+            queue_macro(&mut collector.unresolved_macros, site, node, kind)?;
             Ok(None)
         }
     }
@@ -67,7 +68,8 @@ fn collect_answer<'a, D: SourceDatabase>(
     let module = site.module_id.index;
     record_calls(&mut collector.def_map, module, answer.inner.as_slice())?;
     if let Some(_) = answer.err {
-        queue_call(&mut collector.unresolved_macros, site, node, written)?;
+        let kind = MacroDirectiveKind::FnLike(written);
+        queue_macro(&mut collector.unresolved_macros, site, node, kind)?;
         return Ok(None);
     }
     let Some(call) = answer.value else {

@@ -10,7 +10,7 @@ mod visibility;
 
 pub use crates::WrittenCrate;
 pub use declarations::WrittenStruct;
-use def_calls::{Expansion, MacroDirective};
+use def_calls::{Expansion, ItemAttrs, MacroDirective};
 use def_crates::MissingCrates;
 use def_ids::{Def, GlobId};
 use def_items::ModDirs;
@@ -46,7 +46,8 @@ pub struct DefCollector<'a> {
     /// Imports that were recorded, and that may give more namespaces, in the order in which they
     /// came here. One that left leaves `None`.
     pub indeterminate_imports: Vec<Option<ImportDirective<'a>>>,
-    /// What waits for its macro. What was given a call leaves `None`.
+    pub item_attrs: ItemAttrs,
+    /// What waits for its macro. What left leaves `None`.
     pub unresolved_macros: Vec<Option<MacroDirective<'a>>>,
     /// The expansions of what was given a call, until they are walked.
     pub expansions: VecDeque<Expansion>,
@@ -68,6 +69,7 @@ impl Drop for DefCollector<'_> {
             mod_dirs: _,
             unresolved_imports: _,
             indeterminate_imports: _,
+            item_attrs: _,
             unresolved_macros: _,
             expansions: _,
             diagnostics: _,

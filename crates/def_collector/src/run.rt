@@ -28,7 +28,7 @@ use crate::imports::resolve_imports;
 use crate::macro_pass::resolve_macros;
 use crate::seeding::seed;
 use crate::stack::walk;
-use def_calls::{macro_answer, report_left_macro};
+use def_calls::{ItemAttrs, MacroDirectiveKind, call_answer, report_left_call};
 use def_crates::{MissingCrates, deps_by_name, is_proc_macro_crate, top_attrs};
 use def_ids::{ItemContainerId, MapId, ModuleId};
 use def_interner::Interner;
@@ -103,6 +103,7 @@ fn begin<'a, D: SourceDatabase>(
         mod_dirs: ModDirs::new(alloc),
         unresolved_imports: Vec::new(alloc),
         indeterminate_imports: Vec::new(alloc),
+        item_attrs: ItemAttrs::new(alloc),
         unresolved_macros: Vec::new(alloc),
         expansions: VecDeque::new(alloc),
         diagnostics: Vec::new(alloc),
@@ -243,9 +244,20 @@ fn report_macro<'a, D: SourceDatabase>(
     let Some(directive) = collector.unresolved_macros[i] else {
         return Ok(());
     };
-    let world = collector.world(db, session);
-    let answer = macro_answer(collector.alloc, &world, &collector.def_map, &directive)?;
-    report_left_macro(&mut collector.diagnostics, &directive, answer)
+    match directive.kind {
+        MacroDirectiveKind::FnLike(written) => {
+            let world = collector.world(db, session);
+            let answer = call_answer(
+                collector.alloc,
+                &world,
+                &collector.def_map,
+                &directive,
+                written,
+            )?;
+            report_left_call(&mut collector.diagnostics, &directive, answer)
+        }
+        MacroDirectiveKind::Attr(_) => Ok(()),
+    }
 }
 
 /// How deep in expansions of macros the first items are walked: those of a block as deep as its

@@ -1,11 +1,13 @@
 //! The walk of item trees, over an explicit stack of lists.
-ghost use Rattle.std.specs.Prelude.{◌≡◌, ◌<◌, ◌+◌, ◌++◌, ◌∷◌, [], true, false, List, is_some, option_and_then, IfOk, OnOk};
+ghost use Rattle.std.specs.Prelude.{◌≡◌, ◌<◌, ◌+◌, ◌++◌, ◌∷◌, [], true, false, List, None, is_some, option_and_then, IfOk, OnOk};
 ghost use Rattle.std.specs.Option.{option_copied};
 ghost use Rattle.item_tree.specs.Trees.{item_at};
 ghost use Rattle.def_interner.specs.declared.interner.Interner.{Interner};
 ghost use Rattle.def_interner.specs.Session.{AddsLocations, session_of};
 ghost use Rattle.def_items.specs.Lists.{left_of};
-ghost use Rattle.def_items.specs.Parts.{list_site};
+ghost use Rattle.def_items.specs.Parts.{list_site, site_of};
+ghost use Rattle.def_collector.specs.Passes.{Awaits};
+ghost use Rattle.def_rules.specs.Attributes.{awaited_attr};
 ghost use Rattle.def_collector.specs.Collector.{state_of};
 ghost use Rattle.def_collector.specs.Walk.{AreKnown, frame_tasks, inner_of, is_frame_known, is_known, list_tasks};
 ghost use Rattle.def_laws.specs.Work.{task_work, work};
@@ -14,6 +16,7 @@ ghost use Rattle.def_laws.specs.Runs.{Leads};
 
 use crate::collector::DefCollector;
 use crate::items::collect_item;
+use def_calls::{MacroDirectiveKind, WrittenAttr, awaited_attr, queue_macro};
 use def_interner::Interner;
 use def_items::{
     Frame, ItemList, Site, bring_macros, push_list, push_opened, report_disabled_item,
@@ -82,9 +85,29 @@ fn walk_list<'a, D: SourceDatabase>(
     Ok(None)
 }
 
-/// Visits an item: one that cfg disables is reported, any other is handled. Answers the list
-/// of items that are to be walked next, if it opens one. On `Err` nothing but safety is
+/// Visits an item again that waited, and walks its own items. On `Err` nothing but safety is
 /// promised.
+pub fn walk_item<'a, D: SourceDatabase>(
+    collector: &mut DefCollector<'a>,
+    db: &'a D,
+    session: &mut Interner,
+    list: &ItemList<'a>,
+    id: ModItemId,
+) -> Result<(), AllocError>
+    requires { is_known (D.oracle db.now) list.now }
+    ensures run { OnOk result (Leads (D.oracle db.now) (Visit (list_site list.now) id ∷ [])
+        (state_of collector.old session.old) [] (state_of collector.new session.new)) }
+    ensures session { AddsLocations (session_of session.old) (session_of session.new) }
+{
+    match visit(collector, db, session, list, id)? {
+        Some(opened) => walk(collector, db, session, opened),
+        None => Ok(()),
+    }
+}
+
+/// Visits an item: one that cfg disables is reported, one with an attribute that may be a macro
+/// waits for it, any other is handled. Answers the list of items that are to be walked next, if it
+/// opens one. On `Err` nothing but safety is promised.
 fn visit<'a, D: SourceDatabase>(
     collector: &mut DefCollector<'a>,
     db: &'a D,
@@ -115,11 +138,43 @@ fn visit<'a, D: SourceDatabase>(
     if let Some(_) = disabled {
         return Ok(None);
     }
+    if queue_awaited(collector, db, site, id, node)? {
+        return Ok(None);
+    }
     collect_item(collector, db, session, site, node)
 }
 
+/// Lets an item wait for the macro of an attribute, where it has one that may be a macro. On `Err`
+/// nothing but safety is promised.
+fn queue_awaited<'a, D: SourceDatabase>(
+    collector: &mut DefCollector<'a>,
+    db: &D,
+    site: Site<'_>,
+    id: ModItemId,
+    node: &'a ItemNode,
+) -> Result<bool, AllocError>
+    ensures waits { IfOk result (λ waits. waits ≡ true → (session : Interner) →
+        Awaits (D.oracle db.now) (state_of collector.old session) (site_of site.entry) id node.now (state_of collector.new session)) }
+    ensures same { IfOk result (λ waits. waits ≡ false → (collector.new ≡ collector.old)
+        × ((session : Interner) → awaited_attr (D.oracle db.now) (state_of collector.old session) (site_of site.entry) id node.now ≡ None)) }
+{
+    let def_map = &collector.def_map;
+    let awaited = awaited_attr(db, def_map, &collector.item_attrs, site, id, node);
+    let Some((attr_id, attr)) = awaited else {
+        return Ok(false);
+    };
+    let kind = MacroDirectiveKind::Attr(WrittenAttr {
+        tree_id: site.tree_id,
+        item: id,
+        attr_id,
+        attr,
+    });
+    queue_macro(&mut collector.unresolved_macros, site, node, kind)?;
+    Ok(true)
+}
+
 /// The item of this number, if the tree is there and has it.
-fn item_in<'a>(tree: Option<&'a ItemTree>, id: ModItemId) -> Option<&'a ItemNode>
+pub(crate) fn item_in<'a>(tree: Option<&'a ItemTree>, id: ModItemId) -> Option<&'a ItemNode>
     ensures { option_copied result ≡ option_and_then (λ t. item_at t.now.items id) tree.entry }
 {
     match tree {

@@ -1,6 +1,9 @@
 -- What a rule does to a run, as laws read it.
-use Rattle.std.proofs.Common.{◌≡◌, ◌⊎◌, ◌<◌, ◌≤◌, ◌∙◌, append-nil, arith, nat_eq, nat_lt, ℕ, Bool, true, false, cond, ◌||◌, List, [], ◌∷◌, ◌++◌, length, Option, Some, None, is_some, Result, Ok, Err, Contains, refl, sym, ap, subst, inl, inr}
+use Rattle.std.proofs.Common.{◌≡◌, ◌⊎◌, ◌<◌, ◌≤◌, ◌+◌, ◌∙◌, append-nil, arith, nat_eq, nat_lt, ℕ, Bool, true, false, cond, ◌||◌, List, [], ◌∷◌, ◌++◌, length, Option, Some, None, is_some, Result, Ok, Err, Contains, refl, sym, ap, subst, inl, inr}
+use Rattle.std.proofs.lemmas.Bool.{ltb-true}
 use Rattle.std.proofs.lemmas.List.Elements.{Contains-append_cases}
+use Rattle.item_tree.specs.declared.attrs.Attr.{Attr}
+use Rattle.item_tree.specs.declared.ids.AttrId.{AttrId}
 use Rattle.item_tree.specs.declared.ids.CfgExpr.{CfgExpr}
 use Rattle.item_tree.specs.declared.ids.FileAstId.{FileAstId}
 use Rattle.item_tree.specs.declared.ids.InFile.{InFile}
@@ -12,7 +15,7 @@ use Rattle.item_tree.specs.declared.items.ModContents.TheVariants.{Inline, Outli
 use Rattle.item_tree.specs.declared.items.RawVisibility.{RawVisibility}
 use Rattle.item_tree.specs.declared.items.UseImport.{UseImport}
 use Rattle.item_tree.specs.declared.name.Name.{Name}
-use Rattle.item_tree.specs.Attrs.{attrs_of, disabled_by, has_attr, path_attr}
+use Rattle.item_tree.specs.Attrs.{attrs_of, disabled_by, has_attr, iter_after, path_attr}
 use Rattle.item_tree.specs.KnownNames.{macro_export_name}
 use Rattle.def_ids.specs.declared.ids.Def.{Def}
 use Rattle.def_ids.specs.declared.ids.Def.TheVariants as def
@@ -43,9 +46,10 @@ use Rattle.def_parts.specs.ProcMacros.{NameAndHelpers}
 use Rattle.def_globs.proofs.ListLaws.{none_in, in_cases, only_in}
 use Rattle.def_rules.specs.declared.diagnostics.DefDiagnostic.{DefDiagnostic}
 use Rattle.def_rules.specs.declared.diagnostics.DefDiagnosticKind.TheVariants.{UnconfiguredCode, UnimplementedBuiltinMacro, UnresolvedExternCrate, UnresolvedModule}
-use Rattle.def_laws.specs.Depths.{LieFrom}
+use Rattle.def_laws.specs.Depths.{AreVisitsBelow, depth_rank, kind_rank, macro_rank, visit_rank}
 use Rattle.def_laws.specs.Finished.{NoneFailed}
 use Rattle.def_laws.specs.Own.{AreOwnTasks, IsOwn, IsRecorded}
+use Rattle.def_rules.specs.Attributes.{awaited_attr, awaiting, first_unknown}
 use Rattle.def_rules.specs.Calls.{answered_effect, deeper, deepest, expansion_at, expansion_effect, expansion_site, expansion_tree, queued, told_effect, waiting, with_invocations}
 use Rattle.def_rules.specs.Crates.{tree_attrs}
 use Rattle.def_rules.specs.Globs.{Targets}
@@ -53,10 +57,10 @@ use Rattle.def_rules.specs.Items.{ctor_task, declare, declared_effect, diagnosti
 use Rattle.def_rules.specs.Macros.{export_effect, showing_helpers, item_expander, item_state, listed_helpers, macros_brought, rules_expander, taking_macros, textual_state, unimplemented_reported}
 use Rattle.def_rules.specs.Modules.{add_module, bring_if, file_tree, inline_contents, inner_site, is_macro_use, module_item, name_text, next_module, outline_found, outline_item}
 use Rattle.def_rules.specs.ExternCrates.{crate_effect, crate_entry, crate_name, named_crate, naming_crate}
-use Rattle.def_rules.specs.Rules.{Visits, VisitsAt, VisitsNode, Rule, Follows, rule_of, declares, declares_struct, opens_module, opens_block, queues, binds_crate, notes_impl, notes_const, defines_rules, defines_macro, calls_macro}
+use Rattle.def_rules.specs.Rules.{HandlesInSession, Visits, VisitsAt, VisitsEnabled, VisitsNode, Rule, Follows, rule_of, declares, declares_struct, opens_module, opens_block, queues, binds_crate, notes_impl, notes_const, defines_rules, defines_macro, calls_macro}
 use Rattle.def_rules.specs.Imports.{no_namespaces}
-use Rattle.def_rules.specs.State.{State, Effect, Expansion, entered, followed_by, only, ImportDirective, MacroDirective, Site, Task, Put, reported, root, with_map, with_missing, WrittenCall}
-use Rattle.def_laws.proofs.DepthsLaws.{above_deepest, deeper_is, lie_both, walk_lies}
+use Rattle.def_rules.specs.State.{State, Effect, Expansion, entered, followed_by, only, FnLike, ImportDirective, MacroDirective, MacroDirectiveKind, Site, Task, Put, reported, root, with_map, with_missing, WrittenCall}
+use Rattle.def_laws.proofs.DepthsLaws.{attr_ranks, call_ranks, deeper_ranks, lie_both, walk_lies}
 use Rattle.def_laws.proofs.SoundLaws.{IsLarger}
 use Rattle.def_laws.proofs.AddedLaws.{AddsNew, added_new, none_added}
 use Rattle.def_laws.proofs.CleanLaws.{IsClean, none_failed-add_module, none_failed-invoking, none_failed-showing_helpers, none_failed-taking, none_failed-with_module}
@@ -66,11 +70,11 @@ use Rattle.def_laws.proofs.PlainLaws.{ArePlain, own_walk, plain_both, plain_walk
 
 -- Footprints
 
--- what is queued in a module, where something of this depth is done: calls of that module, one level deeper; no expansion comes or goes
+-- what is queued in a module, where something of this depth is done, is of that module and ranks lower; no expansion comes or goes
 pub record QueuesAt (scope : ModuleId) (depth : ℕ) (s t : State) : Type 0 where
   pub more : List MacroDirective
   pub macros : t.macros ≡ s.macros ++ more
-  pub at : (d : MacroDirective) → Contains more d → (d.scope ≡ scope) × (d.depth ≡ deeper depth)
+  pub at : (d : MacroDirective) → Contains more d → (d.scope ≡ scope) × (macro_rank d < visit_rank depth)
   pub expansions : t.expansions ≡ s.expansions
 
 -- what may be done in a module, by something of this depth, and leaves the table as it is: what globs were recorded with and what happened stay too, the map stays or grows,
@@ -86,7 +90,7 @@ pub record Footprint (s : State) (scope : ModuleId) (depth : ℕ) (effect : Effe
   pub queued : QueuesAt scope depth s effect.state
   pub tasks : (targets : Targets) → length s.map.parents ≡ length s.map.modules → IsOwn effect.state.map scope → AreOwnTasks effect.state.map targets effect.tasks
   pub plain : ArePlain effect.tasks
-  pub deep : (least : ℕ) → least ≤ depth → depth < deepest → LieFrom least effect.tasks
+  pub deep : (rank : ℕ) → visit_rank depth ≤ rank → AreVisitsBelow rank effect.tasks
 
 -- nothing is queued
 none_queued : (scope : ModuleId) (depth : ℕ) (s t : State) → t.macros ≡ s.macros → t.expansions ≡ s.expansions → QueuesAt scope depth s t
@@ -109,7 +113,7 @@ still_footprint s scope depth =
       queued = none_queued scope depth s s refl refl;
       tasks = λ targets even own. tt;
       plain = tt;
-      deep = λ least low high. tt;
+      deep = λ rank low. tt;
     }
 
 -- what changes nothing that a footprint speaks of
@@ -126,7 +130,7 @@ noted_still s t scope depth content targets map imports macros expansions =
       queued = none_queued scope depth s t macros expansions;
       tasks = λ targets even own. tt;
       plain = tt;
-      deep = λ least low high. tt;
+      deep = λ rank low. tt;
     }
 
 -- a directory is stored
@@ -140,7 +144,7 @@ put_own m scope targets origin explicit own = (own, λ g by. absurd (explicit_by
 module _ (s : State) (scope : ModuleId) (depth : ℕ) where
   -- tasks that lie as deep as this
   abbrev Lie : List Task → Type 0
-  Lie tasks = (least : ℕ) → least ≤ depth → depth < deepest → LieFrom least tasks
+  Lie tasks = (rank : ℕ) → visit_rank depth ≤ rank → AreVisitsBelow rank tasks
 
   -- the map may differ, calls may be queued, and diagnostics may join; these tasks follow
   queue_footprint : (t : State) (tasks : List Task) → t.content ≡ s.content → t.targets ≡ s.targets → t.imports ≡ s.imports → QueuesAt scope depth s t → IsLarger s.map t.map → (NoneFailed s.map → NoneFailed t.map)
@@ -189,12 +193,12 @@ module _ (s : State) (scope : ModuleId) (depth : ℕ) where
         queued = none_queued scope depth s (add_module r scope name vis o) macros expansions;
         tasks = λ targets even at. (put_own (add_module r scope name vis o).map scope targets None refl at, own targets at (own_next r scope name vis o (subst (λ (m : MapState). length m.parents ≡ length m.modules) (sym map) even)));
         plain = (refl, plain);
-        deep = λ least low high. (tt, deep least low high);
+        deep = λ rank low. (tt, deep rank low);
       }
 
 -- the textual macros of a module are brought into another
 pub bring_footprint : (s : State) (from into : ModuleId) → Footprint s into 0 (only (noted_in s into (brought (textual_at s.map from.index))))
-bring_footprint s from into = noted_footprint s into 0 (brought (textual_at s.map from.index)) (λ d h. h) [] (λ targets own. tt) tt (λ least low high. tt)
+bring_footprint s from into = noted_footprint s into 0 (brought (textual_at s.map from.index)) (λ d h. h) [] (λ targets own. tt) tt (λ rank low. tt)
 
 -- what is done behind the contents of a module
 bring_own : (m : MapState) (targets : Targets) (brings : Bool) (from into : ModuleId) → IsOwn m into → AreOwnTasks m targets (bring_if brings from into)
@@ -205,9 +209,9 @@ bring_plain : (brings : Bool) (from into : ModuleId) → ArePlain (bring_if brin
 bring_plain true from into = (tt, tt)
 bring_plain false from into = tt
 
-bring_lies : (least : ℕ) (brings : Bool) (from into : ModuleId) → LieFrom least (bring_if brings from into)
-bring_lies least true from into = (tt, tt)
-bring_lies least false from into = tt
+bring_lies : (rank : ℕ) (brings : Bool) (from into : ModuleId) → AreVisitsBelow rank (bring_if brings from into)
+bring_lies rank true from into = (tt, tt)
+bring_lies rank false from into = tt
 
 -- Rules
 
@@ -223,26 +227,29 @@ found_footprint oracle s site item name vis found None =
     added_footprint s site.scope site.depth s name vis o (first ++ last) refl refl refl refl refl refl
     (λ targets at own. own_both m targets first last (own_walk oracle m targets inner (top_items oracle (file_tree found)) own) (bring_own m targets brings (next_module s) site.scope at))
     (plain_both first last (plain_walk oracle inner (top_items oracle (file_tree found))) (bring_plain brings (next_module s) site.scope))
-    (λ least low high. lie_both least first last (walk_lies oracle least inner (top_items oracle (file_tree found)) low high) (bring_lies least brings (next_module s) site.scope))
+    (λ rank low. lie_both rank first last (walk_lies oracle rank inner (top_items oracle (file_tree found)) low) (bring_lies rank brings (next_module s) site.scope))
 
 outline_footprint : (oracle : Oracle) (s : State) (site : Site) (item : ItemNode) (name : Name) (vis : Visibility) (found : Result FoundFile (List (List ℕ))) → Footprint s site.scope site.depth (outline_item oracle s site item name vis found)
 outline_footprint oracle s site item name vis (Ok found) = found_footprint oracle s site item name vis found (tree_cfg oracle (file_tree found))
 outline_footprint oracle s site item name vis (Err files) =
-    added_footprint s site.scope site.depth (reported s (diagnostic site item (UnresolvedModule files))) name vis _ [] refl refl refl refl refl refl (λ targets at own. tt) tt (λ least low high. tt)
+    added_footprint s site.scope site.depth (reported s (diagnostic site item (UnresolvedModule files))) name vis _ [] refl refl refl refl refl refl (λ targets at own. tt) tt (λ rank low. tt)
 
--- a call is queued where it stands, also in a state with another map
-one_queued : (s : State) (site : Site) (item : ItemNode) (written : WrittenCall) (m : MapState) → QueuesAt site.scope site.depth s (queued (with_map s m) site item written)
-one_queued s site item written m = record {
-  more = waiting site item written ∷ [];
+-- what waits where it stands, also in a state with another map
+one_queued : (s : State) (site : Site) (item : ItemNode) (kind : MacroDirectiveKind) (m : MapState) → depth_rank (deeper site.depth) + kind_rank kind < visit_rank site.depth → QueuesAt site.scope site.depth s (queued (with_map s m) site item kind)
+one_queued s site item kind m low = record {
+  more = waiting site item kind ∷ [];
   macros = refl;
-  at = λ d h. let is = only_in (waiting site item written) d h in (ap (λ (x : MacroDirective). x.scope) is, ap (λ (x : MacroDirective). x.depth) is);
+  at = λ d h. let is = only_in (waiting site item kind) d h in (ap (λ (x : MacroDirective). x.scope) is, let ranks = ap macro_rank is in omega (arith, ranks, low));
   expansions = refl;
 }
+
+call_low : (site : Site) (written : WrittenCall) → depth_rank (deeper site.depth) + kind_rank (FnLike written) < visit_rank site.depth
+call_low site written = let low = call_ranks site.depth in omega (arith, low)
 
 -- an expansion is walked, or dropped
 pub expanded_footprint : (oracle : Oracle) (s : State) (scope : ModuleId) (depth : ℕ) (t : State) (e : Expansion) → e.scope ≡ scope → t.content ≡ s.content → t.targets ≡ s.targets → t.imports ≡ s.imports → t.macros ≡ s.macros → t.expansions ≡ s.expansions
     → IsLarger s.map t.map → (NoneFailed s.map → NoneFailed t.map)
-    → ((least : ℕ) → least ≤ depth → depth < deepest → nat_eq e.depth deepest ≡ false → (least ≤ e.depth) × (e.depth < deepest))
+    → visit_rank e.depth ≤ visit_rank depth
     → Footprint s scope depth (expansion_effect oracle t e)
 expanded_footprint oracle s scope depth t e here content targets imports macros expansions larger clean lies = by (nat_lt (limit_of t.map.krate) e.depth) (nat_eq e.depth deepest) refl
   where
@@ -253,12 +260,12 @@ expanded_footprint oracle s scope depth t e here content targets imports macros 
     ids = top_items oracle (expansion_tree e.call)
 
     by : (over last : Bool) → nat_eq e.depth deepest ≡ last → Footprint s scope depth (cond (over || last) (only t) (followed_by t (walk oracle inner ids)))
-    by true last is = map_footprint s scope depth t [] content targets imports macros expansions larger clean (λ targets own. tt) tt (λ least low high. tt)
-    by false true is = map_footprint s scope depth t [] content targets imports macros expansions larger clean (λ targets own. tt) tt (λ least low high. tt)
+    by true last is = map_footprint s scope depth t [] content targets imports macros expansions larger clean (λ targets own. tt) tt (λ rank low. tt)
+    by false true is = map_footprint s scope depth t [] content targets imports macros expansions larger clean (λ targets own. tt) tt (λ rank low. tt)
     by false false is =
         map_footprint s scope depth t (walk oracle inner ids) content targets imports macros expansions larger clean
         (λ targets own. own_walk oracle t.map targets inner ids (subst (λ at. IsOwn t.map at) (sym here) own)) (plain_walk oracle inner ids)
-        (λ least low high. let deep = lies least low high is in walk_lies oracle least inner ids deep.0 deep.1)
+        (λ rank low. walk_lies oracle rank inner ids (omega (arith, low, lies)))
 
 module _ (oracle : Oracle) (s : State) (site : Site) where
   inline_own : (r : MapState) (brings : Bool) (children : List ModItemId) (directory : Option Directory) (targets : Targets) → IsOwn r site.scope → IsOwn r (next_module s)
@@ -272,10 +279,10 @@ module _ (oracle : Oracle) (s : State) (site : Site) where
   inline_plain brings children (Some directory) =
       plain_both (walk oracle (inner_site s site site.tree directory) children) _ (plain_walk oracle (inner_site s site site.tree directory) children) (bring_plain brings (next_module s) site.scope)
 
-  inline_lies : (brings : Bool) (children : List ModItemId) (directory : Option Directory) (least : ℕ) → least ≤ site.depth → site.depth < deepest → LieFrom least (inline_contents oracle s site brings children directory)
-  inline_lies brings children None least low high = tt
-  inline_lies brings children (Some directory) least low high =
-      lie_both least (walk oracle (inner_site s site site.tree directory) children) _ (walk_lies oracle least (inner_site s site site.tree directory) children low high) (bring_lies least brings (next_module s) site.scope)
+  inline_lies : (brings : Bool) (children : List ModItemId) (directory : Option Directory) (rank : ℕ) → visit_rank site.depth ≤ rank → AreVisitsBelow rank (inline_contents oracle s site brings children directory)
+  inline_lies brings children None rank low = tt
+  inline_lies brings children (Some directory) rank low =
+      lie_both rank (walk oracle (inner_site s site site.tree directory) children) _ (walk_lies oracle rank (inner_site s site site.tree directory) children low) (bring_lies rank brings (next_module s) site.scope)
 
   module _ (item : ItemNode) where
     contents_footprint : (name : Name) (vis : Visibility) (contents : ModContents) → Footprint s site.scope site.depth (module_item oracle s site item name vis contents)
@@ -295,9 +302,9 @@ module _ (oracle : Oracle) (s : State) (site : Site) where
     ctor_plain name d vis None = tt
     ctor_plain name d vis (Some ctor) = (refl, tt)
 
-    ctor_lies : (least : ℕ) (name : Name) (d : Def) (vis : Visibility) (ctor : Option Visibility) → LieFrom least (ctor_task s site.scope name d vis ctor)
-    ctor_lies least name d vis None = tt
-    ctor_lies least name d vis (Some ctor) = (tt, tt)
+    ctor_lies : (rank : ℕ) (name : Name) (d : Def) (vis : Visibility) (ctor : Option Visibility) → AreVisitsBelow rank (ctor_task s site.scope name d vis ctor)
+    ctor_lies rank name d vis None = tt
+    ctor_lies rank name d vis (Some ctor) = (tt, tt)
 
     new_at : (id : UseId) (raw : RawVisibility) (imports : List UseImport) (d : ImportDirective) → Contains (new_imports site item id raw imports) d → d.import.scope ≡ site.scope
     new_at id raw [] d h = absurd (none_in d h)
@@ -321,8 +328,8 @@ module _ (oracle : Oracle) (s : State) (site : Site) where
         clean none = none_failed-with_module s.map site.scope.index (with_extern_crate id) (λ d h. h) none
 
         unknown : (n : Option Name) → Footprint s site.scope site.depth (crate_effect t site item id n vis taken None)
-        unknown None = map_footprint s site.scope site.depth (reported (with_missing None t) (diagnostic site item UnresolvedExternCrate)) [] refl refl refl refl refl larger clean (λ targets own. tt) tt (λ least low high. tt)
-        unknown (Some n) = map_footprint s site.scope site.depth (reported (with_missing (Some n) t) (diagnostic site item UnresolvedExternCrate)) [] refl refl refl refl refl larger clean (λ targets own. tt) tt (λ least low high. tt)
+        unknown None = map_footprint s site.scope site.depth (reported (with_missing None t) (diagnostic site item UnresolvedExternCrate)) [] refl refl refl refl refl larger clean (λ targets own. tt) tt (λ rank low. tt)
+        unknown (Some n) = map_footprint s site.scope site.depth (reported (with_missing (Some n) t) (diagnostic site item UnresolvedExternCrate)) [] refl refl refl refl refl larger clean (λ targets own. tt) tt (λ rank low. tt)
     crate_footprint id name vis taken (Some root) = named (is_crate_root site.scope)
       where
         t : State
@@ -332,14 +339,14 @@ module _ (oracle : Oracle) (s : State) (site : Site) where
         put = Put site.scope (crate_entry id name root vis) ∷ []
 
         f : Footprint s site.scope site.depth (followed_by t put)
-        f = noted_footprint s site.scope site.depth (with_extern_crate id) (λ d h. h) put (λ targets own. (put_own t.map site.scope targets (Some (ByCrate id)) refl own, tt)) (refl, tt) (λ least low high. (tt, tt))
+        f = noted_footprint s site.scope site.depth (with_extern_crate id) (λ d h. h) put (λ targets own. (put_own t.map site.scope targets (Some (ByCrate id)) refl own, tt)) (refl, tt) (λ rank low. (tt, tt))
 
         named : (is : Bool) → Footprint s site.scope site.depth (followed_by (taking_macros is taken (naming_crate is name (record { root = root; by = Some id }) t)) put)
         named false = f
         named true =
             let u : State = taking_macros true taken (naming_crate true name (record { root = root; by = Some id }) t) in
             map_footprint s site.scope site.depth u put refl refl refl refl refl (larger_trans s.map t.map u.map f.larger (larger_taking taken t.map)) (λ none. none_failed-taking taken t.map (f.none_failed none))
-            (λ targets own. (put_own u.map site.scope targets (Some (ByCrate id)) refl own, tt)) (refl, tt) (λ least low high. (tt, tt))
+            (λ targets own. (put_own u.map site.scope targets (Some (ByCrate id)) refl own, tt)) (refl, tt) (λ rank low. (tt, tt))
 
     -- a macro that is no builtin after all is reported
     told_is : (expander : MacroExpander) → (told : List DefDiagnostic) × (unimplemented_reported s site item expander ≡ record s { diagnostics = told })
@@ -368,12 +375,12 @@ module _ (oracle : Oracle) (s : State) (site : Site) where
           clean none = none_failed-with_module s.map site.scope.index (with_textual name id) (λ d h. h) none
 
           by : (is : Bool) → Footprint s site.scope site.depth (export_effect t is name id)
-          by false = map_footprint s site.scope site.depth t [] refl refl refl refl refl larger clean (λ targets own. tt) tt (λ least low high. tt)
+          by false = map_footprint s site.scope site.depth t [] refl refl refl refl refl larger clean (λ targets own. tt) tt (λ rank low. tt)
           by true =
               let u : State = declare t (root t.map) (def.Macro id) in
               map_footprint s site.scope site.depth u (put_declared (root t.map) name Macros (def.Macro id) Public ∷ []) refl refl refl refl refl
               (larger_trans s.map t.map u.map larger (larger_with_module t.map 0 (declared_in (def.Macro id)))) (λ none. none_failed-with_module t.map 0 (declared_in (def.Macro id)) (λ d h. h) (clean none))
-              (λ targets own. (put_own u.map (root t.map) targets None refl (own_root u.map site.scope own), tt)) (refl, tt) (λ least low high. (tt, tt))
+              (λ targets own. (put_own u.map (root t.map) targets None refl (own_root u.map site.scope own), tt)) (refl, tt) (λ rank low. (tt, tt))
 
       -- a `macro` item is defined and declared
       item_footprint : (name : Name) (vis : Visibility) (expander : MacroExpander) (told : List DefDiagnostic)
@@ -387,7 +394,7 @@ module _ (oracle : Oracle) (s : State) (site : Site) where
           map_footprint s site.scope site.depth u (put_declared site.scope name Macros (def.Macro id) vis ∷ []) refl refl refl refl refl
           (larger_trans s.map t.map u.map (larger_trans s.map shown t.map (larger_showing in_block id read s.map) (larger_same shown t.map refl refl refl refl)) (larger_with_module t.map site.scope.index (declared_in (def.Macro id))))
           (λ none. none_failed-with_module t.map site.scope.index (declared_in (def.Macro id)) (λ d h. h) (none_failed-showing_helpers in_block id read s.map none))
-          (λ targets own. (put_own u.map site.scope targets None refl own, tt)) (refl, tt) (λ least low high. (tt, tt))
+          (λ targets own. (put_own u.map site.scope targets None refl own, tt)) (refl, tt) (λ rank low. (tt, tt))
 
     -- a call is answered
     told_footprint : (written : WrittenCall) (inner : List (InFile FileAstId × MacroCallId)) (value : Option MacroCallId) (error : Option ℕ) → Footprint s site.scope site.depth (told_effect oracle (with_invocations s site.scope inner) site item written value error)
@@ -403,30 +410,25 @@ module _ (oracle : Oracle) (s : State) (site : Site) where
         clean none = none_failed-invoking site.scope.index inner s.map none
 
         by : (value : Option MacroCallId) (error : Option ℕ) → Footprint s site.scope site.depth (told_effect oracle t site item written value error)
-        by value (Some error) = queue_footprint s site.scope site.depth (queued t site item written) [] refl refl refl (one_queued s site item written t.map) larger clean (λ targets own. tt) tt (λ least low high. tt)
-        by None None = map_footprint s site.scope site.depth t [] refl refl refl refl refl larger clean (λ targets own. tt) tt (λ least low high. tt)
+        by value (Some error) = queue_footprint s site.scope site.depth (queued t site item (FnLike written)) [] refl refl refl (one_queued s site item (FnLike written) t.map (call_low site written)) larger clean (λ targets own. tt) tt (λ rank low. tt)
+        by None None = map_footprint s site.scope site.depth t [] refl refl refl refl refl larger clean (λ targets own. tt) tt (λ rank low. tt)
         by (Some call) None =
             let made : List (InFile FileAstId × MacroCallId) = (position_of site item, call) ∷ [] in
             let u : State = with_invocations t site.scope made in
             expanded_footprint oracle s site.scope site.depth u (expansion_at site call) refl refl refl refl refl refl
             (larger_trans s.map t.map u.map larger (larger_invoking site.scope.index made t.map)) (λ none. none_failed-invoking site.scope.index made t.map (clean none))
-            (λ least low high not_last. expansion_lies least low high not_last)
-          where
-            expansion_lies : (least : ℕ) → least ≤ site.depth → site.depth < deepest → nat_eq (deeper site.depth) deepest ≡ false → (least ≤ deeper site.depth) × (deeper site.depth < deepest)
-            expansion_lies least low high other =
-                let next = deeper_is site.depth high in
-                (omega (arith, low, next), above_deepest (deeper site.depth) (omega (arith, high, next)) other)
+            (deeper_ranks site.depth)
 
     answered_footprint : (written : WrittenCall) (answer : Result CallAnswer UnresolvedMacro) → Footprint s site.scope site.depth (answered_effect oracle s site item written answer)
     answered_footprint written (Ok answer) = told_footprint written answer.inner answer.value answer.err
-    answered_footprint written (Err e) = queue_footprint s site.scope site.depth (queued s site item written) [] refl refl refl (one_queued s site item written s.map) (larger_refl s.map) (λ none. none) (λ targets own. tt) tt (λ least low high. tt)
+    answered_footprint written (Err e) = queue_footprint s site.scope site.depth (queued s site item (FnLike written)) [] refl refl refl (one_queued s site item (FnLike written) s.map (call_low site written)) (larger_refl s.map) (λ none. none) (λ targets own. tt) tt (λ rank low. tt)
 
     -- what each rule does
     follows_footprint : (rule : Rule) (effect : Effect) → Follows oracle s site item rule effect → Footprint s site.scope site.depth effect
     follows_footprint (declares kind d ns name raw) effect does =
         let f : ModuleState → ModuleState = declared_in (d does.0) in
         known_footprint s site.scope site.depth effect _ does.2
-        (noted_footprint s site.scope site.depth f (λ e h. h) (put_declared site.scope name ns (d does.0) (written_vis oracle s site.scope raw) ∷ []) (λ targets own. (put_own (noted_in s site.scope f).map site.scope targets None refl own, tt)) (refl, tt) (λ least low high. (tt, tt)))
+        (noted_footprint s site.scope site.depth f (λ e h. h) (put_declared site.scope name ns (d does.0) (written_vis oracle s site.scope raw) ∷ []) (λ targets own. (put_own (noted_in s site.scope f).map site.scope targets None refl own, tt)) (refl, tt) (λ rank low. (tt, tt)))
     follows_footprint (declares_struct name raw ctor) effect does =
         let d : Def = def.Struct (record { 0 = does.0 }) in
         let vis : Visibility = written_vis oracle s site.scope raw in
@@ -434,14 +436,14 @@ module _ (oracle : Oracle) (s : State) (site : Site) where
         let m : MapState = (noted_in s site.scope (declared_in d)).map in
         known_footprint s site.scope site.depth effect _ does.2
         (noted_footprint s site.scope site.depth (declared_in d) (λ e h. h) (put_declared site.scope name Types d vis ∷ ctor_task s site.scope name d vis made)
-        (λ targets own. (put_own m site.scope targets None refl own, ctor_own m targets name d vis made own)) (refl, ctor_plain name d vis made) (λ least low high. (tt, ctor_lies least name d vis made)))
+        (λ targets own. (put_own m site.scope targets None refl own, ctor_own m targets name d vis made own)) (refl, ctor_plain name d vis made) (λ rank low. (tt, ctor_lies rank name d vis made)))
     follows_footprint (opens_module name raw contents) effect does = known_footprint s site.scope site.depth effect _ does (contents_footprint name _ contents)
     follows_footprint (opens_block children) effect does =
         let inner : Site = record site { container = contained.ExternBlock (record { 0 = does.0 }) } in
         let f : ModuleState → ModuleState = with_extern_block (record { 0 = does.0 }) in
         known_footprint s site.scope site.depth effect _ does.2
         (noted_footprint s site.scope site.depth f (λ d h. h) (walk oracle inner children) (λ targets own. own_walk oracle (noted_in s site.scope f).map targets inner children own) (plain_walk oracle inner children)
-        (λ least low high. walk_lies oracle least inner children low high))
+        (λ rank low. walk_lies oracle rank inner children low))
     follows_footprint (queues raw imports) effect does =
         let id : UseId = record { 0 = does.0 } in
         let f = still_footprint s site.scope site.depth in
@@ -462,9 +464,9 @@ module _ (oracle : Oracle) (s : State) (site : Site) where
     follows_footprint (binds_crate name raw alias) effect does = known_footprint s site.scope site.depth effect _ does.2
         (crate_footprint (record { 0 = does.0 }) (crate_name name alias) (written_vis oracle s site.scope raw) (macros_brought oracle s item name (named_crate s name)) (named_crate s name))
     follows_footprint (notes_impl of_trait) effect does =
-        known_footprint s site.scope site.depth effect _ does.2 (noted_footprint s site.scope site.depth (with_impl (record { 0 = does.0 }) of_trait) (λ d h. h) [] (λ targets own. tt) tt (λ least low high. tt))
+        known_footprint s site.scope site.depth effect _ does.2 (noted_footprint s site.scope site.depth (with_impl (record { 0 = does.0 }) of_trait) (λ d h. h) [] (λ targets own. tt) tt (λ rank low. tt))
     follows_footprint notes_const effect does =
-        known_footprint s site.scope site.depth effect _ does.2 (noted_footprint s site.scope site.depth (with_unnamed_const (record { 0 = does.0 })) (λ d h. h) [] (λ targets own. tt) tt (λ least low high. tt))
+        known_footprint s site.scope site.depth effect _ does.2 (noted_footprint s site.scope site.depth (with_unnamed_const (record { 0 = does.0 })) (λ d h. h) [] (λ targets own. tt) tt (λ rank low. tt))
     follows_footprint (defines_rules name) effect does =
         let defined : MacroId = macro_of.MacroRules (record { 0 = does.0 }) in
         let exported : Bool = has_attr macro_export_name (attrs_of item.attrs) in
@@ -480,10 +482,8 @@ module _ (oracle : Oracle) (s : State) (site : Site) where
         (subst (λ t. Footprint s site.scope site.depth (declared_effect (item_state t site item expander defined) site.scope name Macros (def.Macro defined) vis)) (sym told.1) (item_footprint defined name vis expander told.0))
     follows_footprint (calls_macro written) effect does = known_footprint s site.scope site.depth effect _ does (answered_footprint written _)
 
-node_footprint : (oracle : Oracle) (s : State) (site : Site) (id : ModItemId) (item : ItemNode) (cfg : Option CfgExpr) (effect : Effect) → VisitsNode oracle s site id item cfg effect → Footprint s site.scope site.depth effect
-node_footprint oracle s site id item (Some cfg) effect does =
-    known_footprint s site.scope site.depth effect _ does (noted_still s (reported s (diagnostic site item (UnconfiguredCode cfg))) site.scope site.depth refl refl refl refl refl refl)
-node_footprint oracle s site id item None effect does =
+handled_footprint : (oracle : Oracle) (s : State) (site : Site) (item : ItemNode) (effect : Effect) → HandlesInSession oracle s site item effect → Footprint s site.scope site.depth effect
+handled_footprint oracle s site item effect does =
     let f = follows_footprint oracle (record s { session = does.0 }) site item (rule_of item.kind) effect does.2 in
     record {
       content = f.content;
@@ -498,6 +498,29 @@ node_footprint oracle s site id item None effect does =
       plain = f.plain;
       deep = f.deep;
     }
+
+-- an item waits for an attribute only above the greatest depth
+awaited_high : (oracle : Oracle) (s : State) (site : Site) (id : ModItemId) (item : ItemNode) (attr : AttrId × Attr) → awaited_attr oracle s site id item ≡ Some attr → site.depth < deepest
+awaited_high oracle s site id item attr is = by (nat_lt site.depth deepest) refl is
+  where
+    by : (high : Bool) → nat_lt site.depth deepest ≡ high → cond high (first_unknown oracle s.map.krate.tools (iter_after (s.skipped site.tree.file id) (attrs_of item.attrs))) None ≡ Some attr → site.depth < deepest
+    by true high found = ltb-true site.depth deepest high
+    by false high found = absurd (cc found)
+
+-- an item waits where it stands
+waits_footprint : (s : State) (site : Site) (id : ModItemId) (item : ItemNode) (attr : AttrId × Attr) → site.depth < deepest → Footprint s site.scope site.depth (only (queued s site item (awaiting site id attr)))
+waits_footprint s site id item attr high =
+    queue_footprint s site.scope site.depth (queued s site item (awaiting site id attr)) [] refl refl refl (one_queued s site item (awaiting site id attr) s.map (attr_ranks site.depth high)) (larger_refl s.map) (λ none. none) (λ targets own. tt) tt (λ rank low. tt)
+
+enabled_footprint : (oracle : Oracle) (s : State) (site : Site) (id : ModItemId) (item : ItemNode) (awaited : Option (AttrId × Attr)) → awaited_attr oracle s site id item ≡ awaited → (effect : Effect) → VisitsEnabled oracle s site id item awaited effect
+    → Footprint s site.scope site.depth effect
+enabled_footprint oracle s site id item (Some attr) is effect does = known_footprint s site.scope site.depth effect _ does (waits_footprint s site id item attr (awaited_high oracle s site id item attr is))
+enabled_footprint oracle s site id item None is effect does = handled_footprint oracle s site item effect does
+
+node_footprint : (oracle : Oracle) (s : State) (site : Site) (id : ModItemId) (item : ItemNode) (cfg : Option CfgExpr) (effect : Effect) → VisitsNode oracle s site id item cfg effect → Footprint s site.scope site.depth effect
+node_footprint oracle s site id item (Some cfg) effect does =
+    known_footprint s site.scope site.depth effect _ does (noted_still s (reported s (diagnostic site item (UnconfiguredCode cfg))) site.scope site.depth refl refl refl refl refl refl)
+node_footprint oracle s site id item None effect does = enabled_footprint oracle s site id item (awaited_attr oracle s site id item) refl effect does
 
 at_footprint : (oracle : Oracle) (s : State) (site : Site) (id : ModItemId) (item : Option ItemNode) (effect : Effect) → VisitsAt oracle s site id item effect → Footprint s site.scope site.depth effect
 at_footprint oracle s site id None effect does = known_footprint s site.scope site.depth effect _ does (still_footprint s site.scope site.depth)

@@ -1,5 +1,5 @@
 -- A pass over the macros that wait, and the expansions that it leads to.
-use Rattle.std.proofs.Common.{◌≡◌, ◌<◌, ◌≤◌, ◌+◌, ◌-◌, ◌*◌, ◌^◌, ℕ, zero, suc, Bool, true, false, cond, ◌||◌, nat_eq, nat_lt, List, [], ◌∷◌, ◌++◌, length, length-append, slice_get, Option, Some, None, Result, Ok, Err, Contains, refl, sym, ap, subst, ◌∙◌, append-nil, arith, if◌then◌else◌}
+use Rattle.std.proofs.Common.{◌≡◌, ◌<◌, ◌≤◌, ◌+◌, ◌-◌, ◌*◌, ◌^◌, ℕ, zero, suc, Bool, true, false, cond, ◌||◌, nat_eq, nat_lt, List, [], ◌∷◌, ◌++◌, length, length-append, slice_get, Option, Some, None, Result, Ok, Err, Contains, refl, ap, subst, ◌∙◌, append-nil, arith, if◌then◌else◌}
 use Rattle.std.specs.Prelude.{sum_by, unwrap_or}
 use Rattle.std.specs.Option.{option_map_or}
 use Rattle.std.proofs.Math.Nat.{mul-le-mul_right, one-le-pow}
@@ -9,8 +9,11 @@ use Rattle.item_tree.specs.declared.ids.InFile.{InFile}
 use Rattle.item_tree.specs.declared.ids.MacroCallId.{MacroCallId}
 use Rattle.item_tree.specs.declared.ids.ModItemId.{ModItemId}
 use Rattle.item_tree.specs.declared.name.Name.{Name}
+use Rattle.item_tree.specs.Paths.{as_ident}
+use Rattle.def_ids.specs.declared.ids.MapId.{MapId}
 use Rattle.def_ids.specs.declared.ids.ModuleId.{ModuleId}
 use Rattle.def_ids.specs.Ids.{is_same_map}
+use Rattle.def_interner.specs.declared.macro_def.MacroDefId.{MacroDefId}
 use Rattle.def_modules.specs.Maps.{facts_in, first_of_list, limit_of, with_module}
 use Rattle.def_modules.specs.MapState.{MapState, ModuleState}
 use Rattle.def_modules.specs.MapView.{MapFacts}
@@ -24,18 +27,20 @@ use Rattle.def_paths.specs.declared.per_ns.MacroSubNs.TheVariants as sub
 use Rattle.def_paths.specs.Paths.{for_import, resolve, resolver}
 use Rattle.def_globs.proofs.ListLaws.{first_in, later_in}
 use Rattle.def_rules.specs.Calls.{answer_by, deepest, expansion_effect, expansion_site, expansion_tree, invoking, with_invocations}
-use Rattle.def_rules.specs.Directives.{ExpansionStep, MacroStep, NoneGiven, answer_in, expansion_of, given_call, given_state, macro_answer, turn_state}
+use Rattle.def_rules.specs.Attributes.{AttrUse, PassesOver, ReadsDerives, ReplacesItem, attr_macro, attr_query, attr_use, is_helper, is_helper_name, item_site}
+use Rattle.def_rules.specs.Directives.{AllStay, ExpansionStep, GivesCall, MacroStep, Stays, Told, Turn, WalksItem, answer_in, attr_told, call_answer, call_told, expansion_of, given_state, given_turn, item_told, told, told_by, turn_effect, use_told, walked_state}
 use Rattle.def_rules.specs.Imports.{is_ready}
 use Rattle.def_rules.specs.Items.{top_items, walk}
 use Rattle.def_rules.specs.Recording.{NoneReady}
-use Rattle.def_rules.specs.State.{State, Effect, Event, Expansion, FnLike, MacroDirective, MacroDirectiveKind, Site, Task, after, followed_by, only, with_map, world}
+use Rattle.def_rules.specs.State.{State, Attr, Effect, Event, Expansion, FnLike, MacroDirective, MacroDirectiveKind, Site, Task, Visit, WrittenAttr, WrittenCall, after, followed_by, only, with_map, world}
 use Rattle.def_rules.specs.Steps.{Step, asks, expands, one}
-use Rattle.def_laws.specs.Depths.{LieFrom, OnlyInvokes, Queues, WaitsAlike, expansion_work, waiting_work}
+use Rattle.def_laws.specs.Depths.{AreVisitsBelow, OnlyInvokes, Queues, WaitsAlike, depth_rank, expansion_work, kind_rank, macro_rank, macro_work, visit_rank, waiting_work}
 use Rattle.def_laws.specs.Own.{Stands}
 use Rattle.def_laws.specs.Runs.{Collects, Leads, at}
-use Rattle.def_laws.proofs.DepthsLaws.{above_deepest, walk_lies}
+use Rattle.def_laws.proofs.DepthsLaws.{above_deepest, item_ranks, visit_rank_is, walk_lies}
+use Rattle.def_laws.specs.Work.{weight}
 use Rattle.def_laws.proofs.StepsLaws.{collects_trans, footprint_raised, footprint_sound}
-use Rattle.def_laws.proofs.TurnsLaws.{TurnFootprint, asks_footprint, expands_footprint, waiting_with}
+use Rattle.def_laws.proofs.TurnsLaws.{TurnFootprint, asks_footprint, expands_footprint, told_same, waiting_with}
 use Rattle.def_laws.proofs.WorkLaws.{lighter, weight_is}
 
 -- Calls that are recorded, which no path reads
@@ -60,11 +65,15 @@ krate_invoking : (place : ℕ) (calls : List (InFile FileAstId × MacroCallId)) 
 krate_invoking place [] m = refl
 krate_invoking place (call ∷ calls) m = krate_invoking place calls (with_module m place (with_invocation call.0 call.1))
 
+helpers_invoking : (place : ℕ) (calls : List (InFile FileAstId × MacroCallId)) (m : MapState) → (invoking place calls m).helpers ≡ m.helpers
+helpers_invoking place [] m = refl
+helpers_invoking place (call ∷ calls) m = helpers_invoking place calls (with_module m place (with_invocation call.0 call.1))
+
 pub invokes_refl : (s : State) → OnlyInvokes s s
-invokes_refl s = record { map = s.map; is = refl; facts = refl; krate = refl }
+invokes_refl s = record { map = s.map; is = refl; facts = refl; krate = refl; helpers = refl }
 
 invokes_calls : (s : State) (place : ModuleId) (calls : List (InFile FileAstId × MacroCallId)) → OnlyInvokes s (with_invocations s place calls)
-invokes_calls s place calls = record { map = invoking place.index calls s.map; is = refl; facts = facts_invoking place.index calls s.map; krate = krate_invoking place.index calls s.map }
+invokes_calls s place calls = record { map = invoking place.index calls s.map; is = refl; facts = facts_invoking place.index calls s.map; krate = krate_invoking place.index calls s.map; helpers = helpers_invoking place.index calls s.map }
 
 pub invokes_trans : (s t u : State) → OnlyInvokes s t → OnlyInvokes t u → OnlyInvokes s u
 invokes_trans s t u p q = record {
@@ -72,6 +81,7 @@ invokes_trans s t u p q = record {
   is = q.is ∙ ap (λ (x : State). with_map x q.map) p.is;
   facts = q.facts ∙ ap (λ (x : State). facts_in x.map) p.is ∙ p.facts;
   krate = q.krate ∙ ap (λ (x : State). x.map.krate) p.is ∙ p.krate;
+  helpers = q.helpers ∙ ap (λ (x : State). x.map.helpers) p.is ∙ p.helpers;
 }
 
 module _ (oracle : Oracle) (s t : State) (only_calls : OnlyInvokes s t) where
@@ -86,18 +96,60 @@ module _ (oracle : Oracle) (s t : State) (only_calls : OnlyInvokes s t) where
   limit_same : limit_of t.map.krate ≡ limit_of s.map.krate
   limit_same = ap limit_of (ap (λ (x : State). x.map.krate) only_calls.is ∙ only_calls.krate)
 
-  answer_as_same : (d : MacroDirective) (kind : MacroDirectiveKind) → answer_in (world oracle t) t.map d kind ≡ answer_in (world oracle s) s.map d kind
-  answer_as_same d (FnLike written) =
-      ap (λ w. answer_in w t.map d (FnLike written)) world_same
+  helpers_same : t.map.helpers ≡ s.map.helpers
+  helpers_same = ap (λ (x : State). x.map.helpers) only_calls.is ∙ only_calls.helpers
+
+  answer_same : (d : MacroDirective) (written : WrittenCall) → call_answer oracle t d written ≡ call_answer oracle s d written
+  answer_same d written =
+      ap (λ w. answer_in w t.map d written) world_same
       ∙ (λ i. answer_by oracle (resolver (world oracle s) shadow.Module sub.Bang d.scope)
       (record { position = d.position; path = written.path; ctxt = written.ctxt; kind = written.expand_to; krate = (id_same i).krate; depth = d.depth; recursion_limit = limit_same i }))
 
-  -- what waits is answered as before
-  pub answer_same : (d : MacroDirective) → macro_answer oracle t d ≡ macro_answer oracle s d
-  answer_same d = answer_as_same d d.kind
+  call_turn_same : (d : MacroDirective) (answer : Result CallAnswer UnresolvedMacro) → (call_told t d answer).turn ≡ (call_told s d answer).turn
+  call_turn_same d (Ok answer) = refl
+  call_turn_same d (Err unresolved) = refl
 
-  pub none_given_same : NoneGiven oracle s → NoneGiven oracle t
-  none_given_same none = record { none = λ d h. ap given_call (answer_same d) ∙ none.none d (subst (λ (x : State). Contains x.macros d) only_calls.is h) }
+  module _ (d : MacroDirective) (written : WrittenAttr) where
+    query_same : (found : MacroDefId) → attr_query t d written found ≡ attr_query s d written found
+    query_same found = λ i.
+        record {
+          krate = (id_same i).krate;
+          macro_def = found;
+          position = d.position;
+          attr_id = written.id;
+          input = written.attr.input;
+          ctxt = written.attr.ctxt;
+          censored = (only_calls.is i).active d.position ++ written.id ∷ [];
+          depth = d.depth;
+        }
+
+    use_turn_same : (found : MacroDefId) (role : AttrUse) → (use_told oracle t d written found role).turn ≡ (use_told oracle s d written found role).turn
+    use_turn_same found PassesOver = refl
+    use_turn_same found ReadsDerives = refl
+    use_turn_same found ReplacesItem = ap (λ q. GivesCall (oracle.make_attr_call q)) (query_same found)
+
+    attr_turn_same : (found : Option MacroDefId) → (attr_told oracle t d written found).turn ≡ (attr_told oracle s d written found).turn
+    attr_turn_same None = refl
+    attr_turn_same (Some found) =
+        ap (λ (id : MapId). (use_told oracle t d written found (attr_use oracle id.krate found.kind)).turn) id_same ∙ use_turn_same found (attr_use oracle s.map.id.krate found.kind)
+
+    item_turn_same : (helper : Bool) → (item_told oracle t d written helper).turn ≡ (item_told oracle s d written helper).turn
+    item_turn_same true = refl
+    item_turn_same false =
+        ap (λ w. (attr_told oracle t d written (attr_macro w d.scope written.attr)).turn) world_same ∙ attr_turn_same (attr_macro (world oracle s) d.scope written.attr)
+
+  kind_turn_same : (d : MacroDirective) (kind : MacroDirectiveKind) → (told_by oracle t d kind).turn ≡ (told_by oracle s d kind).turn
+  kind_turn_same d (FnLike written) = ap (λ a. (call_told t d a).turn) (answer_same d written) ∙ call_turn_same d (call_answer oracle s d written)
+  kind_turn_same d (Attr written) =
+      ap (λ helpers. (item_told oracle t d written (is_helper_name (helpers d.position) (as_ident written.attr.path))).turn) helpers_same
+      ∙ item_turn_same d written (is_helper s d.position written.attr)
+
+  -- what waits has the same turn as before
+  pub turn_same : (d : MacroDirective) → (told oracle t d).turn ≡ (told oracle s d).turn
+  turn_same d = kind_turn_same d d.kind
+
+  pub all_stay_same : AllStay oracle s → AllStay oracle t
+  all_stay_same all = record { stay = λ d h. turn_same d ∙ all.stay d (subst (λ (x : State). Contains x.macros d) only_calls.is h) }
 
   pub none_ready_same : NoneReady oracle s → NoneReady oracle t
   none_ready_same none = record {
@@ -130,57 +182,151 @@ module _ (oracle : Oracle) (s : State) (effect : Effect) (turn : TurnFootprint s
     raised = λ stands sound before importer slot kept raised. footprint_raised [] u turn.scope turn.depth effect turn.foot (stands_then stands) importer slot kept.order raised;
   }
 
--- A macro that waits is asked
+-- What waits by its weight
+
+weight_grows : (rank : ℕ) (kind : MacroDirectiveKind) → weight rank ≤ weight (rank + kind_rank kind)
+weight_grows rank (FnLike written) = let same : rank + kind_rank (FnLike written) ≡ rank = omega arith in let whole = ap weight same in omega (arith, whole)
+weight_grows rank (Attr written) = let here = weight_is rank in let above = weight_is (rank + 1) in let low = lighter rank (rank + 1) (omega arith) in omega (arith, here, above, low)
+
+some_weight : (rank : ℕ) → 1 ≤ weight rank
+some_weight rank = let whole = weight_is rank in let one = one-le-pow rank (2 ^ 65) (omega arith) in omega (arith, whole, one)
+
+more_light : (rank : ℕ) (more : List MacroDirective) → ((d : MacroDirective) → Contains more d → macro_rank d < rank) → sum_by macro_work more ≤ length more * (2 * (2 ^ 65) ^ rank)
+more_light rank [] lower = omega arith
+more_light rank (d ∷ more) lower =
+    let both = sum_by-cons macro_work d more in
+    let first = lighter (macro_rank d) rank (lower d (first_in d more)) in
+    let rest = more_light rank more (λ x h. lower x (later_in d more x h)) in
+    omega (arith, both, first, rest)
+
+-- what was queued weighs less than one thing that ranks above it
+queues_less : (rank : ℕ) (s t : State) (queues : Queues rank s t) → length t.macros < 2 ^ 64 → sum_by macro_work queues.more < weight rank
+queues_less rank s t queues few =
+    let long : length t.macros ≡ length s.macros + length queues.more = ap length queues.macros ∙ length-append s.macros queues.more in
+    let all = more_light rank queues.more queues.lower in
+    let part : ℕ = 2 * (2 ^ 65) ^ rank in
+    let most : length queues.more * (2 * (2 ^ 65) ^ rank) ≤ (2 ^ 64 - 1) * (2 * (2 ^ 65) ^ rank) = mul-le-mul_right (2 * (2 ^ 65) ^ rank) (omega (arith, long, few)) in
+    let one = one-le-pow rank (2 ^ 65) (omega arith) in
+    let whole = weight_is rank in
+    omega (arith, all, most, one, whole)
+
+-- A macro that waits has its turn
+
+walks_items : (oracle : Oracle) (s : State) (d : MacroDirective) (kind : MacroDirectiveKind) (written : WrittenAttr) → (told_by oracle s d kind).turn ≡ WalksItem written → kind_rank kind ≡ 1
+walks_items oracle s d (FnLike call) written is = absurd (by (call_answer oracle s d call) is)
+  where
+    given : (value : Option MacroCallId) → given_turn value ≡ WalksItem written → ⊥
+    given None is = cc is
+    given (Some call) is = cc is
+
+    by : (answer : Result CallAnswer UnresolvedMacro) → (call_told s d answer).turn ≡ WalksItem written → ⊥
+    by (Ok answer) is = given answer.value is
+    by (Err unresolved) is = cc is
+walks_items oracle s d (Attr attr) written is = refl
 
 module _ (oracle : Oracle) (s : State) (before : List MacroDirective) (d : MacroDirective) (behind : List MacroDirective) (stands : s.macros ≡ before ++ d ∷ behind) where
-  -- the state after its turn
-  abbrev pub turned : State
-  turned = turn_state s before d behind (macro_answer oracle s d)
+  -- what it was told
+  abbrev given : Told
+  given = told oracle s d
 
-  asked : MacroStep oracle s (only turned)
+  abbrev effect_by : Turn → Effect
+  effect_by turn = turn_effect given.state before d behind turn
+
+  asked : MacroStep oracle s (effect_by given.turn)
   asked = record { before = before; directive = d; behind = behind; stands = stands; is = refl }
 
-  pub collects_asked : Collects oracle [] s [] turned
-  collects_asked = collects_turn oracle s (only turned) (asks_footprint oracle s (only turned) asked) (λ earlier. asks (only turned) refl asked refl)
+  collects_asked : Collects oracle [] s ((effect_by given.turn).tasks ++ []) (effect_by given.turn).state
+  collects_asked = collects_turn oracle s (effect_by given.turn) (asks_footprint oracle s (effect_by given.turn) asked) (λ earlier. asks (effect_by given.turn) refl asked refl)
 
-  stays_given : (r : State) (value : Option MacroCallId) → value ≡ None → OnlyInvokes s r → OnlyInvokes s (given_state r before d behind value)
-  stays_given r value none only_calls = subst (λ v. OnlyInvokes s (given_state r before d behind v)) (sym none) only_calls
+  collects_by : (turn : Turn) → given.turn ≡ turn → Collects oracle [] s ((effect_by turn).tasks ++ []) (effect_by turn).state
+  collects_by turn is = subst (λ x. Collects oracle [] s ((effect_by x).tasks ++ []) (effect_by x).state) is collects_asked
 
-  stays_turn : (answer : Result CallAnswer UnresolvedMacro) → given_call answer ≡ None → OnlyInvokes s (turn_state s before d behind answer)
-  stays_turn (Ok answer) none = stays_given (with_invocations s d.scope answer.inner) answer.value none (invokes_calls s d.scope answer.inner)
-  stays_turn (Err unresolved) none = invokes_refl s
+  -- where it stays, only calls for its arguments are recorded
+  pub collects_stays : given.turn ≡ Stays → Collects oracle [] s [] given.state
+  collects_stays is = collects_by Stays is
 
-  -- without a call it stays, and only calls for its arguments are recorded
-  pub asked_stays : given_call (macro_answer oracle s d) ≡ None → OnlyInvokes s turned
-  asked_stays none = stays_turn (macro_answer oracle s d) none
+  call_stays : (answer : Result CallAnswer UnresolvedMacro) → OnlyInvokes s (call_told s d answer).state
+  call_stays (Ok answer) = invokes_calls s d.scope answer.inner
+  call_stays (Err unresolved) = invokes_refl s
 
-  some_work : (depth : ℕ) → 1 ≤ expansion_work depth
-  some_work depth = let whole = weight_is (2 ^ 32 - depth) in let one = one-le-pow (2 ^ 32 - depth) (2 ^ 65) (omega arith) in omega (arith, whole, one)
+  use_stays : (written : WrittenAttr) (found : MacroDefId) (role : AttrUse) → (use_told oracle s d written found role).turn ≡ Stays → OnlyInvokes s (use_told oracle s d written found role).state
+  use_stays written found PassesOver is = absurd (cc is)
+  use_stays written found ReadsDerives is = absurd (cc is)
+  use_stays written found ReplacesItem is = absurd (cc is)
 
-  given_lighter : (answer : CallAnswer) (call : MacroCallId) → answer.value ≡ Some call → waiting_work (turn_state s before d behind (Ok answer)) < waiting_work s
-  given_lighter answer call is =
-      subst (λ v. waiting_work (given_state (with_invocations s d.scope answer.inner) before d behind v) < waiting_work s) (sym is)
-      (let of_macro : MacroDirective → ℕ = λ x. 2 * expansion_work x.depth in
-      let of_expansion : Expansion → ℕ = λ x. expansion_work x.depth in
-      let was : sum_by of_macro s.macros ≡ sum_by of_macro before + sum_by of_macro (d ∷ behind) = ap (sum_by of_macro) stands ∙ sum_by-append of_macro before (d ∷ behind) in
-      let first = sum_by-cons of_macro d behind in
-      let left = sum_by-append of_macro before behind in
-      let more = sum_by-append of_expansion s.expansions (expansion_of d call ∷ []) in
-      let last = sum_by-cons of_expansion (expansion_of d call) [] in
-      let some = some_work d.depth in
-      omega (arith, was, first, left, more, last, some))
+  attr_stays : (written : WrittenAttr) (found : Option MacroDefId) → (attr_told oracle s d written found).turn ≡ Stays → OnlyInvokes s (attr_told oracle s d written found).state
+  attr_stays written None is = invokes_refl s
+  attr_stays written (Some found) is = use_stays written found (attr_use oracle s.map.id.krate found.kind) is
 
-  lighter_turn : (answer : Result CallAnswer UnresolvedMacro) (call : MacroCallId) → given_call answer ≡ Some call → waiting_work (turn_state s before d behind answer) < waiting_work s
-  lighter_turn (Ok answer) call given = given_lighter answer call given
-  lighter_turn (Err unresolved) call given = absurd (cc given)
+  item_stays : (written : WrittenAttr) (helper : Bool) → (item_told oracle s d written helper).turn ≡ Stays → OnlyInvokes s (item_told oracle s d written helper).state
+  item_stays written true is = absurd (cc is)
+  item_stays written false is = attr_stays written (attr_macro (world oracle s) d.scope written.attr) is
 
-  -- with a call, less waits
-  pub asked_lighter : (call : MacroCallId) → given_call (macro_answer oracle s d) ≡ Some call → waiting_work turned < waiting_work s
-  asked_lighter call given = lighter_turn (macro_answer oracle s d) call given
+  kind_stays : (kind : MacroDirectiveKind) → (told_by oracle s d kind).turn ≡ Stays → OnlyInvokes s (told_by oracle s d kind).state
+  kind_stays (FnLike written) is = call_stays (call_answer oracle s d written)
+  kind_stays (Attr written) is = item_stays written (is_helper s d.position written.attr) is
+
+  pub only_invokes : given.turn ≡ Stays → OnlyInvokes s given.state
+  only_invokes is = kind_stays d.kind is
+
+  -- what waited before and behind it, and itself
+  weighed : sum_by macro_work s.macros ≡ sum_by macro_work (before ++ behind) + 2 * weight (macro_rank d)
+  weighed =
+      let was : sum_by macro_work s.macros ≡ sum_by macro_work before + sum_by macro_work (d ∷ behind) = ap (sum_by macro_work) stands ∙ sum_by-append macro_work before (d ∷ behind) in
+      let first = sum_by-cons macro_work d behind in
+      let left = sum_by-append macro_work before behind in
+      omega (arith, was, first, left)
+
+  module _ (call : MacroCallId) (is : given.turn ≡ GivesCall call) where
+    -- the state in which it was given a call
+    abbrev now : State
+    now = given_state given.state before d behind call
+
+    pub collects_given : Collects oracle [] s [] now
+    collects_given = collects_by (GivesCall call) is
+
+    -- with a call, less waits
+    pub given_lighter : waiting_work now < waiting_work s
+    given_lighter =
+        let of_expansion : Expansion → ℕ = λ x. expansion_work x.depth in
+        let was = weighed in
+        let more = sum_by-append of_expansion given.state.expansions (expansion_of d call ∷ []) in
+        let old : sum_by of_expansion given.state.expansions ≡ sum_by of_expansion s.expansions = ap (sum_by of_expansion) (told_same oracle s d).expansions in
+        let last = sum_by-cons of_expansion (expansion_of d call) [] in
+        let grows = weight_grows (depth_rank d.depth) d.kind in
+        let some = some_weight (depth_rank d.depth) in
+        omega (arith, was, more, old, last, grows, some)
+
+  module _ (written : WrittenAttr) (is : given.turn ≡ WalksItem written) where
+    -- the state in which its attribute was passed over
+    abbrev passed : State
+    passed = walked_state given.state before d behind written
+
+    abbrev again : Task
+    again = Visit (item_site given.state d written) written.item
+
+    module _ (t : State) (leads : Leads oracle (again ∷ []) passed [] t) where
+      -- its item was walked
+      pub collects_walked : Collects oracle [] s [] t
+      collects_walked = collects_trans (collects_by (WalksItem written) is) leads.collects
+
+      -- and less waits
+      pub walked_lighter : d.depth ≤ deepest → length t.macros < 2 ^ 64 → waiting_work t < waiting_work s
+      walked_lighter most few =
+          let of_expansion : Expansion → ℕ = λ x. expansion_work x.depth in
+          let kind = walks_items oracle s d d.kind written is in
+          let low = item_ranks d.depth most in
+          let below : visit_rank d.depth ≤ macro_rank d = omega (arith, kind, low) in
+          let queues : Queues (macro_rank d) passed t = (leads.queues (macro_rank d) (below, tt)).1 in
+          let less = queues_less (macro_rank d) passed t queues few in
+          let now : sum_by macro_work t.macros ≡ sum_by macro_work (before ++ behind) + sum_by macro_work queues.more = ap (sum_by macro_work) queues.macros ∙ sum_by-append macro_work (before ++ behind) queues.more in
+          let was = weighed in
+          let old : sum_by of_expansion t.expansions ≡ sum_by of_expansion s.expansions = ap (sum_by of_expansion) (leads.expansions ∙ (told_same oracle s d).expansions) in
+          omega (arith, less, now, was, old)
 
 -- An expansion is walked
 
-expansion_lies : (oracle : Oracle) (u : State) (e : Expansion) → e.depth ≤ deepest → LieFrom e.depth (expansion_effect oracle u e).tasks
+expansion_lies : (oracle : Oracle) (u : State) (e : Expansion) → e.depth ≤ deepest → AreVisitsBelow (depth_rank e.depth) (expansion_effect oracle u e).tasks
 expansion_lies oracle u e most = by (nat_lt (limit_of u.map.krate) e.depth) (nat_eq e.depth deepest) refl
   where
     inner : Site
@@ -189,33 +335,10 @@ expansion_lies oracle u e most = by (nat_lt (limit_of u.map.krate) e.depth) (nat
     ids : List ModItemId
     ids = top_items oracle (expansion_tree e.call)
 
-    by : (over last : Bool) → nat_eq e.depth deepest ≡ last → LieFrom e.depth (cond (over || last) (only u) (followed_by u (walk oracle inner ids))).tasks
+    by : (over last : Bool) → nat_eq e.depth deepest ≡ last → AreVisitsBelow (depth_rank e.depth) (cond (over || last) (only u) (followed_by u (walk oracle inner ids))).tasks
     by true last is = tt
     by false true is = tt
-    by false false is = walk_lies oracle e.depth inner ids (omega arith) (above_deepest e.depth most is)
-
-more_light : (depth : ℕ) (more : List MacroDirective) → ((d : MacroDirective) → Contains more d → (depth < d.depth) × (d.depth ≤ deepest))
-    → sum_by (λ (d : MacroDirective). 2 * expansion_work d.depth) more ≤ length more * (2 * (2 ^ 65) ^ (2 ^ 32 - depth))
-more_light depth [] deeper = omega arith
-more_light depth (d ∷ more) deeper =
-    let both = sum_by-cons (λ (x : MacroDirective). 2 * expansion_work x.depth) d more in
-    let lies = deeper d (first_in d more) in
-    let below = lies.0 in
-    let most = lies.1 in
-    let first = lighter (2 ^ 32 - d.depth) (2 ^ 32 - depth) (omega (arith, below, most)) in
-    let rest = more_light depth more (λ x h. deeper x (later_in d more x h)) in
-    omega (arith, both, first, rest)
-
--- what an expansion queues weighs less than it
-queues_less : (depth : ℕ) (s t : State) (queues : Queues depth s t) → length t.macros < 2 ^ 64 → sum_by (λ (d : MacroDirective). 2 * expansion_work d.depth) queues.more < expansion_work depth
-queues_less depth s t queues few =
-    let long : length t.macros ≡ length s.macros + length queues.more = ap length queues.macros ∙ length-append s.macros queues.more in
-    let all = more_light depth queues.more queues.deeper in
-    let part : ℕ = 2 * (2 ^ 65) ^ (2 ^ 32 - depth) in
-    let most : length queues.more * (2 * (2 ^ 65) ^ (2 ^ 32 - depth)) ≤ (2 ^ 64 - 1) * (2 * (2 ^ 65) ^ (2 ^ 32 - depth)) = mul-le-mul_right (2 * (2 ^ 65) ^ (2 ^ 32 - depth)) (omega (arith, long, few)) in
-    let one = one-le-pow (2 ^ 32 - depth) (2 ^ 65) (omega arith) in
-    let whole = weight_is (2 ^ 32 - depth) in
-    omega (arith, all, most, one, whole)
+    by false false is = let same = visit_rank_is e.depth (above_deepest e.depth most is) in walk_lies oracle (depth_rank e.depth) inner ids (omega (arith, same))
 
 module _ (oracle : Oracle) (s t : State) (e : Expansion) (rest : List Expansion) (inner : List Task) (first : s.expansions ≡ e ∷ rest) where
   -- the state without the expansion
@@ -238,29 +361,29 @@ module _ (oracle : Oracle) (s t : State) (e : Expansion) (rest : List Expansion)
     -- and less waits
     pub expanded_lighter : e.depth ≤ deepest → length t.macros < 2 ^ 64 → waiting_work t < waiting_work s
     expanded_lighter most few =
-        let of_macro : MacroDirective → ℕ = λ x. 2 * expansion_work x.depth in
         let of_expansion : Expansion → ℕ = λ x. expansion_work x.depth in
-        let lie : LieFrom e.depth inner = subst (λ (x : Effect). LieFrom e.depth x.tasks) opened (expansion_lies oracle without e most) in
-        let queues : Queues e.depth without t = (leads.queues e.depth lie).1 in
-        let less = queues_less e.depth without t queues few in
-        let now : sum_by of_macro t.macros ≡ sum_by of_macro s.macros + sum_by of_macro queues.more = ap (sum_by of_macro) queues.macros ∙ sum_by-append of_macro s.macros queues.more in
+        let rank : ℕ = depth_rank e.depth in
+        let lie : AreVisitsBelow rank inner = subst (λ (x : Effect). AreVisitsBelow rank x.tasks) opened (expansion_lies oracle without e most) in
+        let queues : Queues rank without t = (leads.queues rank lie).1 in
+        let less = queues_less rank without t queues few in
+        let now : sum_by macro_work t.macros ≡ sum_by macro_work s.macros + sum_by macro_work queues.more = ap (sum_by macro_work) queues.macros ∙ sum_by-append macro_work s.macros queues.more in
         let left : sum_by of_expansion t.expansions ≡ sum_by of_expansion rest = ap (sum_by of_expansion) leads.expansions in
         let was : sum_by of_expansion s.expansions ≡ expansion_work e.depth + sum_by of_expansion rest = ap (sum_by of_expansion) first ∙ sum_by-cons of_expansion e rest in
         omega (arith, less, now, left, was)
 
 -- Passes over the imports
 
-nothing_queued : (s t : State) (queues : Queues deepest s t) → t.macros ≡ s.macros
-nothing_queued s t queues = queues.macros ∙ by queues.more queues.deeper
+nothing_queued : (s t : State) (queues : Queues 0 s t) → t.macros ≡ s.macros
+nothing_queued s t queues = queues.macros ∙ by queues.more queues.lower
   where
-    by : (more : List MacroDirective) → ((d : MacroDirective) → Contains more d → (deepest < d.depth) × (d.depth ≤ deepest)) → s.macros ++ more ≡ s.macros
-    by [] deeper = append-nil s.macros
-    by (d ∷ more) deeper = let lies = deeper d (first_in d more) in let below = lies.0 in let most = lies.1 in absurd (omega (arith, below, most))
+    by : (more : List MacroDirective) → ((d : MacroDirective) → Contains more d → macro_rank d < 0) → s.macros ++ more ≡ s.macros
+    by [] lower = append-nil s.macros
+    by (d ∷ more) lower = let below = lower d (first_in d more) in absurd (omega (arith, below))
 
 -- where nothing is visited, nothing is queued
 pub leads_alike : {oracle : Oracle} (s t : State) → Leads oracle [] s [] t → WaitsAlike s t
-leads_alike s t leads = record { macros = nothing_queued s t (leads.queues deepest tt).1; expansions = leads.expansions }
+leads_alike s t leads = record { macros = nothing_queued s t (leads.queues 0 tt).1; expansions = leads.expansions }
 
 pub alike_work : (s t : State) → WaitsAlike s t → waiting_work t ≡ waiting_work s
 alike_work s t alike =
-    λ i. sum_by (λ (d : MacroDirective). 2 * expansion_work d.depth) (alike.macros i) + sum_by (λ (e : Expansion). expansion_work e.depth) (alike.expansions i)
+    λ i. sum_by macro_work (alike.macros i) + sum_by (λ (e : Expansion). expansion_work e.depth) (alike.expansions i)

@@ -1,5 +1,7 @@
 -- Runs: how each rule is taken, and how runs follow one another.
-use Rattle.std.proofs.Common.{◌≡◌, List, [], ◌∷◌, ◌++◌, ◌<◌, ◌≤◌, ℕ, None, Some, refl, sym, ap, ◌∙◌, subst, append_assoc, append-nil, arith}
+use Rattle.std.proofs.Common.{◌≡◌, List, [], ◌∷◌, ◌++◌, ℕ, None, Option, Some, refl, sym, ap, ◌∙◌, subst, append_assoc, append-nil, arith}
+use Rattle.item_tree.specs.declared.attrs.Attr.{Attr}
+use Rattle.item_tree.specs.declared.ids.AttrId.{AttrId}
 use Rattle.item_tree.specs.declared.ids.CfgExpr.{CfgExpr}
 use Rattle.item_tree.specs.declared.ids.ModItemId.{ModItemId}
 use Rattle.item_tree.specs.declared.items.ItemNode.{ItemNode}
@@ -15,22 +17,23 @@ use Rattle.def_oracle.specs.Oracle.{Oracle}
 use Rattle.def_parts.specs.Directories.{Directory}
 use Rattle.def_globs.specs.Raised.{IsRaisedAt}
 use Rattle.def_rules.specs.declared.diagnostics.DefDiagnosticKind.TheVariants.{UnconfiguredCode}
-use Rattle.def_laws.specs.Depths.{LieFrom, WaitsAlike}
+use Rattle.def_laws.specs.Depths.{AreVisitsBelow, WaitsAlike}
 use Rattle.def_laws.specs.Followed.{AreFollowed}
 use Rattle.def_laws.specs.Own.{Stands}
 use Rattle.def_laws.specs.Sound.{AreSound, IsRaisedIn, IsSound, IsSoundWith, KeepsSound}
 use Rattle.def_rules.specs.Targets.{leaves_out, target_of}
 use Rattle.def_laws.specs.Travels.{Travels}
 use Rattle.def_laws.specs.Performs.{Handled, IsDone, Performs, Updated}
-use Rattle.def_rules.specs.Calls.{deeper, deepest}
+use Rattle.def_rules.specs.Attributes.{awaited_attr, awaiting}
+use Rattle.def_rules.specs.Calls.{queued}
 use Rattle.def_rules.specs.Imports.{answer_now}
 use Rattle.def_rules.specs.Recording.{ImportStep, after_import}
 use Rattle.def_rules.specs.Items.{diagnostic, node_at, noted_in}
-use Rattle.def_rules.specs.Rules.{VisitsAt, VisitsNode}
-use Rattle.def_rules.specs.State.{State, Effect, MacroDirective, Site, Task, Bring, Enter, Visit, Rearranges, entered, only, order, put_each, reported, with_content}
+use Rattle.def_rules.specs.Rules.{VisitsAt, VisitsEnabled, VisitsNode}
+use Rattle.def_rules.specs.State.{State, Effect, Site, Task, Bring, Enter, Visit, Rearranges, entered, only, order, put_each, reported, with_content}
 use Rattle.def_rules.specs.Steps.{Does, StandsNear, one, rearranges, records}
 use Rattle.def_laws.specs.Runs.{Collects, Leads}
-use Rattle.def_laws.proofs.DepthsLaws.{deeper_is, lie_both, lie_last, queues_alike, queues_trans, recorded_lies}
+use Rattle.def_laws.proofs.DepthsLaws.{lie_both, lie_last, queues_alike, queues_trans, recorded_lies}
 use Rattle.def_laws.proofs.FootprintLaws.{Footprint, visits_footprint}
 use Rattle.def_laws.proofs.LargerLaws.{larger_with_module}
 use Rattle.def_laws.proofs.PlainLaws.{ArePlain, plain_first, plain_followed}
@@ -56,6 +59,14 @@ footprint_raised tasks s scope depth effect foot stands importer slot same raise
 rearranged_alike : (s t : State) → Rearranges s t → WaitsAlike s t
 rearranged_alike s t same = subst (WaitsAlike s) (sym same.rest) (record { macros = refl; expansions = refl })
 
+-- an item that is there, and that cfg does not disable
+does_enabled : (oracle : Oracle) (s : State) (site : Site) (id : ModItemId) (item : ItemNode) → node_at oracle site.tree id ≡ Some item → disabled_by item.attrs ≡ None
+    → (awaited : Option (AttrId × Attr)) → awaited_attr oracle s site id item ≡ awaited → (effect : Effect) → VisitsEnabled oracle s site id item awaited effect → Does oracle s (Visit site id) effect
+does_enabled oracle s site id item found on awaited is effect does =
+    let enabled : VisitsEnabled oracle s site id item (awaited_attr oracle s site id item) effect = subst (λ o. VisitsEnabled oracle s site id item o effect) (sym is) does in
+    let node : VisitsNode oracle s site id item (disabled_by item.attrs) effect = subst (λ c. VisitsNode oracle s site id item c effect) (sym on) enabled in
+    subst (λ o. VisitsAt oracle s site id o effect) (sym found) node
+
 module _ {oracle : Oracle} where
   -- a place stays raised where an import is recorded
   import_raised : (s : State) (effect : Effect) → ImportStep oracle s effect → (importer : ModuleId) (slot : Slot) → IsRaisedIn s importer slot → IsRaisedIn effect.state importer slot
@@ -66,7 +77,7 @@ module _ {oracle : Oracle} where
   collects_refl tasks s = record { runs = runs_refl tasks s; keeps = λ stands sound. sound; raised = λ stands sound before importer slot kept raised. raised }
 
   pub leads_refl : (tasks : List Task) (s : State) → Leads oracle tasks s tasks s
-  leads_refl tasks s = record { collects = collects_refl tasks s; expansions = refl; queues = λ least lie. (lie, queues_alike least s s (record { macros = refl; expansions = refl })) }
+  leads_refl tasks s = record { collects = collects_refl tasks s; expansions = refl; queues = λ rank lie. (lie, queues_alike rank s s (record { macros = refl; expansions = refl })) }
 
   -- a run goes on with another
   pub collects_trans : {ts us vs : List Task} {s t u : State} → Collects oracle ts s us t → Collects oracle us t vs u → Collects oracle ts s vs u
@@ -82,7 +93,7 @@ module _ {oracle : Oracle} where
   leads_trans {s = s} {t = t} {u = u} p q = record {
     collects = collects_trans p.collects q.collects;
     expansions = q.expansions ∙ p.expansions;
-    queues = λ least lie. let first = p.queues least lie in let second = q.queues least first.0 in (second.0, queues_trans least s t u first.1 second.1);
+    queues = λ rank lie. let first = p.queues rank lie in let second = q.queues rank first.0 in (second.0, queues_trans rank s t u first.1 second.1);
   }
 
   -- what is sound stays so along a run of whole waves
@@ -98,7 +109,7 @@ module _ {oracle : Oracle} where
       raised = λ stands sound. done.raised rest (stands_first rest stands) sound;
     };
     expansions = done.waits.expansions;
-    queues = λ least lie. (lie_last least tasks rest lie, queues_alike least s t done.waits);
+    queues = λ rank lie. (lie_last rank tasks rest lie, queues_alike rank s t done.waits);
   }
 
   -- an item is visited
@@ -112,14 +123,11 @@ module _ {oracle : Oracle} where
           raised = λ stands sound before importer slot kept raised. footprint_raised (Visit site id ∷ rest) s site.scope site.depth effect foot stands importer slot kept.order raised;
         };
         expansions = foot.queued.expansions;
-        queues = λ least lie. (
-          lie_both least effect.tasks rest (foot.deep least lie.0.0 lie.0.1) lie.1,
-          record { more = foot.queued.more; macros = foot.queued.macros; deeper = λ d h. queued_deeper site.depth d least lie.0.0 lie.0.1 (foot.queued.at d h).1 },
+        queues = λ rank lie. (
+          lie_both rank effect.tasks rest (foot.deep rank lie.0) lie.1,
+          record { more = foot.queued.more; macros = foot.queued.macros; lower = λ d h. let low = lie.0 in let ranks = (foot.queued.at d h).1 in omega (arith, low, ranks) },
         );
       }
-    where
-      queued_deeper : (depth : ℕ) (d : MacroDirective) (least : ℕ) → least ≤ depth → depth < deepest → d.depth ≡ deeper depth → (least < d.depth) × (d.depth ≤ deepest)
-      queued_deeper depth d least low high is = let next = is ∙ deeper_is depth high in (omega (arith, low, next), omega (arith, high, next))
 
   -- an import is recorded
   pub leads_import : (s : State) (effect : Effect) → ImportStep oracle s effect → Leads oracle [] s (effect.tasks ++ []) effect.state
@@ -130,9 +138,9 @@ module _ {oracle : Oracle} where
       raised = λ stands sound before importer slot kept raised. import_raised s effect step importer slot raised;
     };
     expansions = ap (λ (e : Effect). e.state.expansions) step.is;
-    queues = λ least lie. (
-      subst (λ (e : Effect). LieFrom least (e.tasks ++ [])) (sym step.is) (recorded_lies oracle least (after_import s step.directive step.rest (answer_now oracle s step.directive.import)) step.directive.import (answer_now oracle s step.directive.import) step.directive.import.written.kind),
-      queues_alike least s effect.state (subst (λ (e : Effect). WaitsAlike s e.state) (sym step.is) (record { macros = refl; expansions = refl })),
+    queues = λ rank lie. (
+      subst (λ (e : Effect). AreVisitsBelow rank (e.tasks ++ [])) (sym step.is) (recorded_lies oracle rank (after_import s step.directive step.rest (answer_now oracle s step.directive.import)) step.directive.import (answer_now oracle s step.directive.import) step.directive.import.written.kind),
+      queues_alike rank s effect.state (subst (λ (e : Effect). WaitsAlike s e.state) (sym step.is) (record { macros = refl; expansions = refl })),
     );
   }
 
@@ -145,7 +153,7 @@ module _ {oracle : Oracle} where
       raised = λ stands sound before importer slot kept raised. subst (λ x. IsRaisedIn x importer slot) (sym same.rest) raised;
     };
     expansions = (rearranged_alike s t same).expansions;
-    queues = λ least lie. (lie, queues_alike least s t (rearranged_alike s t same));
+    queues = λ rank lie. (lie, queues_alike rank s t (rearranged_alike s t same));
   }
 
   -- a list is put and travels, and nothing else changes
@@ -189,7 +197,7 @@ module _ {oracle : Oracle} where
       raised = λ stands sound before importer slot kept raised. raised;
     };
     expansions = refl;
-    queues = λ least lie. (lie.1, queues_alike least s (entered s at directory) (record { macros = refl; expansions = refl }));
+    queues = λ rank lie. (lie.1, queues_alike rank s (entered s at directory) (record { macros = refl; expansions = refl }));
   }
 
   -- textual macros are brought into another module
@@ -203,7 +211,7 @@ module _ {oracle : Oracle} where
           raised = λ stands sound before importer slot kept raised. raised;
         };
         expansions = refl;
-        queues = λ least lie. (lie.1, queues_alike least s t (record { macros = refl; expansions = refl }));
+        queues = λ rank lie. (lie.1, queues_alike rank s t (record { macros = refl; expansions = refl }));
       }
 
   -- a visit is followed by its puts, down to the inner tasks
@@ -214,13 +222,16 @@ module _ {oracle : Oracle} where
       let plain = plain_first done.puts inner (subst ArePlain done.tasks (visits_footprint oracle s site id effect does).plain) in
       leads_trans visited (leads_performed done.puts (inner ++ rest) effect.state t (plain_followed (target_of effect.state.map.id effect.state.targets) done.puts plain) done.performs)
 
-  -- an item is visited, and what it puts is put
-  pub leads_handled : (s t : State) (site : Site) (id : ModItemId) (item : ItemNode) (inner : List Task) → node_at oracle site.tree id ≡ Some item → disabled_by item.attrs ≡ None → Handled oracle s t site item inner
-      → (rest : List Task) → Leads oracle (Visit site id ∷ rest) s (inner ++ rest) t
-  leads_handled s t site id item inner found on handled rest =
-      let node : VisitsNode oracle s site id item (disabled_by item.attrs) handled.effect = subst (λ c. VisitsNode oracle s site id item c handled.effect) (sym on) handled.handled in
-      let does : Does oracle s (Visit site id) handled.effect = subst (λ o. VisitsAt oracle s site id o handled.effect) (sym found) node in
-      leads_done site id rest s t handled.effect inner does handled.done
+  -- an item that is there is handled, and what it puts is put
+  pub leads_handled : (s t : State) (site : Site) (id : ModItemId) (item : ItemNode) (inner : List Task) → node_at oracle site.tree id ≡ Some item → disabled_by item.attrs ≡ None → awaited_attr oracle s site id item ≡ None
+      → Handled oracle s t site item inner → (rest : List Task) → Leads oracle (Visit site id ∷ rest) s (inner ++ rest) t
+  leads_handled s t site id item inner found on none handled rest =
+      leads_done site id rest s t handled.effect inner (does_enabled oracle s site id item found on None none handled.effect handled.handled) handled.done
+
+  -- or it waits for the macro of an attribute
+  pub leads_waits : (s t : State) (site : Site) (id : ModItemId) (item : ItemNode) (attr : AttrId × Attr) → node_at oracle site.tree id ≡ Some item → disabled_by item.attrs ≡ None → awaited_attr oracle s site id item ≡ Some attr
+      → t ≡ queued s site item (awaiting site id attr) → (rest : List Task) → Leads oracle (Visit site id ∷ rest) s rest t
+  leads_waits s t site id item attr found on some after rest = leads_visit site id rest s (only t) (does_enabled oracle s site id item found on (Some attr) some (only t) (ap only after))
 
   -- an item that cfg disables is reported
   pub leads_disabled : (s t : State) (site : Site) (id : ModItemId) (item : ItemNode) (cfg : CfgExpr) → node_at oracle site.tree id ≡ Some item → disabled_by item.attrs ≡ Some cfg

@@ -1,21 +1,25 @@
 -- What the turn of a macro that waits does, and that of an expansion.
-use Rattle.std.proofs.Common.{◌≡◌, ℕ, List, [], ◌∷◌, ◌++◌, Option, Some, None, Result, Ok, Err, Contains, refl, sym, ap, subst, ◌∙◌, inl, inr}
+use Rattle.std.proofs.Common.{◌≡◌, ℕ, Bool, true, false, List, [], ◌∷◌, ◌++◌, Option, Some, None, is_some, arith, Result, Ok, Err, Contains, refl, sym, ap, subst, ◌∙◌, inl, inr}
 use Rattle.std.proofs.lemmas.List.Elements.{Contains-append_cases, Contains-append_left, Contains-append_right}
+use Rattle.item_tree.specs.declared.ids.AttrId.{AttrId}
 use Rattle.item_tree.specs.declared.ids.FileAstId.{FileAstId}
 use Rattle.item_tree.specs.declared.ids.InFile.{InFile}
 use Rattle.item_tree.specs.declared.ids.MacroCallId.{MacroCallId}
 use Rattle.def_ids.specs.declared.ids.ModuleId.{ModuleId}
+use Rattle.def_interner.specs.declared.macro_def.MacroDefId.{MacroDefId}
 use Rattle.def_oracle.specs.declared.source_database.CallAnswer.{CallAnswer}
 use Rattle.def_oracle.specs.declared.source_database.UnresolvedMacro.{UnresolvedMacro}
 use Rattle.def_oracle.specs.Oracle.{Oracle}
 use Rattle.def_globs.proofs.ListLaws.{first_in, later_in, only_in}
-use Rattle.def_rules.specs.Calls.{with_invocations}
-use Rattle.def_rules.specs.Directives.{ExpansionStep, MacroStep, expansion_of, given_state, macro_answer, turn_state}
-use Rattle.def_rules.specs.State.{State, Effect, Expansion, MacroDirective, only}
+use Rattle.def_rules.specs.declared.diagnostics.DefDiagnostic.{DefDiagnostic}
+use Rattle.def_rules.specs.Attributes.{AttrUse, PassesOver, ReadsDerives, ReplacesItem, activated, attr_macro, attr_use, derives_state, is_helper, item_site, listed_state, may_derive}
+use Rattle.def_rules.specs.Directives.{ExpansionStep, GivesCall, MacroStep, Stays, Told, Turn, WalksItem, attr_told, call_answer, call_told, expansion_of, given_state, item_told, told, told_by, turn_effect, use_told, walked_state}
+use Rattle.def_rules.specs.Items.{node_at}
+use Rattle.def_rules.specs.State.{State, Attr, Effect, Expansion, FnLike, MacroDirective, MacroDirectiveKind, Site, Visit, WrittenAttr, world}
 use Rattle.def_laws.specs.Depths.{WaitsIn}
 use Rattle.def_laws.specs.Finished.{NoneFailed}
 use Rattle.def_laws.proofs.CleanLaws.{none_failed-invoking}
-use Rattle.def_laws.proofs.FootprintLaws.{Footprint, expanded_footprint, map_footprint, still_footprint}
+use Rattle.def_laws.proofs.FootprintLaws.{Footprint, expanded_footprint, map_footprint}
 use Rattle.def_laws.proofs.LargerLaws.{larger_invoking, larger_refl, larger_trans}
 use Rattle.def_laws.proofs.SoundLaws.{IsLarger}
 
@@ -43,6 +47,55 @@ beside before behind x y h = elim (Contains-append_cases before behind y h) [
 among : {X : Type 0} (before behind : List X) (x : X) → Contains (before ++ x ∷ behind) x
 among before behind x = Contains-append_right before (x ∷ behind) x (first_in x behind)
 
+-- what was told leaves all as it is but the map, in which calls may join, the active attributes and the diagnostics
+pub record IsToldOf (s t : State) : Type 0 where
+  pub content : t.content ≡ s.content
+  pub targets : t.targets ≡ s.targets
+  pub imports : t.imports ≡ s.imports
+  pub macros : t.macros ≡ s.macros
+  pub expansions : t.expansions ≡ s.expansions
+  pub larger : IsLarger s.map t.map
+  pub clean : NoneFailed s.map → NoneFailed t.map
+
+told_still : (s : State) → IsToldOf s s
+told_still s = record { content = refl; targets = refl; imports = refl; macros = refl; expansions = refl; larger = larger_refl s.map; clean = λ none. none }
+
+-- what may differ of an attribute that was told
+told_noted : (s : State) (active : InFile FileAstId → List AttrId) (diagnostics : List DefDiagnostic) → IsToldOf s (record s { active = active; diagnostics = diagnostics })
+told_noted s active diagnostics = record { content = refl; targets = refl; imports = refl; macros = refl; expansions = refl; larger = larger_refl s.map; clean = λ none. none }
+
+module _ (oracle : Oracle) (s : State) (d : MacroDirective) where
+  call_same : (answer : Result CallAnswer UnresolvedMacro) → IsToldOf s (call_told s d answer).state
+  call_same (Ok answer) =
+      record { content = refl; targets = refl; imports = refl; macros = refl; expansions = refl; larger = larger_invoking d.scope.index answer.inner s.map; clean = λ none. none_failed-invoking d.scope.index answer.inner s.map none }
+  call_same (Err unresolved) = told_still s
+
+  module _ (written : WrittenAttr) where
+    derives_same : (may has_list : Bool) → IsToldOf s (derives_state s d written may has_list)
+    derives_same true true = told_noted s (activated s d.position written.id).active s.diagnostics
+    derives_same true false = told_noted s s.active (listed_state s d written false).diagnostics
+    derives_same false has_list = told_noted s s.active (derives_state s d written false has_list).diagnostics
+
+    use_same : (found : MacroDefId) (role : AttrUse) → IsToldOf s (use_told oracle s d written found role).state
+    use_same found PassesOver = told_still s
+    use_same found ReadsDerives = derives_same (may_derive (node_at oracle written.tree written.item)) (is_some written.attr.paths)
+    use_same found ReplacesItem = told_noted s (activated s d.position written.id).active s.diagnostics
+
+    attr_same : (found : Option MacroDefId) → IsToldOf s (attr_told oracle s d written found).state
+    attr_same None = told_still s
+    attr_same (Some found) = use_same found (attr_use oracle s.map.id.krate found.kind)
+
+    item_same : (helper : Bool) → IsToldOf s (item_told oracle s d written helper).state
+    item_same true = told_still s
+    item_same false = attr_same (attr_macro (world oracle s) d.scope written.attr)
+
+  told_by_same : (kind : MacroDirectiveKind) → IsToldOf s (told_by oracle s d kind).state
+  told_by_same (FnLike written) = call_same (call_answer oracle s d written)
+  told_by_same (Attr written) = item_same written (is_helper s d.position written.attr)
+
+  pub told_same : IsToldOf s (told oracle s d).state
+  told_same = told_by_same d.kind
+
 module _ (oracle : Oracle) (s : State) (effect : Effect) where
   -- an expansion is walked
   pub expands_footprint : ExpansionStep oracle s effect → TurnFootprint s effect
@@ -60,39 +113,48 @@ module _ (oracle : Oracle) (s : State) (effect : Effect) where
           | inr expansion ↦ inr (expansion.0, subst (λ es. Contains es expansion.0) (sym step.stands) (beside step.before step.behind step.expansion expansion.0 expansion.1), expansion.2)
         ];
         foot = subst (λ e. Footprint u step.expansion.scope step.expansion.depth e) (sym step.is)
-            (expanded_footprint oracle u step.expansion.scope step.expansion.depth u step.expansion refl refl refl refl refl refl (larger_refl u.map) (λ none. none) (λ least low high other. (low, high)));
+            (expanded_footprint oracle u step.expansion.scope step.expansion.depth u step.expansion refl refl refl refl refl refl (larger_refl u.map) (λ none. none) (omega arith));
       }
 
   module _ (step : MacroStep oracle s effect) where
     abbrev d : MacroDirective
     d = step.directive
 
+    -- what it was told
+    abbrev given : Told
+    given = told oracle s d
+
+    abbrev left : List MacroDirective
+    left = step.before ++ step.behind
+
+    among_macros : Contains s.macros d
+    among_macros = subst (λ ds. Contains ds d) (sym step.stands) (among step.before step.behind d)
+
     here : WaitsIn s d.scope
-    here = inl (d, subst (λ ds. Contains ds d) (sym step.stands) (among step.before step.behind d), refl)
+    here = inl (d, among_macros, refl)
 
-    -- the state with the calls that were made for its arguments
-    abbrev told : CallAnswer → State
-    told answer = with_invocations s d.scope answer.inner
+    -- one of those before and behind it waited
+    waited : (x : MacroDirective) → Contains left x → Contains s.macros x
+    waited x h = subst (λ ds. Contains ds x) (sym step.stands) (beside step.before step.behind d x h)
 
-    clean : (answer : CallAnswer) → NoneFailed s.map → NoneFailed (told answer).map
-    clean answer none = none_failed-invoking d.scope.index answer.inner s.map none
+    same : IsToldOf s given.state
+    same = told_same oracle s d
 
-    larger : (answer : CallAnswer) → IsLarger s.map (told answer).map
-    larger answer = larger_invoking d.scope.index answer.inner s.map
-
-    -- nothing leaves
-    stays : Footprint s d.scope d.depth effect → TurnFootprint s effect
-    stays foot = record { scope = d.scope; depth = d.depth; macros = s.macros; expansions = s.expansions; waits = here; fewer = λ at waits. waits; foot = foot }
-
-    given : (answer : CallAnswer) (value : Option MacroCallId) → effect ≡ only (given_state (told answer) step.before d step.behind value) → TurnFootprint s effect
-    given answer None does =
-        stays (subst (λ e. Footprint s d.scope d.depth e) (sym does)
-        (map_footprint s d.scope d.depth (told answer) [] refl refl refl refl refl (larger answer) (clean answer) (λ targets own. tt) tt (λ least low high. tt)))
-    given answer (Some call) does =
-        let left : List MacroDirective = step.before ++ step.behind in
+    turn : (turn : Turn) → effect ≡ turn_effect given.state step.before d step.behind turn → TurnFootprint s effect
+    turn Stays does = record {
+      scope = d.scope;
+      depth = d.depth;
+      macros = s.macros;
+      expansions = s.expansions;
+      waits = here;
+      fewer = λ at waits. waits;
+      foot = subst (λ e. Footprint s d.scope d.depth e) (sym does)
+          (map_footprint s d.scope d.depth given.state [] same.content same.targets same.imports same.macros same.expansions same.larger same.clean (λ targets own. tt) tt (λ rank low. tt));
+    }
+    turn (GivesCall call) does =
         let more : List Expansion = s.expansions ++ expansion_of d call ∷ [] in
         let u : State = waiting_with s left more in
-        let t : State = given_state (told answer) step.before d step.behind (Some call) in
+        let t : State = given_state given.state step.before d step.behind call in
         let made : List (InFile FileAstId × MacroCallId) = (d.position, call) ∷ [] in
         record {
           scope = d.scope;
@@ -101,26 +163,33 @@ module _ (oracle : Oracle) (s : State) (effect : Effect) where
           expansions = more;
           waits = here;
           fewer = λ at waits. elim waits [
-            | inl macro ↦ inl (macro.0, subst (λ ds. Contains ds macro.0) (sym step.stands) (beside step.before step.behind d macro.0 macro.1), macro.2)
+            | inl macro ↦ inl (macro.0, waited macro.0 macro.1, macro.2)
             | inr expansion ↦ elim (Contains-append_cases s.expansions (expansion_of d call ∷ []) expansion.0 expansion.1) [
               | inl old ↦ inr (expansion.0, old, expansion.2)
-              | inr new ↦ inl (
-                d,
-                subst (λ ds. Contains ds d) (sym step.stands) (among step.before step.behind d),
-                ap (λ (x : Expansion). x.scope) (sym (only_in (expansion_of d call) expansion.0 new)) ∙ expansion.2,
-              )
+              | inr new ↦ inl (d, among_macros, ap (λ (x : Expansion). x.scope) (sym (only_in (expansion_of d call) expansion.0 new)) ∙ expansion.2)
             ]
           ];
           foot = subst (λ e. Footprint u d.scope d.depth e) (sym does)
-              (map_footprint u d.scope d.depth t [] refl refl refl refl refl
-              (larger_trans s.map (told answer).map t.map (larger answer) (larger_invoking d.scope.index made (told answer).map))
-              (λ none. none_failed-invoking d.scope.index made (told answer).map (clean answer none)) (λ targets own. tt) tt (λ least low high. tt));
+              (map_footprint u d.scope d.depth t [] same.content same.targets same.imports refl (ap (λ es. es ++ expansion_of d call ∷ []) same.expansions)
+              (larger_trans s.map given.state.map t.map same.larger (larger_invoking d.scope.index made given.state.map))
+              (λ none. none_failed-invoking d.scope.index made given.state.map (same.clean none)) (λ targets own. tt) tt (λ rank low. tt));
+        }
+    turn (WalksItem written) does =
+        let u : State = waiting_with s left s.expansions in
+        let t : State = walked_state given.state step.before d step.behind written in
+        let site : Site = item_site given.state d written in
+        record {
+          scope = d.scope;
+          depth = d.depth;
+          macros = left;
+          expansions = s.expansions;
+          waits = here;
+          fewer = λ at waits. elim waits [ inl macro ↦ inl (macro.0, waited macro.0 macro.1, macro.2) | inr expansion ↦ inr expansion ];
+          foot = subst (λ e. Footprint u d.scope d.depth e) (sym does)
+              (map_footprint u d.scope d.depth t (Visit site written.item ∷ []) same.content same.targets same.imports refl same.expansions same.larger same.clean
+              (λ targets own. ((own, tt), tt)) (tt, tt) (λ rank low. (low, tt)));
         }
 
-    turn : (answer : Result CallAnswer UnresolvedMacro) → effect ≡ only (turn_state s step.before d step.behind answer) → TurnFootprint s effect
-    turn (Ok answer) does = given answer answer.value does
-    turn (Err unresolved) does = stays (subst (λ x. Footprint s d.scope d.depth x) (sym does) (still_footprint s d.scope d.depth))
-
-    -- a macro that waits is asked
+    -- a macro that waits has its turn
     pub asks_footprint : TurnFootprint s effect
-    asks_footprint = turn (macro_answer oracle s d) step.is
+    asks_footprint = turn given.turn step.is

@@ -1,27 +1,42 @@
--- What waits for macros, by how deep it lies: calls lie deeper than the items that queue them.
-use Rattle.std.specs.Prelude.{◌≡◌, ◌⊎◌, ◌<◌, ◌≤◌, ℕ, ◌+◌, ◌-◌, ◌*◌, ◌^◌, List, [], ◌∷◌, ◌++◌, Contains, sum_by}
+-- What waits for macros, by how deep it lies: it ranks lower than the items that queue it.
+use Rattle.std.specs.Prelude.{◌≡◌, ◌⊎◌, ◌<◌, ◌≤◌, ℕ, ◌+◌, ◌-◌, ◌*◌, ◌^◌, cond, nat_lt, List, [], ◌∷◌, ◌++◌, Contains, sum_by}
 use Rattle.def_ids.specs.declared.ids.ModuleId.{ModuleId}
 use Rattle.def_rules.specs.Calls.{deepest}
 use Rattle.def_modules.specs.Maps.{facts_in}
 use Rattle.def_modules.specs.MapState.{MapState}
-use Rattle.def_rules.specs.State.{State, Expansion, MacroDirective, Task, Visit, with_map}
+use Rattle.def_rules.specs.State.{State, Expansion, MacroDirective, MacroDirectiveKind, FnLike, Attr, Task, Visit, with_map}
 use Rattle.def_laws.specs.Work.{weight}
 
--- a visit lies at least this deep, and not at the greatest depth
-abbrev pub LiesFrom : ℕ → Task → Type 0
-LiesFrom least (Visit site id) = (least ≤ site.depth) × (site.depth < deepest)
-LiesFrom least _ = Unit {0}
+-- how far what waits is from the deepest, as a rank that falls along a run: of one depth, an item that waits for an attribute ranks above a call
+abbrev pub kind_rank : MacroDirectiveKind → ℕ
+kind_rank (FnLike written) = 0
+kind_rank (Attr written) = 1
+
+abbrev pub depth_rank : ℕ → ℕ
+depth_rank depth = 2 * (2 ^ 32 - depth)
+
+abbrev pub macro_rank : MacroDirective → ℕ
+macro_rank d = depth_rank d.depth + kind_rank d.kind
+
+-- a visit at a depth queues only what ranks lower than this: at the greatest depth that are calls alone, which lie no deeper
+abbrev pub visit_rank : ℕ → ℕ
+visit_rank depth = cond (nat_lt depth deepest) (depth_rank depth) 3
+
+-- a visit queues only what ranks lower than this
+abbrev pub IsVisitBelow : ℕ → Task → Type 0
+IsVisitBelow rank (Visit site id) = visit_rank site.depth ≤ rank
+IsVisitBelow rank _ = Unit {0}
 
 -- so does each of a list
-abbrev pub LieFrom : ℕ → List Task → Type 0
-LieFrom least [] = Unit {0}
-LieFrom least (task ∷ tasks) = LiesFrom least task × LieFrom least tasks
+abbrev pub AreVisitsBelow : ℕ → List Task → Type 0
+AreVisitsBelow rank [] = Unit {0}
+AreVisitsBelow rank (task ∷ tasks) = IsVisitBelow rank task × AreVisitsBelow rank tasks
 
--- all that was queued from one state to another lies deeper than this
-pub record Queues (depth : ℕ) (s t : State) : Type 0 where
+-- all that was queued from one state to another ranks lower than this
+pub record Queues (rank : ℕ) (s t : State) : Type 0 where
   pub more : List MacroDirective
   pub macros : t.macros ≡ s.macros ++ more
-  pub deeper : (d : MacroDirective) → Contains more d → (depth < d.depth) × (d.depth ≤ deepest)
+  pub lower : (d : MacroDirective) → Contains more d → macro_rank d < rank
 
 -- the same waits in two states
 pub record WaitsAlike (s t : State) : Type 0 where
@@ -32,13 +47,17 @@ pub record WaitsAlike (s t : State) : Type 0 where
 abbrev pub WaitsIn : State → ModuleId → Type 0
 WaitsIn s at = ((d : MacroDirective) × Contains s.macros d × (d.scope ≡ at)) ⊎ ((e : Expansion) × Contains s.expansions e × (e.scope ≡ at))
 
--- what an expansion of this depth weighs: more than 2^64 calls that lie deeper
+-- what an expansion of this depth weighs: more than 2^64 macros that wait and rank lower
 abbrev pub expansion_work : ℕ → ℕ
-expansion_work depth = weight (2 ^ 32 - depth)
+expansion_work depth = weight (depth_rank depth)
 
--- what waits: a call weighs twice its expansion
+-- what a macro that waits weighs: twice as much as an expansion of its rank
+abbrev pub macro_work : MacroDirective → ℕ
+macro_work d = 2 * weight (macro_rank d)
+
+-- what waits
 abbrev pub waiting_work : State → ℕ
-waiting_work s = sum_by (λ (d : MacroDirective). 2 * expansion_work d.depth) s.macros + sum_by (λ (e : Expansion). expansion_work e.depth) s.expansions
+waiting_work s = sum_by macro_work s.macros + sum_by (λ (e : Expansion). expansion_work e.depth) s.expansions
 
 -- only calls were recorded, which no path reads
 pub record OnlyInvokes (s t : State) : Type 0 where
@@ -46,3 +65,4 @@ pub record OnlyInvokes (s t : State) : Type 0 where
   pub is : t ≡ with_map s map
   pub facts : facts_in map ≡ facts_in s.map
   pub krate : map.krate ≡ s.map.krate
+  pub helpers : map.helpers ≡ s.map.helpers

@@ -4,7 +4,7 @@ use Rattle.def_ids.specs.declared.ids.ModuleId.{ModuleId}
 use Rattle.def_bindings.specs.declared.bindings.Slot.{Slot}
 use Rattle.def_oracle.specs.Oracle.{Oracle}
 use Rattle.def_rules.specs.State.{State, Task, Event, Moment}
-use Rattle.def_laws.specs.Depths.{LieFrom, Queues}
+use Rattle.def_laws.specs.Depths.{AreVisitsBelow, Queues}
 use Rattle.def_laws.specs.Sound.{IsRaisedIn, IsSound, KeepsSound}
 use Rattle.def_laws.specs.Own.{Stands}
 use Rattle.def_rules.specs.Steps.{Reaches, IsKeptAlong}
@@ -28,8 +28,8 @@ pub record Collects (oracle : Oracle) (tasks : List Task) (s : State) (tasks' : 
   pub keeps : KeepsSound tasks s t
   pub raised : Stands tasks s → IsSound s → StaysRaised runs
 
--- and no expansion comes or goes, and what is queued lies deeper than what is visited, where no macro or expansion has its turn
+-- and no expansion comes or goes, and what is queued ranks lower than what is visited, where no macro or expansion has its turn
 pub record Leads (oracle : Oracle) (tasks : List Task) (s : State) (tasks' : List Task) (t : State) : Type 0 where
   pub collects : Collects oracle tasks s tasks' t
   pub expansions : t.expansions ≡ s.expansions
-  pub queues : (least : ℕ) → LieFrom least tasks → LieFrom least tasks' × Queues least s t
+  pub queues : (rank : ℕ) → AreVisitsBelow rank tasks → AreVisitsBelow rank tasks' × Queues rank s t

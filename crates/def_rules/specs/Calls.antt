@@ -1,5 +1,5 @@
 -- Macro calls: which macro a call finds where it stands, and what its answer does.
-use Rattle.std.specs.Prelude.{ℕ, suc, ◌-◌, ◌^◌, Bool, true, false, cond, ◌||◌, nat_eq, nat_lt, List, [], ◌∷◌, ◌++◌, map, Option, None, Some, is_some, option_and_then, unwrap_or, Result, Ok, Err}
+use Rattle.std.specs.Prelude.{ℕ, suc, ◌-◌, ◌^◌, Bool, cond, ◌||◌, nat_eq, nat_lt, List, [], ◌∷◌, ◌++◌, map, Option, None, Some, option_and_then, unwrap_or, Result, Ok, Err}
 use Rattle.std.specs.Option.{option_or}
 use Rattle.item_tree.specs.declared.ids.FileAstId.{FileAstId}
 use Rattle.item_tree.specs.declared.ids.HirFileId.TheVariants.{Macro as MacroFile}
@@ -7,7 +7,6 @@ use Rattle.item_tree.specs.declared.ids.InFile.{InFile}
 use Rattle.item_tree.specs.declared.ids.MacroCallId.{MacroCallId}
 use Rattle.item_tree.specs.declared.ids.TreeId.{TreeId}
 use Rattle.item_tree.specs.declared.items.ItemNode.{ItemNode}
-use Rattle.item_tree.specs.declared.mod_path.ModPath.{ModPath}
 use Rattle.item_tree.specs.declared.name.Name.{Name}
 use Rattle.item_tree.specs.Paths.{as_ident}
 use Rattle.def_ids.specs.declared.ids.MacroId.{MacroId}
@@ -27,7 +26,7 @@ use Rattle.def_paths.specs.OuterMaps.{first_of_each_map}
 use Rattle.def_paths.specs.Paths.{macro_named, map_of, scope}
 use Rattle.def_paths.specs.Sources.{World}
 use Rattle.def_rules.specs.Items.{position_of, top_items, walk}
-use Rattle.def_rules.specs.State.{State, Effect, Expansion, MacroDirective, FnLike, WrittenCall, only, followed_by, Site, with_map, world}
+use Rattle.def_rules.specs.State.{State, Effect, Expansion, MacroDirective, MacroDirectiveKind, FnLike, WrittenCall, only, followed_by, Site, with_map, world}
 
 -- Which macro a call finds at once
 
@@ -131,13 +130,13 @@ call_query m position depth written =
 abbrev pub answer_by : Oracle → Meaning → PlainCall → Result CallAnswer UnresolvedMacro
 answer_by oracle meaning query = oracle.macro_call query (map meaning (oracle.asked_paths query))
 
--- a call waits for its macro
-abbrev pub waiting : Site → ItemNode → WrittenCall → MacroDirective
-waiting site item written = record { scope = site.scope; container = site.container; position = position_of site item; depth = deeper site.depth; kind = FnLike written }
+-- an item waits for a macro
+abbrev pub waiting : Site → ItemNode → MacroDirectiveKind → MacroDirective
+waiting site item kind = record { scope = site.scope; container = site.container; position = position_of site item; depth = deeper site.depth; kind = kind }
 
 -- the state in which it does
-abbrev pub queued : State → Site → ItemNode → WrittenCall → State
-queued s site item written = record s { macros = s.macros ++ waiting site item written ∷ [] }
+abbrev pub queued : State → Site → ItemNode → MacroDirectiveKind → State
+queued s site item kind = record s { macros = s.macros ++ waiting site item kind ∷ [] }
 
 -- a call was made, and is expanded; where there is none, nothing follows
 abbrev pub made_effect : Oracle → State → Site → ItemNode → Option MacroCallId → Effect
@@ -147,12 +146,12 @@ made_effect oracle s site item (Some call) = expansion_effect oracle (with_invoc
 -- an answer without an error is final, and a call with one waits
 abbrev pub told_effect : Oracle → State → Site → ItemNode → WrittenCall → Option MacroCallId → Option ℕ → Effect
 told_effect oracle s site item written value None = made_effect oracle s site item value
-told_effect oracle s site item written value (Some error) = only (queued s site item written)
+told_effect oracle s site item written value (Some error) = only (queued s site item (FnLike written))
 
 -- the calls that were made for the arguments are recorded; a call whose macro is not found waits
 abbrev pub answered_effect : Oracle → State → Site → ItemNode → WrittenCall → Result CallAnswer UnresolvedMacro → Effect
 answered_effect oracle s site item written (Ok answer) = told_effect oracle (with_invocations s site.scope answer.inner) site item written answer.value answer.err
-answered_effect oracle s site item written (Err unresolved) = only (queued s site item written)
+answered_effect oracle s site item written (Err unresolved) = only (queued s site item (FnLike written))
 
 -- a macro call is tried where it stands
 abbrev pub call_effect : Oracle → State → Site → ItemNode → WrittenCall → Effect

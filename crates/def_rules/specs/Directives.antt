@@ -1,6 +1,7 @@
--- Macros that wait: what one is asked with each time that it has its turn, what its answer does, and expansions that are to be walked.
-use Rattle.std.specs.Prelude.{◌≡◌, List, [], ◌∷◌, ◌++◌, Option, None, Some, Result, Ok, Err, Contains}
+-- Macros that wait: what one is told each time that it has its turn, what it does then, and expansions that are to be walked.
+use Rattle.std.specs.Prelude.{◌≡◌, Bool, true, false, List, [], ◌∷◌, ◌++◌, Option, None, Some, is_some, Result, Ok, Err, Contains}
 use Rattle.item_tree.specs.declared.ids.MacroCallId.{MacroCallId}
+use Rattle.def_interner.specs.declared.macro_def.MacroDefId.{MacroDefId}
 use Rattle.def_modules.specs.MapState.{MapState}
 use Rattle.def_oracle.specs.declared.source_database.CallAnswer.{CallAnswer}
 use Rattle.def_oracle.specs.declared.source_database.UnresolvedMacro.{UnresolvedMacro}
@@ -9,24 +10,72 @@ use Rattle.def_paths.specs.declared.asked.BuiltinShadowMode.TheVariants as shado
 use Rattle.def_paths.specs.declared.per_ns.MacroSubNs.TheVariants as sub
 use Rattle.def_paths.specs.Paths.{resolver}
 use Rattle.def_paths.specs.Sources.{World}
+use Rattle.def_rules.specs.Attributes.{AttrUse, PassesOver, ReadsDerives, ReplacesItem, activated, attr_macro, attr_query, attr_use, derives_state, is_helper, item_site, may_derive, passed_over}
 use Rattle.def_rules.specs.Calls.{answer_by, call_query, expansion_effect, with_invocations}
-use Rattle.def_rules.specs.State.{State, Effect, Expansion, MacroDirective, MacroDirectiveKind, FnLike, only, world}
+use Rattle.def_rules.specs.Items.{node_at}
+use Rattle.def_rules.specs.State.{State, Effect, Expansion, MacroDirective, MacroDirectiveKind, FnLike, Attr, Visit, WrittenAttr, WrittenCall, followed_by, only, world}
 
--- What is answered
+-- What is told
 
--- what a macro that waits is answered: a call, by the macros that paths name once imports are resolved
-abbrev pub answer_in : World → MapState → MacroDirective → MacroDirectiveKind → Result CallAnswer UnresolvedMacro
-answer_in w m directive (FnLike written) =
+-- what becomes of a macro that waits, once it has its turn
+pub data Turn : Type 0 where
+  -- it stays where it stands
+  Stays : Turn
+  -- it leaves: it is given a call, whose expansion is to be walked
+  GivesCall : MacroCallId → Turn
+  -- it leaves: its item is walked without this attribute
+  WalksItem : WrittenAttr → Turn
+
+-- what was told: the state after it, and what becomes of the macro
+pub record Told : Type 0 where
+  pub state : State
+  pub turn : Turn
+
+-- what a call is answered, by the macros that paths name once imports are resolved
+abbrev pub answer_in : World → MapState → MacroDirective → WrittenCall → Result CallAnswer UnresolvedMacro
+answer_in w m directive written =
     answer_by w.oracle (resolver w shadow.Module sub.Bang directive.scope) (call_query m directive.position directive.depth written)
 
 -- what it is answered now
-abbrev pub macro_answer : Oracle → State → MacroDirective → Result CallAnswer UnresolvedMacro
-macro_answer oracle s directive = answer_in (world oracle s) s.map directive directive.kind
+abbrev pub call_answer : Oracle → State → MacroDirective → WrittenCall → Result CallAnswer UnresolvedMacro
+call_answer oracle s directive written = answer_in (world oracle s) s.map directive written
 
--- the call that an answer gives, if it gives one; an error beside it does not count
-abbrev pub given_call : Result CallAnswer UnresolvedMacro → Option MacroCallId
-given_call (Ok answer) = answer.value
-given_call (Err unresolved) = None
+-- a call that is given; an error beside it does not count
+abbrev pub given_turn : Option MacroCallId → Turn
+given_turn None = Stays
+given_turn (Some call) = GivesCall call
+
+-- the calls that were made for a call's arguments are recorded, also where it stays
+abbrev pub call_told : State → MacroDirective → Result CallAnswer UnresolvedMacro → Told
+call_told s directive (Ok answer) = record { state = with_invocations s directive.scope answer.inner; turn = given_turn answer.value }
+call_told s directive (Err unresolved) = record { state = s; turn = Stays }
+
+-- an attribute is told by what its macro does
+abbrev pub use_told : Oracle → State → MacroDirective → WrittenAttr → MacroDefId → AttrUse → Told
+use_told oracle s directive written found PassesOver = record { state = s; turn = WalksItem written }
+use_told oracle s directive written found ReadsDerives =
+    record { state = derives_state s directive written (may_derive (node_at oracle written.tree written.item)) (is_some written.attr.paths); turn = WalksItem written }
+use_told oracle s directive written found ReplacesItem =
+    record { state = activated s directive.position written.id; turn = GivesCall (oracle.make_attr_call (attr_query s directive written found)) }
+
+-- an attribute whose macro is not found stays
+abbrev pub attr_told : Oracle → State → MacroDirective → WrittenAttr → Option MacroDefId → Told
+attr_told oracle s directive written None = record { state = s; turn = Stays }
+attr_told oracle s directive written (Some found) = use_told oracle s directive written found (attr_use oracle s.map.id.krate found.kind)
+
+-- a helper of a derive is no macro
+abbrev pub item_told : Oracle → State → MacroDirective → WrittenAttr → Bool → Told
+item_told oracle s directive written true = record { state = s; turn = WalksItem written }
+item_told oracle s directive written false = attr_told oracle s directive written (attr_macro (world oracle s) directive.scope written.attr)
+
+-- what a macro that waits is told, by its kind
+abbrev pub told_by : Oracle → State → MacroDirective → MacroDirectiveKind → Told
+told_by oracle s directive (FnLike written) = call_told s directive (call_answer oracle s directive written)
+told_by oracle s directive (Attr written) = item_told oracle s directive written (is_helper s directive.position written.attr)
+
+-- what it is told now
+abbrev pub told : Oracle → State → MacroDirective → Told
+told oracle s directive = told_by oracle s directive directive.kind
 
 -- What it does
 
@@ -34,19 +83,23 @@ given_call (Err unresolved) = None
 abbrev pub expansion_of : MacroDirective → MacroCallId → Expansion
 expansion_of directive call = record { scope = directive.scope; container = directive.container; depth = directive.depth; call = call }
 
--- with a call, it leaves those before and behind it: the call is recorded, and its expansion is to be walked
-abbrev pub given_state : State → List MacroDirective → MacroDirective → List MacroDirective → Option MacroCallId → State
-given_state s before directive behind None = s
-given_state s before directive behind (Some call) =
+-- those before and behind what was given a call wait on: the call is recorded, and its expansion is to be walked
+abbrev pub given_state : State → List MacroDirective → MacroDirective → List MacroDirective → MacroCallId → State
+given_state s before directive behind call =
     record (with_invocations s directive.scope ((directive.position, call) ∷ [])) {
       macros = before ++ behind;
       expansions = s.expansions ++ expansion_of directive call ∷ [];
     }
 
--- the calls that were made for the arguments are recorded, also where it stays
-abbrev pub turn_state : State → List MacroDirective → MacroDirective → List MacroDirective → Result CallAnswer UnresolvedMacro → State
-turn_state s before directive behind (Ok answer) = given_state (with_invocations s directive.scope answer.inner) before directive behind answer.value
-turn_state s before directive behind (Err unresolved) = s
+-- those before and behind what leaves wait on, and the attribute counts no longer
+abbrev pub walked_state : State → List MacroDirective → MacroDirective → List MacroDirective → WrittenAttr → State
+walked_state s before directive behind written = record (passed_over s directive.position.file written) { macros = before ++ behind }
+
+-- what a turn does in the state that was told
+abbrev pub turn_effect : State → List MacroDirective → MacroDirective → List MacroDirective → Turn → Effect
+turn_effect s before directive behind Stays = only s
+turn_effect s before directive behind (GivesCall call) = only (given_state s before directive behind call)
+turn_effect s before directive behind (WalksItem written) = followed_by (walked_state s before directive behind written) (Visit (item_site s directive written) written.item ∷ [])
 
 -- a macro that waits has its turn
 pub record MacroStep (oracle : Oracle) (s : State) (effect : Effect) : Type 0 where
@@ -54,7 +107,7 @@ pub record MacroStep (oracle : Oracle) (s : State) (effect : Effect) : Type 0 wh
   pub directive : MacroDirective
   pub behind : List MacroDirective
   pub stands : s.macros ≡ before ++ directive ∷ behind
-  pub is : effect ≡ only (turn_state s before directive behind (macro_answer oracle s directive))
+  pub is : effect ≡ turn_effect (told oracle s directive).state before directive behind (told oracle s directive).turn
 
 -- an expansion has its turn: it is walked, or dropped
 pub record ExpansionStep (oracle : Oracle) (s : State) (effect : Effect) : Type 0 where
@@ -64,6 +117,6 @@ pub record ExpansionStep (oracle : Oracle) (s : State) (effect : Effect) : Type 
   pub stands : s.expansions ≡ before ++ expansion ∷ behind
   pub is : effect ≡ expansion_effect oracle (record s { expansions = before ++ behind }) expansion
 
--- no macro that waits is given a call
-pub record NoneGiven (oracle : Oracle) (s : State) : Type 0 where
-  pub none : (directive : MacroDirective) → Contains s.macros directive → given_call (macro_answer oracle s directive) ≡ None
+-- no macro that waits is given a call, and no item is walked without an attribute: each stays
+pub record AllStay (oracle : Oracle) (s : State) : Type 0 where
+  pub stay : (directive : MacroDirective) → Contains s.macros directive → (told oracle s directive).turn ≡ Stays

@@ -5,6 +5,7 @@ pub mod Items
 pub mod Modules
 pub mod Macros
 pub mod Calls
+pub mod Attributes
 pub mod Directives
 pub mod ExternCrates
 pub mod Rules

@@ -1,5 +1,7 @@
 -- What is to be done for an item: a row for each kind, and what each rule does.
 use Rattle.std.specs.Prelude.{◌≡◌, ℕ, Bool, List, ◌++◌, Option, None, Some}
+use Rattle.item_tree.specs.declared.attrs.Attr.{Attr}
+use Rattle.item_tree.specs.declared.ids.AttrId.{AttrId}
 use Rattle.item_tree.specs.declared.ids.CfgExpr.{CfgExpr}
 use Rattle.item_tree.specs.declared.ids.ModItemId.{ModItemId}
 use Rattle.item_tree.specs.declared.items.CtorVisibility.{CtorVisibility}
@@ -25,7 +27,8 @@ use Rattle.def_rules.specs.declared.diagnostics.DefDiagnosticKind.TheVariants.{U
 use Rattle.def_rules.specs.State.{State, Effect, only, followed_by, reported, Site, WrittenCall}
 use Rattle.def_rules.specs.Items.{IsNumber, ctor_vis, declared_effect, diagnostic, node_at, noted_in, new_imports, struct_effect, walk, written_vis}
 use Rattle.def_rules.specs.Macros.{IsBuiltinName, item_effect, item_expander, item_flags, macro_loc, macros_brought, rules_effect, rules_expander, rules_flags}
-use Rattle.def_rules.specs.Calls.{call_effect}
+use Rattle.def_rules.specs.Attributes.{awaited_attr, awaiting}
+use Rattle.def_rules.specs.Calls.{call_effect, queued}
 use Rattle.def_rules.specs.Modules.{module_item}
 use Rattle.def_rules.specs.ExternCrates.{crate_effect, crate_name, named_crate}
 
@@ -113,10 +116,15 @@ abbrev pub HandlesInSession : Oracle → State → Site → ItemNode → Effect 
 HandlesInSession oracle s site item effect =
     (session : Session) × AddsLocations s.session session × Handles oracle (record s { session = session }) site item item.kind effect
 
--- the item of this number: one that cfg disables is reported, and nothing else; any other is handled
+-- an item that cfg does not disable: one with an attribute that may be a macro waits for it, any other is handled
+abbrev pub VisitsEnabled : Oracle → State → Site → ModItemId → ItemNode → Option (AttrId × Attr) → Effect → Type 0
+VisitsEnabled oracle s site id item (Some attr) effect = effect ≡ only (queued s site item (awaiting site id attr))
+VisitsEnabled oracle s site id item None effect = HandlesInSession oracle s site item effect
+
+-- the item of this number: one that cfg disables is reported, and nothing else
 abbrev pub VisitsNode : Oracle → State → Site → ModItemId → ItemNode → Option CfgExpr → Effect → Type 0
 VisitsNode oracle s site id item (Some cfg) effect = effect ≡ only (reported s (diagnostic site item (UnconfiguredCode cfg)))
-VisitsNode oracle s site id item None effect = HandlesInSession oracle s site item effect
+VisitsNode oracle s site id item None effect = VisitsEnabled oracle s site id item (awaited_attr oracle s site id item) effect
 
 -- an item that the tree does not have is nothing
 abbrev pub VisitsAt : Oracle → State → Site → ModItemId → Option ItemNode → Effect → Type 0

@@ -10,14 +10,14 @@ use Rattle.def_bindings.specs.Puts.{IsExplicit}
 use Rattle.def_oracle.specs.Oracle.{Oracle}
 use Rattle.def_paths.specs.PerNs.{in_namespace}
 use Rattle.def_rules.specs.State.{State, Import, Event, PutExplicit, Recorded, Moment}
-use Rattle.def_rules.specs.Directives.{NoneGiven}
+use Rattle.def_rules.specs.Directives.{AllStay}
 use Rattle.def_rules.specs.Imports.{is_missing, answer_now, bound_name, keeps_ns}
 use Rattle.def_rules.specs.Recording.{NoneReady}
 
--- no import is ready, and no macro that waits is given a call
+-- no import is ready, and each macro that waits stays: none is given a call, and no item is walked without its attribute
 pub record IsSettled (oracle : Oracle) (end : State) : Type 0 where
   pub imports : NoneReady oracle end
-  pub macros : NoneGiven oracle end
+  pub macros : AllStay oracle end
 
 -- each explicit binding that was put, by a declaration, an extern crate or a named import, stands at its place, or one put there before it does
 abbrev pub IsDeclared : List Event → Content Visibility → Type 0

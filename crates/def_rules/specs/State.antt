@@ -1,6 +1,9 @@
 -- The state of a run, and what a run is given.
 use Rattle.std.specs.Prelude.{◌≡◌, ℕ, Bool, true, List, [], ◌∷◌, ◌++◌, map, Option, None, Some, unwrap_or, IsPermutation}
+use Rattle.item_tree.specs.declared.attrs.Attr as attrs
+use Rattle.item_tree.specs.declared.ids.AttrId.{AttrId}
 use Rattle.item_tree.specs.declared.ids.FileAstId.{FileAstId}
+use Rattle.item_tree.specs.declared.ids.HirFileId.{HirFileId}
 use Rattle.item_tree.specs.declared.ids.InFile.{InFile}
 use Rattle.item_tree.specs.declared.ids.MacroCallId.{MacroCallId}
 use Rattle.item_tree.specs.declared.ids.ModItemId.{ModItemId}
@@ -60,10 +63,20 @@ pub record WrittenCall : Type 0 where
   pub expand_to : ExpandTo
   pub ctxt : SyntaxContext
 
+-- an attribute as it is written, and the item that has it
+pub record WrittenAttr : Type 0 where
+  pub tree : TreeId
+  pub item : ModItemId
+  -- its number among the item's attributes
+  pub id : AttrId
+  pub attr : attrs.Attr
+
 -- what waits for a macro
 pub data MacroDirectiveKind : Type 0 where
   -- a call
   FnLike : WrittenCall → MacroDirectiveKind
+  -- an item, for the macro of one of its attributes
+  Attr : WrittenAttr → MacroDirectiveKind
 
 -- what waits for a macro, and where the items of its expansion are to stand
 pub record MacroDirective : Type 0 where
@@ -114,9 +127,13 @@ pub record State : Type 0 where
   pub directories : ModuleId → Option Directory
   -- the imports that are not resolved
   pub imports : List ImportDirective
-  -- the macro calls that wait for their macros
+  -- of each item of a file, the attribute that was passed over, with those before it
+  pub skipped : HirFileId → ModItemId → Option AttrId
+  -- of the item at each position, the attributes that expansions are not to see
+  pub active : InFile FileAstId → List AttrId
+  -- the macro calls and items that wait for their macros
   pub macros : List MacroDirective
-  -- the expansions that are to be walked, of calls that waited
+  -- the expansions that are to be walked, of what waited
   pub expansions : List Expansion
   pub diagnostics : List DefDiagnostic
 

@@ -2,7 +2,7 @@
 
 use crate::outcome::LeftMacroKind;
 use def_ids::ModuleId;
-use item_tree::{CfgExpr, FileAstId, InFile, ModPath, Seq, Text};
+use item_tree::{AttrId, CfgExpr, FileAstId, InFile, ModPath, Seq, Text};
 
 /// What a diagnostic says.
 #[derive(Clone, PartialEq, Eq, Debug, Drop)]
@@ -15,6 +15,10 @@ pub enum DefDiagnosticKind {
     UnresolvedExternCrate,
     /// A macro that no pass could expand: how it is called, and the path that was not found.
     UnresolvedMacroCall { kind: LeftMacroKind, path: ModPath },
+    /// A derive attribute on an item that is no struct, union or enum.
+    InvalidDeriveTarget { id: AttrId },
+    /// A derive attribute without a list of paths.
+    MalformedDerive { id: AttrId },
     /// A macro that is marked as builtin, and that no builtin implements.
     UnimplementedBuiltinMacro,
     /// An item or a file that is not compiled: the condition that is not met.

@@ -20,12 +20,12 @@ use Rattle.def_laws.proofs.FootprintLaws.{visits_footprint}
 use Rattle.def_laws.proofs.StaysLaws.{explicit_stays_along}
 use Rattle.def_rules.specs.declared.diagnostics.DefDiagnostic.{DefDiagnostic}
 use Rattle.def_rules.specs.declared.outcome.LeftImport.{LeftImport}
-use Rattle.def_rules.specs.Directives.{ExpansionStep, given_call, macro_answer}
+use Rattle.def_rules.specs.Directives.{ExpansionStep, GivesCall, WalksItem, told}
 use Rattle.def_rules.specs.Headline.{Answers, Run}
 use Rattle.def_rules.specs.Imports.{answer_now, is_ready, no_namespaces, unresolved_imports}
 use Rattle.def_rules.specs.Recording.{ImportStep}
 use Rattle.def_rules.specs.Report.{Answer, import_report, left_import, may_name_crate, report, unresolved, with_macro_reports}
-use Rattle.def_rules.specs.State.{Setting, State, Effect, Task, Enter, Visit, Put, Bring, AddEdge, Moment, Import, ImportDirective, MacroDirective, Recorded}
+use Rattle.def_rules.specs.State.{Setting, State, Effect, Task, Enter, Visit, Put, Bring, AddEdge, Moment, Import, ImportDirective, MacroDirective, Recorded, WrittenAttr}
 use Rattle.def_rules.specs.Steps.{Does, Reaches, Step, asks, copies, event_of, expands, performs, rearranges, records}
 use Rattle.def_runs.proofs.Plain as plain
 use Rattle.def_runs.proofs.RowLemmas.{none_recorded_unready, none_taken}
@@ -57,8 +57,13 @@ both_left_is_no_answer after answer answers early =
 
 -- no answer leaves a macro over that is given a call
 no_macro_is_left_that_is_given_a_call : (w : Setting) (before after : Session) (answer : Answer) (answers : Answers w before after answer) (directive : MacroDirective) (call : MacroCallId)
-    → Contains answers.run.end.state.macros directive → given_call (macro_answer w.oracle answers.run.end.state directive) ≡ Some call → ⊥
-no_macro_is_left_that_is_given_a_call w before after answer answers directive call left given = let none = answers.settled.macros.none directive left in cc
+    → Contains answers.run.end.state.macros directive → (told w.oracle answers.run.end.state directive).turn ≡ GivesCall call → ⊥
+no_macro_is_left_that_is_given_a_call w before after answer answers directive call left given = let stays = answers.settled.macros.stay directive left in cc
+
+-- nor an item over that is walked without an attribute
+no_item_is_left_that_is_walked : (w : Setting) (before after : Session) (answer : Answer) (answers : Answers w before after answer) (directive : MacroDirective) (written : WrittenAttr)
+    → Contains answers.run.end.state.macros directive → (told w.oracle answers.run.end.state directive).turn ≡ WalksItem written → ⊥
+no_item_is_left_that_is_walked w before after answer answers directive written left walks = let stays = answers.settled.macros.stay directive left in cc
 
 -- nor an expansion that is still to be walked or dropped
 no_expansion_is_left : (w : Setting) (before after : Session) (answer : Answer) (answers : Answers w before after answer) (effect : Effect) → ExpansionStep w.oracle answers.run.end.state effect → ⊥

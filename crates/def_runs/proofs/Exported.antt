@@ -33,7 +33,7 @@ use Rattle.def_runs.proofs.Trees.{inline_mod, items, node, tree_with}
 use Rattle.def_runs.proofs.Vectors.{nothing_left}
 
 -- `#[NAME]`
-abbrev marked_with : Name → Attr
+abbrev pub marked_with : Name → Attr
 marked_with name = record { path = record { kind = Plain; segments = name ∷ [] }; input = None; ctxt = record { 0 = 0 }; paths = None }
 
 abbrev exported_macro : ItemNode

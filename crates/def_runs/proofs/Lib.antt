@@ -20,4 +20,5 @@ pub mod OneStructAlone
 pub mod Excused
 pub mod Called
 pub mod Waiting
+pub mod Attribute
 pub mod Unresolved

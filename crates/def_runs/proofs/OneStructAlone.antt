@@ -1,5 +1,9 @@
 -- Each answer of `pub struct S;` binds S, whatever run is taken: so the map as it was seeded, with nothing bound, is no answer.
-use Rattle.std.proofs.Common.{◌≡◌, inl, inr, ℕ, Some, None, List, [], ◌∷◌, ◌++◌, refl, sym, subst, ap, ◌∙◌, append-nil}
+use Rattle.std.proofs.Common.{◌≡◌, inl, inr, ℕ, ◌+◌, Option, Some, None, List, [], ◌∷◌, ◌++◌, refl, sym, subst, ap, ◌∙◌, append-nil}
+use Rattle.std.proofs.Math.Seq.{drop-nil}
+use Rattle.item_tree.specs.declared.ids.AttrId.{AttrId}
+use Rattle.item_tree.specs.declared.name.Name.{Name}
+use Rattle.item_tree.specs.Attrs.{iter_after, numbered_from}
 use Rattle.def_ids.specs.declared.ids.Def.TheVariants.{Struct}
 use Rattle.def_interner.specs.Session.{Session}
 use Rattle.def_bindings.specs.declared.bindings.Binding.{Binding}
@@ -10,9 +14,11 @@ use Rattle.def_bindings.specs.declared.visibility.Visibility.TheVariants.{Public
 use Rattle.def_bindings.specs.Content.{Content, empty}
 use Rattle.def_globs.proofs.ListLaws.{none_in, only_in}
 use Rattle.def_laws.proofs.RunsLaws.{kept_along}
+use Rattle.def_rules.specs.Attributes.{first_unknown}
 use Rattle.def_rules.specs.Headline.{Answers}
 use Rattle.def_rules.specs.Items.{put_declared}
 use Rattle.def_rules.specs.Report.{Answer}
+use Rattle.def_rules.specs.Rules.{HandlesInSession, VisitsEnabled}
 use Rattle.def_rules.specs.Settled.{IsDeclared}
 use Rattle.def_rules.specs.Start.{first_site, start}
 use Rattle.def_rules.specs.State.{Site, State, Effect, Task, Enter, Visit, Event, PutExplicit, Moment, after, with_content, with_state}
@@ -20,6 +26,7 @@ use Rattle.def_rules.specs.Steps.{Does, Step, performs, asks, copies, expands, r
 use Rattle.def_runs.proofs.OneStruct.{S, setting}
 use Rattle.def_runs.proofs.RowLemmas.{NoneWaits, none_asked, none_recorded, none_taken, none_waits_rearranged}
 use Rattle.def_runs.proofs.Rows.{module_at, no_session}
+use Rattle.def_runs.proofs.Trees.{node, unit_struct}
 
 -- where the items of the root stand
 abbrev root : Site
@@ -59,9 +66,20 @@ enters : (a : Moment) (rest : List Task) (effect : Effect) → IsOnWay a → a.e
 enters a rest effect way none left does =
     subst (Moves a rest) (sym does) (record { stage = visits left (append-nil a.events ∙ none); waits = way.waits })
 
--- the struct is visited, in a session that may have more, and gets some number
+-- an item without attributes waits for none, whatever was passed over
+none_awaited : (tools : List Name) (passed : Option AttrId) → first_unknown setting.oracle tools (iter_after passed []) ≡ None
+none_awaited tools None = refl
+none_awaited tools (Some id) = ap (λ attrs. first_unknown setting.oracle tools (numbered_from (id.0 + 1) attrs)) (drop-nil (id.0 + 1))
+
+-- so the struct is handled
+is_handled : (a : Moment) (effect : Effect) → Does setting.oracle a.state (Visit root (record { 0 = 0 })) effect → HandlesInSession setting.oracle a.state root (node 0 (unit_struct S)) effect
+is_handled a effect does =
+    subst (λ o. VisitsEnabled setting.oracle a.state root (record { 0 = 0 }) (node 0 (unit_struct S)) o effect) (none_awaited a.state.map.krate.tools (a.state.skipped root.tree.file (record { 0 = 0 }))) does
+
+-- it is visited, in a session that may have more, and gets some number
 visited : (a : Moment) (rest : List Task) (effect : Effect) → IsOnWay a → a.events ≡ [] → rest ≡ [] → Does setting.oracle a.state (Visit root (record { 0 = 0 })) effect → Moves a rest effect
-visited a rest effect way none left does =
+visited a rest effect way none left visiting =
+    let does = is_handled a effect visiting in
     let n = does.2.0 in
     subst (Moves a rest) (sym does.2.2) (record {
       stage = puts_types n (ap (λ l. put_in Types n ∷ put_in Values n ∷ l) left) (append-nil a.events ∙ none);

@@ -1,5 +1,5 @@
 -- What rows share of their answers: what follows of each run is cited, and only what is special of a row is left to it.
-use Rattle.std.proofs.Common.{◌≡◌, ℕ, List, [], ◌∷◌, ◌++◌, true, false, Option, Some, None, is_some, slice_get, refl, sym, subst, ap, ◌∙◌, IsPermutation, Contains, Bool, not, inl, inr}
+use Rattle.std.proofs.Common.{◌≡◌, ℕ, List, [], ◌∷◌, ◌++◌, true, false, Some, None, slice_get, refl, sym, subst, ap, ◌∙◌, IsPermutation, Contains, Bool, not, inl, inr}
 use Rattle.std.proofs.lemmas.List.Sorted.{Contains-permutation, IsPermutation-sym}
 use Rattle.std.proofs.lemmas.Bool.{and_parts}
 use Rattle.std.specs.List.{IsDistinct, list_all}
@@ -20,13 +20,13 @@ use Rattle.def_laws.proofs.EveryNamespaceLaws.{every_namespace_along}
 use Rattle.def_laws.proofs.StaysLaws.{explicit_stays_along}
 use Rattle.def_rules.specs.declared.outcome.Outcome.{Outcome}
 use Rattle.def_rules.specs.Calls.{expansion_effect}
-use Rattle.def_rules.specs.Directives.{ExpansionStep, MacroStep, NoneGiven, given_call, macro_answer, turn_state}
+use Rattle.def_rules.specs.Directives.{AllStay, ExpansionStep, GivesCall, MacroStep, Stays, Turn, WalksItem, told, turn_effect}
 use Rattle.def_rules.specs.Headline.{Answers}
 use Rattle.def_rules.specs.Imports.{answer_now, is_ready, unresolved_imports}
 use Rattle.def_rules.specs.Recording.{ImportStep, NoneReady, import_effect}
 use Rattle.def_rules.specs.Report.{Answer, AreTargets, IsOutcome, marked, report}
 use Rattle.def_rules.specs.Start.{start}
-use Rattle.def_rules.specs.State.{Setting, State, Effect, Expansion, MacroDirective, Moment, ImportDirective, Rearranges, after, only, order, with_content, with_state}
+use Rattle.def_rules.specs.State.{Setting, State, Effect, Expansion, MacroDirective, Moment, ImportDirective, Rearranges, after, order, with_content, with_state}
 use Rattle.def_rules.specs.Steps.{Reaches, one, asks, copies, expands, records}
 use Rattle.def_rules.specs.Targets.{leaves_out, target_of}
 use Rattle.def_runs.proofs.TableLemmas.{is_false}
@@ -47,9 +47,9 @@ import_recorded oracle a directive rest idle first ready =
     let stands = subst (λ ds. IsPermutation a.state.imports ds) first (same_order a.state.imports) in
     one (records _ idle (record { directive = directive; rest = rest; stands = stands; ready = ready; is = refl }) refl)
 
--- the moment after the first macro that waits was asked, with what it is answered
+-- the moment after the first macro that waits had its turn, with what it is told
 abbrev pub moment_asked : Oracle → Moment → MacroDirective → List MacroDirective → Moment
-moment_asked oracle a directive rest = after a [] (only (turn_state a.state [] directive rest (macro_answer oracle a.state directive)))
+moment_asked oracle a directive rest = after a [] (turn_effect (told oracle a.state directive).state [] directive rest (told oracle a.state directive).turn)
 
 -- the first macro that waits is asked
 pub macro_asked : (oracle : Oracle) (a : Moment) (directive : MacroDirective) (rest : List MacroDirective) → a.tasks ≡ [] → a.state.macros ≡ directive ∷ rest
@@ -97,27 +97,25 @@ pub settled_by_test : (oracle : Oracle) (s : State) → none_is_ready oracle s �
 settled_by_test oracle s passes =
     record { none = λ directive h. is_false (is_ready directive.recorded (answer_now oracle s directive.import)) (passes_in (waits_on oracle s) s.imports directive passes h) }
 
--- whether a macro that waits is given no call
-abbrev pub is_not_given : Oracle → State → MacroDirective → Bool
-is_not_given oracle s directive = not (is_some (given_call (macro_answer oracle s directive)))
+-- whether what was told stays
+abbrev pub stays : Turn → Bool
+stays Stays = true
+stays (GivesCall call) = false
+stays (WalksItem written) = false
 
--- whether no macro that waits is given a call, as a test that computes
-abbrev pub none_is_given : Oracle → State → Bool
-none_is_given oracle s = list_all (is_not_given oracle s) s.macros
+-- whether each macro that waits stays, as a test that computes
+abbrev pub each_stays : Oracle → State → Bool
+each_stays oracle s = list_all (λ directive. stays (told oracle s directive).turn) s.macros
 
--- what is not there is none
-is_none : {X : Type 0} (x : Option X) → is_some x ≡ false → x ≡ None
-is_none None h = refl
-is_none (Some x) h = cc
+stays_is : (turn : Turn) → stays turn ≡ true → turn ≡ Stays
+stays_is Stays h = refl
+stays_is (GivesCall call) h = cc
+stays_is (WalksItem written) h = cc
 
--- no macro that waits is given a call where the test says so
-pub none_given_by_test : (oracle : Oracle) (s : State) → none_is_given oracle s ≡ true → NoneGiven oracle s
-none_given_by_test oracle s passes =
-    record {
-      none = λ directive h.
-          let given = given_call (macro_answer oracle s directive) in
-          is_none given (is_false (is_some given) (passes_in (is_not_given oracle s) s.macros directive passes h));
-    }
+-- each macro that waits stays where the test says so
+pub all_stay_by_test : (oracle : Oracle) (s : State) → each_stays oracle s ≡ true → AllStay oracle s
+all_stay_by_test oracle s passes =
+    record { stay = λ directive h. stays_is (told oracle s directive).turn (passes_in (λ d. stays (told oracle s d).turn) s.macros directive passes h) }
 
 -- nothing waits for its turn: no import, no macro and no expansion
 abbrev pub NoneWaits : State → Type 0
@@ -169,7 +167,7 @@ answer_of oracle end outcome =
 
 -- the answer of a run's end is right where names are closed, coherent and raised at the end, no expansion is left, no import is ready and no macro is given a call
 pub answers : (w : Setting) (before : Session) (end : Moment) (outcome : Outcome) → Reaches w.oracle (start w before) end → end.tasks ≡ [] → end.state.expansions ≡ []
-    → none_is_ready w.oracle end.state ≡ true → none_is_given w.oracle end.state ≡ true
+    → none_is_ready w.oracle end.state ≡ true → each_stays w.oracle end.state ≡ true
     → IsOutcome end.state outcome
     → IsClosed (order end.state) (leaves_out end.state) end.state.content
     → IsCoherent (order end.state) (leaves_out end.state) (target_of end.state.map.id end.state.targets) end.state.content
@@ -187,7 +185,7 @@ answers w before end outcome runs done expanded ready given shown closed coheren
       declared = declared_along runs refl refl;
       was_put = was_put_along runs refl refl;
       explicit_stays = λ a b run. explicit_stays_along run.goes_on;
-      settled = record { imports = settled; macros = none_given_by_test w.oracle end.state given };
+      settled = record { imports = settled; macros = all_stay_by_test w.oracle end.state given };
       every_namespace = every_namespace_along runs refl refl done settled;
       reported = refl;
     }
@@ -210,7 +208,7 @@ raised_without o c none importer slot source index edge at =
 
 -- so the answer of a run in which no glob was recorded is right where no expansion is left, no import is ready and no macro is given a call
 pub answers_without : (w : Setting) (before : Session) (end : Moment) (outcome : Outcome) → Reaches w.oracle (start w before) end → end.tasks ≡ [] → end.state.expansions ≡ []
-    → none_is_ready w.oracle end.state ≡ true → none_is_given w.oracle end.state ≡ true
+    → none_is_ready w.oracle end.state ≡ true → each_stays w.oracle end.state ≡ true
     → IsOutcome end.state outcome → NoEdge end.state.content → end.state.targets ≡ (λ glob. None)
     → Answers w before end.state.session (answer_of w.oracle end.state outcome)
 answers_without w before end outcome runs done expanded ready given shown none no_target =

@@ -1,5 +1,5 @@
 -- What the worked rows share: an oracle that knows one tree, sessions, the setting of a crate in one file, and how runs go on.
-use Rattle.std.proofs.Common.{ℕ, false, Option, Some, None, Err, [], refl}
+use Rattle.std.proofs.Common.{ℕ, nat_lt, false, Option, Some, None, Err, [], refl}
 use Rattle.item_tree.specs.declared.items.ImportKind.{ImportKind}
 use Rattle.item_tree.specs.declared.items.RawVisibility.{RawVisibility}
 use Rattle.item_tree.specs.declared.mod_path.ModPath.{ModPath}
@@ -24,7 +24,7 @@ use Rattle.def_rules.specs.State.{Setting, Import, ImportDirective, NsSet}
 use Rattle.def_runs.proofs.Tables.{Bound}
 use Rattle.def_runs.proofs.Trees.{root_file}
 
--- an oracle that knows this tree, and nothing else
+-- an oracle that knows this tree, and the names with which every table begins as builtin attributes
 abbrev pub knowing : ItemTree → Oracle
 knowing tree =
     record {
@@ -49,7 +49,7 @@ knowing tree =
       find_builtin_derive = λ name. None;
       find_builtin_attr = λ name. None;
       builtin_type = λ name. None;
-      is_builtin_attr = λ name. false;
+      is_builtin_attr = λ name. nat_lt name.0 32;
       has_builtin_derive_impl = λ derive. false;
       derive_traits = λ derive. [];
       cfg_flag = λ krate name. false;

@@ -1,5 +1,5 @@
 -- `foo!();` in a crate that defines no foo: the call waits, is given nothing when it is asked, and is left over and reported.
-use Rattle.std.proofs.Common.{◌≡◌, false, None, [], ◌∷◌, refl, sym, subst, map, lit<, ◌∙◌}
+use Rattle.std.proofs.Common.{◌≡◌, false, [], ◌∷◌, refl, sym, subst, map, lit<, ◌∙◌}
 use Rattle.item_tree.specs.declared.items.ExpandTo.TheVariants.{Items}
 use Rattle.item_tree.specs.declared.items.ModItemKind.TheVariants.{MacroCall}
 use Rattle.item_tree.specs.declared.tree.ItemTree.{ItemTree}
@@ -10,7 +10,7 @@ use Rattle.def_rules.specs.declared.diagnostics.DefDiagnosticKind.TheVariants.{U
 use Rattle.def_rules.specs.declared.outcome.LeftMacro.{LeftMacro}
 use Rattle.def_rules.specs.declared.outcome.LeftMacroKind.TheVariants.{Fn}
 use Rattle.def_rules.specs.declared.outcome.Outcome.{Outcome}
-use Rattle.def_rules.specs.Directives.{given_call, macro_answer}
+use Rattle.def_rules.specs.Directives.{Stays, told}
 use Rattle.def_rules.specs.Headline.{Answers}
 use Rattle.def_rules.specs.Report.{Answer, IsOutcome, report}
 use Rattle.def_rules.specs.Start.{start}
@@ -64,7 +64,7 @@ ran = join walked.1 asked.1
 it_stays : last ≡ walked_to
 it_stays = refl
 
-nothing_is_given : given_call (macro_answer setting.oracle last.state waiting) ≡ None
+nothing_is_given : (told setting.oracle last.state waiting).turn ≡ Stays
 nothing_is_given = refl
 
 -- the call as it is left over: its expansion would lie one level deep

@@ -9,7 +9,7 @@ use Rattle.item_tree.specs.declared.tree.ItemTree.{ItemTree}
 use Rattle.def_ids.specs.declared.ids.ItemContainerId.TheVariants.{Module}
 use Rattle.def_interner.specs.Session.{Session, AddsLocations, ItemKind, ItemLoc, StructItem}
 use Rattle.def_bindings.specs.declared.bindings.Namespace.TheVariants.{Types, Values}
-use Rattle.def_rules.specs.Directives.{given_call, macro_answer}
+use Rattle.def_rules.specs.Directives.{Stays, told}
 use Rattle.def_rules.specs.Headline.{Answers}
 use Rattle.def_rules.specs.Report.{Answer, IsOutcome}
 use Rattle.def_rules.specs.Start.{start}
@@ -142,9 +142,9 @@ nothing_is_reported = refl
 -- stopping where the call still waits is no answer: it is given a call
 stopping_at_the_walk_is_no_answer : (after : Session) (answer : Answer) (answers : Answers setting no_session after answer) → answers.run.end ≡ walked_to → ⊥
 stopping_at_the_walk_is_no_answer after answer answers early =
-    let at_end : given_call (macro_answer setting.oracle walked_to.state waiting) ≡ None =
-    subst (λ (m : Moment). Contains m.state.macros waiting → given_call (macro_answer setting.oracle m.state waiting) ≡ None) early
-    (λ left. answers.settled.macros.none waiting left) (0, lit< tt, refl) in
+    let at_end : (told setting.oracle walked_to.state waiting).turn ≡ Stays =
+    subst (λ (m : Moment). Contains m.state.macros waiting → (told setting.oracle m.state waiting).turn ≡ Stays) early
+    (λ left. answers.settled.macros.stay waiting left) (0, lit< tt, refl) in
     cc
 
 -- nor is stopping where its expansion is still to be walked

@@ -88,6 +88,7 @@ impl DefCollector<'_> {
             deps: _,
             missing_crates: _,
             mod_dirs: _,
+            item_attrs: _,
             unresolved_imports: _,
             indeterminate_imports: _,
             unresolved_macros: _,

@@ -19,7 +19,7 @@ returns-in-Some-clause-done g c = λ session.
     let made : map_state c.record_calls.new.def_map ≡ invoking at c.args.answer.now.inner before.map =
     c.in_ok-record_calls.ensures ∙ ap (λ calls. invoking at calls before.map) c.as_slice.ensures in
     answered_waits (g.D.SourceDatabase.oracle c.args.db.now) before _ (site_of c.args.site) c.args.node.now (written_of c.args.written) c.args.answer.now c.in-Some.field-0 c.in-Some.is
-    (λ i. record before { map = made i; macros = c.in_ok-queue_call.ensures i })
+    (λ i. record before { map = made i; macros = c.in_ok-queue_macro.ensures i })
 
 pub returns-in_default-value-clause-done : goal.returns-in_default-value-clause-done
 returns-in_default-value-clause-done g c = λ session.

@@ -38,4 +38,4 @@ returns-clause-done g c =
     sym c.in-Err.is ∙ c.in_ok-answer.ensures ∙ ap (λ w. answer_by w.oracle (early_meaning w c.args.site.module_id) (plain_call c.call_query-query.result)) c.world-world.ensures
     ∙ ap (answer_by oracle meaning) (c.call_query-query.ensures ∙ (λ i. call_query before.map (c.position-position.ensures i) (c.deeper.ensures i) written)) in
     left_done oracle _ _ _
-    (ap (answered_effect oracle before site c.args.node.now written) (sym asked) ∙ (λ i. only (record before { macros = (sym c.in_ok-queue_call-in-Err.ensures) i })))
+    (ap (answered_effect oracle before site c.args.node.now written) (sym asked) ∙ (λ i. only (record before { macros = (sym c.in_ok-queue_macro-in-Err.ensures) i })))

@@ -1,12 +1,9 @@
-use Rattle.std.proofs.Common.{◌≡◌, ◌-◌, length}
 use Rattle.def_collector.proofs.MacroPassLemmas.{AskedSoFar}
+use Rattle.def_interner.specs.Session.{AddsLocations, session_of}
 use Rattle.def_collector.proofs.macro_pass.ask_macros.Given as goal
 
 abbrev pub invariant-asked : goal.invariant-asked
 invariant-asked g l = record {
-  len : length l.collector.unresolved_macros.items ≡ length l.initial.collector.unresolved_macros.items;
-  so_far : AskedSoFar (g.D.SourceDatabase.oracle l.db) l.session l.initial.collector l.collector l.moved l.from;
+  so_far : AskedSoFar (g.D.SourceDatabase.oracle l.db) l.fn.session l.fn.collector l.session l.collector l.moved l.i;
+  adds : AddsLocations (session_of l.fn.session) (session_of l.session);
 }
-
-abbrev pub decreases-asked : goal.decreases-asked
-decreases-asked g l = length l.collector.unresolved_macros.items - l.from

@@ -26,8 +26,8 @@ resolve_macros-preserved g c =
     let macros = c.in_ok-resolve_macros.ensures in
     let imports = c.in_ok-import_passes-2.ensures.run in
     record {
-      run = collects_trans c.resolve_macros.invariant.run (collects_trans macros.run imports.collects);
-      sound = collects_sound imports.collects (collects_sound macros.run c.resolve_macros.invariant.sound);
+      run = collects_trans c.resolve_macros.invariant.run (collects_trans macros.turns.run imports.collects);
+      sound = collects_sound imports.collects (collects_sound macros.turns.run c.resolve_macros.invariant.sound);
       ready = c.in_ok-import_passes-2.ensures.settled;
       bare = bare_after c.resolve_macros-in-resolve_macros.new.collector.expansions.items c.import_passes-in-resolve_macros.new.collector.expansions.items imports.expansions macros.expanded;
       adds = adds_trans (session_of c.args.session.now) (session_of c.resolve_macros.session) (session_of c.resolve_macros-in-resolve_macros.new.session) c.resolve_macros.invariant.adds c.resolve_macros-in-resolve_macros.ensures.session;
@@ -38,7 +38,7 @@ resolve_macros-smaller g c =
     let session = c.resolve_macros-in-resolve_macros.new.session in
     let asked = state_of c.resolve_macros-in-resolve_macros.new.collector session in
     let after = state_of c.import_passes-in-resolve_macros.new.collector session in
-    let less = c.in_ok-resolve_macros.ensures.fewer c.if-branch.true in
+    let less = c.in_ok-resolve_macros.ensures.turns.fewer c.if-branch.true in
     let same = alike_work asked after (leads_alike asked after c.in_ok-import_passes-2.ensures.run) in
     omega (arith, less, same)
 
@@ -55,16 +55,16 @@ returns-clause-session g c =
     adds_trans (session_of c.args.session.now) (session_of c.resolve_macros.session) (session_of c.resolve_macros-in-resolve_macros.new.session) c.resolve_macros.invariant.adds c.resolve_macros-in-resolve_macros.ensures.session
 
 pub returns-clause-run : goal.returns-clause-run
-returns-clause-run g c = collects_trans c.resolve_macros.invariant.run c.in_ok-resolve_macros.ensures.run
+returns-clause-run g c = collects_trans c.resolve_macros.invariant.run c.in_ok-resolve_macros.ensures.turns.run
 
 pub returns-clause-sound : goal.returns-clause-sound
-returns-clause-sound g c = collects_sound c.in_ok-resolve_macros.ensures.run c.resolve_macros.invariant.sound
+returns-clause-sound g c = collects_sound c.in_ok-resolve_macros.ensures.turns.run c.resolve_macros.invariant.sound
 
 pub returns-clause-settled : goal.returns-clause-settled
 returns-clause-settled g c =
     let before = state_of c.resolve_macros.collector c.resolve_macros.session in
     let after = state_of c.resolve_macros-in-resolve_macros.new.collector c.resolve_macros-in-resolve_macros.new.session in
     record {
-      imports = none_ready_same (g.D.SourceDatabase.oracle c.args.db.now) before after (c.in_ok-resolve_macros.ensures.still c.if-branch.false) c.resolve_macros.invariant.ready;
+      imports = none_ready_same (g.D.SourceDatabase.oracle c.args.db.now) before after (c.in_ok-resolve_macros.ensures.turns.still c.if-branch.false) c.resolve_macros.invariant.ready;
       macros = c.in_ok-resolve_macros.ensures.none c.if-branch.false;
     }

@@ -1,11 +1,13 @@
 use Rattle.std.proofs.Common.{arith, List, ◌∷◌, ◌++◌, ◌∙◌, subst, sym}
 use Rattle.def_items.specs.Parts.{list_site}
+use Rattle.def_collector.specs.declared.collector.DefCollector.{DefCollector}
 use Rattle.def_collector.specs.Collector.{state_of}
 use Rattle.def_collector.specs.Walk.{inner_of}
 use Rattle.def_rules.specs.State.{State, Task, Visit}
+use Rattle.def_laws.specs.Performs.{Handled}
 use Rattle.def_laws.specs.Runs.{Leads}
 use Rattle.def_imports.proofs.ResultLaws.{if_both, if_ok}
-use Rattle.def_laws.proofs.StepsLaws.{leads_handled, leads_nothing}
+use Rattle.def_laws.proofs.StepsLaws.{leads_handled, leads_nothing, leads_waits}
 use Rattle.def_collector.proofs.VisitLemmas.{inner_few, node_of, not_disabled, visited_disabled}
 use Rattle.def_laws.proofs.WorkLaws.{handled_less, nothing_less}
 use Rattle.def_collector.proofs.stack.visit.Goals as goal
@@ -25,20 +27,39 @@ returns-in-Some-disabled-clause-run g c =
 pub returns-in-Some-disabled-clause-fewer : goal.returns-in-Some-disabled-clause-fewer
 returns-in-Some-disabled-clause-fewer g c = nothing_less (list_site c.args.list.now) c.args.id
 
+pub returns-then-branch-clause-run : goal.returns-then-branch-clause-run
+returns-then-branch-clause-run g c =
+    let oracle = g.D.SourceDatabase.oracle c.args.db.now in
+    let session = c.args.session.now in
+    let before : DefCollector = record c.args.collector.now { diagnostics = c.report_disabled_item.new.diagnostics } in
+    let after : State = state_of c.queue_awaited.new.collector session in
+    let waits = c.in_ok-queue_awaited.ensures.waits c.if-branch.true session in
+    subst (λ x. (rest : List Task) → Leads oracle (Visit (list_site c.args.list.now) c.args.id ∷ rest) (state_of x session) rest after)
+    (not_disabled c.args.collector.now c.report_disabled_item.new.diagnostics c.in_ok-disabled.disabled c.in_default-disabled.is c.in_ok-disabled.ensures.same)
+    (leads_waits (state_of before session) after (list_site c.args.list.now) c.args.id c.in-Some.node.now waits.attr
+    (node_of oracle c.args.list.now c.args.id _ c.requires c.in-Some.ensures) (sym c.in_ok-disabled.ensures.cfg ∙ c.in_default-disabled.is) waits.awaited waits.waits)
+
+pub returns-then-branch-clause-fewer : goal.returns-then-branch-clause-fewer
+returns-then-branch-clause-fewer g c = nothing_less (list_site c.args.list.now) c.args.id
+
 pub returns-clause-run : goal.returns-clause-run
 returns-clause-run g c =
     let oracle = g.D.SourceDatabase.oracle c.args.db.now in
-    let after = state_of c.collect_item.new.collector c.collect_item.new.session in
+    let session = c.args.session.now in
+    let before : DefCollector = record c.args.collector.now { diagnostics = c.report_disabled_item.new.diagnostics } in
+    let after : State = state_of c.collect_item.new.collector c.collect_item.new.session in
+    let quiet = c.in_ok-queue_awaited.ensures.same c.if-branch.false in
     if_ok c.collect_item.result c.collect_item.ensures.handled (λ opened handled.
-    subst (λ x. (rest : List Task) → Leads oracle (Visit (list_site c.args.list.now) c.args.id ∷ rest) (state_of x c.args.session.now) (inner_of oracle opened ++ rest) after)
+    subst (λ x. (rest : List Task) → Leads oracle (Visit (list_site c.args.list.now) c.args.id ∷ rest) (state_of x session) (inner_of oracle opened ++ rest) after)
     (not_disabled c.args.collector.now c.report_disabled_item.new.diagnostics c.in_ok-disabled.disabled c.in_default-disabled.is c.in_ok-disabled.ensures.same)
-    (leads_handled (state_of (record c.args.collector.now { diagnostics = c.report_disabled_item.new.diagnostics }) c.args.session.now) after (list_site c.args.list.now) c.args.id c.in-Some.node.now (inner_of oracle opened)
-    (node_of oracle c.args.list.now c.args.id _ c.requires c.in-Some.ensures) (sym c.in_ok-disabled.ensures.cfg ∙ c.in_default-disabled.is) handled))
+    (leads_handled (state_of before session) after (list_site c.args.list.now) c.args.id c.in-Some.node.now (inner_of oracle opened)
+    (node_of oracle c.args.list.now c.args.id _ c.requires c.in-Some.ensures) (sym c.in_ok-disabled.ensures.cfg ∙ c.in_default-disabled.is) (quiet.1 session)
+    (subst (λ x. Handled oracle (state_of x session) after (list_site c.args.list.now) c.in-Some.node.now (inner_of oracle opened)) quiet.0 handled)))
 
 pub returns-clause-fewer : goal.returns-clause-fewer
 returns-clause-fewer g c =
     let oracle = g.D.SourceDatabase.oracle c.args.db.now in
-    let before : State = state_of (record c.args.collector.now { diagnostics = c.report_disabled_item.new.diagnostics }) c.args.session.now in
+    let before : State = state_of c.queue_awaited.new.collector c.args.session.now in
     if_both c.collect_item.result c.collect_item.ensures.handled c.collect_item.ensures.known (λ opened handled known.
     handled_less oracle before (state_of c.collect_item.new.collector c.collect_item.new.session) (list_site c.args.list.now) c.args.id c.in-Some.node.now (inner_of oracle opened)
     (node_of oracle c.args.list.now c.args.id _ c.requires c.in-Some.ensures) (omega (arith, c.well_formed)) (inner_few oracle opened known) handled)
