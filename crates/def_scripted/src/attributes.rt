@@ -1,6 +1,7 @@
 //! Attributes.
 
 use crate::fault::Stop;
+use crate::paths::path;
 use crate::reader::Reader;
 use crate::tokens::{Keyword, Token};
 use item_tree::{
@@ -108,10 +109,10 @@ fn set_arguments(reader: &mut Reader, attr: &mut Attr) -> Result<(), Stop> {
     }
 }
 
-/// An attribute that is no condition, from behind its name on.
-fn named(reader: &mut Reader, name: Name) -> Result<Attr, Stop> {
+/// An attribute that is no condition.
+fn attribute(reader: &mut Reader) -> Result<Attr, Stop> {
     let mut attr = Attr {
-        path: word(reader.alloc, name)?,
+        path: path(reader)?,
         input: None,
         ctxt: SyntaxContext(0),
         paths: None,
@@ -138,8 +139,7 @@ pub fn add_attribute(reader: &mut Reader, written: &mut Written) -> Result<(), S
     if reader.takes(Token::Word(Keyword::Cfg)) {
         add_cfg(reader, written)?;
     } else {
-        let name = reader.name()?;
-        written.list.push(named(reader, name)?)?;
+        written.list.push(attribute(reader)?)?;
     }
     reader.expect(']')
 }

@@ -19,6 +19,9 @@ mod variants;
 pub use fault::{Fault, ReadFault};
 pub use items::{ReadEnum, ReadFile};
 pub use lines::print;
-pub use script::{ALONE, BuiltinText, CALL, CallText, CrateText, DependencyText, Vector};
+pub use script::{
+    ALONE, BuiltinAttrText, BuiltinText, CALL, CallText, CrateText, DependencyText, StyleText,
+    Vector,
+};
 pub use trees::read;
 pub use variants::ReadVariant;

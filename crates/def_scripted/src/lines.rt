@@ -330,6 +330,12 @@ fn kind_words(kind: &DefDiagnosticKind) -> (Word<'static>, Word<'static>) {
         DefDiagnosticKind::UnresolvedMacroCall { kind, .. } => {
             (Word::Text("unresolved-macro"), caller_word(*kind))
         }
+        DefDiagnosticKind::InvalidDeriveTarget { id } => {
+            (Word::Text("invalid-derive-target"), Word::Number("", id.0))
+        }
+        DefDiagnosticKind::MalformedDerive { id } => {
+            (Word::Text("malformed-derive"), Word::Number("", id.0))
+        }
         DefDiagnosticKind::UnimplementedBuiltinMacro => {
             (Word::Text("unimplemented-builtin"), Word::Bare(""))
         }

@@ -1,7 +1,8 @@
 //! How scripted workspaces are written down: as constant data, with the text of each file.
 
 use def_ids::{Edition, MacroId, MacroRulesId};
-use item_tree::{FileId, HirFileId};
+use def_locs::BuiltinAttr;
+use item_tree::{FileId, HirFileId, MacroCallStyles};
 
 /// A crate on which another one depends.
 pub struct DependencyText {
@@ -27,7 +28,20 @@ pub struct BuiltinText {
     pub number: u32,
 }
 
-/// A macro call that is answered, where this macro is found for its path.
+/// A builtin attribute macro.
+pub struct BuiltinAttrText {
+    pub name: &'static str,
+    pub attr: BuiltinAttr,
+}
+
+/// A macro that may be called in these ways, and not only as `m!(..)`: where it stands.
+pub struct StyleText {
+    pub file: HirFileId,
+    pub ast_id: usize,
+    pub styles: MacroCallStyles,
+}
+
+/// A macro call or an attribute's that is answered, where this macro is found for its path.
 #[derive(Clone, Copy)]
 pub struct CallText {
     /// Where it stands: the file, and the item's number.
@@ -37,6 +51,8 @@ pub struct CallText {
     /// The text of its expansion.
     pub gives: &'static str,
     pub is_include: bool,
+    /// Whether an attribute of the item calls the macro.
+    pub is_attr: bool,
     /// The error of its answer.
     pub err: Option<u32>,
     /// Whether its answer names no call.
@@ -51,6 +67,7 @@ pub const CALL: CallText = CallText {
     of: MacroId::MacroRules(MacroRulesId(0)),
     gives: "",
     is_include: false,
+    is_attr: false,
     err: None,
     is_silent: false,
 };
@@ -66,8 +83,12 @@ pub struct Vector {
     pub paths: &'static [(&'static str, usize)],
     pub crates: &'static [CrateText],
     pub builtin_types: &'static [BuiltinText],
+    pub builtin_attrs: &'static [BuiltinAttrText],
+    /// The words that `cfg` knows of the crate that is shown.
+    pub flags: &'static [&'static str],
     /// The macro calls that are answered, each with its place as its number.
     pub calls: &'static [CallText],
+    pub styles: &'static [StyleText],
 }
 
 /// A crate of edition 2021 on its own, in one file without items. Other vectors are this one with
@@ -83,5 +104,8 @@ pub const ALONE: Vector = Vector {
         deps: &[],
     }],
     builtin_types: &[],
+    builtin_attrs: &[],
+    flags: &[],
     calls: &[],
+    styles: &[],
 };

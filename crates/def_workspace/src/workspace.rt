@@ -61,6 +61,31 @@ impl Workspace {
             let name = self.session.intern_name(text.name)?;
             self.db.add_builtin(name, text.number)?;
         }
+        self.add_macros(vector)?;
+        Ok(())
+    }
+
+    /// Adds how the macros of a vector are called, its builtin attributes, and the flags of the crate
+    /// that is shown.
+    fn add_macros(&mut self, vector: &Vector) -> Result<(), AllocError> {
+        for text in vector.builtin_attrs {
+            let name = self.session.intern_name(text.name)?;
+            self.db.add_builtin_attr(name, text.attr)?;
+        }
+        for text in vector.styles {
+            let position = InFile {
+                file: text.file,
+                value: FileAstId(text.ast_id),
+            };
+            self.db.add_styles(position, text.styles)?;
+        }
+        let Some(krate) = vector.crates.last() else {
+            return Ok(());
+        };
+        for flag in vector.flags {
+            let name = self.session.intern_name(flag)?;
+            self.db.add_flag(Crate(krate.krate), name)?;
+        }
         Ok(())
     }
 
@@ -119,12 +144,15 @@ impl Workspace {
         self.db.add_variants(position, variants)
     }
 
-    /// Adds the answer of a macro call.
+    /// Adds the answer of a macro call, or the call of an attribute macro.
     fn add_answer(&mut self, call: MacroCallId, text: &CallText) -> Result<(), AllocError> {
         let position = InFile {
             file: text.file,
             value: FileAstId(text.ast_id),
         };
+        if text.is_attr {
+            return self.db.add_attr_call(position, text.of, call);
+        }
         let answer = CallAnswer {
             value: if text.is_silent { None } else { Some(call) },
             err: text.err,

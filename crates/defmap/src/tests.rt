@@ -1,6 +1,7 @@
 //! What no contract says: the printed lines, and worked rows over scripted crates.
 
 mod answers;
+mod attributes;
 mod attrs;
 mod calls;
 mod examples;
