@@ -278,7 +278,7 @@ fn attributes_wait_for_macros(rt: HostRuntime) -> Result<(), Fault> {
     expect_rows(&rt, rt.alloc(), &LEFT)
 }
 
-static PASSED_OVER: [Row; 6] = [
+static PASSED_OVER: [Row; 7] = [
     (
         Vector {
             name: "tests stay as they are where tests are compiled",
@@ -337,6 +337,54 @@ binding 0 other macros macro:0 pub decl
 binding 0 test macros macro:0 pub decl
 left macro 0 attr nope
 left macro 0 attr nix
+",
+    ),
+    (
+        Vector {
+            name: "what is queued in a pass has its turn in the next",
+            files: &[
+                "mod m { pub macro at {} } use m::*; pub macro two {}
+                #[rustc_builtin_macro] pub macro test {} #[test] #[at] pub fn f() {}
+                crate::two!();",
+            ],
+            styles: &[
+                StyleText { ast_id: 1, ..AT },
+                StyleText {
+                    file: HirFileId::Macro(MacroCallId(0)),
+                    ..AT
+                },
+            ],
+            calls: &[
+                CallText {
+                    ast_id: 6,
+                    of: SECOND_ITEM,
+                    gives: "macro_rules! at {}",
+                    ..CALL
+                },
+                CallText {
+                    ast_id: 5,
+                    gives: "pub struct A;",
+                    ..ON_ITEM
+                },
+                CallText {
+                    ast_id: 5,
+                    is_attr: true,
+                    gives: "pub struct B;",
+                    ..CALL
+                },
+            ],
+            ..WITH_TESTS
+        },
+        "module 0 - crate
+module 1 0 m
+binding 0 B types struct:0 pub decl
+binding 0 B values struct:0 pub decl
+binding 0 at macros macro:0 in:0 glob:0.0
+binding 0 m types mod:1 in:0 decl
+binding 0 test macros macro:2 pub decl
+binding 0 two macros macro:1 pub decl
+binding 1 at macros macro:0 pub decl
+edge 1 0 in:0 0.0
 ",
     ),
     (
