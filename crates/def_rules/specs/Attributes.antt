@@ -11,8 +11,6 @@ use Rattle.item_tree.specs.declared.items.ItemNode.{ItemNode}
 use Rattle.item_tree.specs.declared.items.ModItemKind.{ModItemKind}
 use Rattle.item_tree.specs.declared.items.ModItemKind.TheVariants.{Struct, Union, Enum}
 use Rattle.item_tree.specs.declared.mod_path.ModPath.{ModPath}
-use Rattle.item_tree.specs.declared.mod_path.PathKind.{PathKind}
-use Rattle.item_tree.specs.declared.mod_path.PathKind.TheVariants.{Plain}
 use Rattle.item_tree.specs.declared.name.Name.{Name}
 use Rattle.item_tree.specs.Attrs.{attrs_of, iter_after}
 use Rattle.item_tree.specs.KnownNames.{test_name}
@@ -32,6 +30,7 @@ use Rattle.def_oracle.specs.Oracle.{Oracle}
 use Rattle.def_oracle.specs.Queries.{PlainAttrCall}
 use Rattle.def_paths.specs.declared.asked.BuiltinShadowMode.TheVariants as shadow
 use Rattle.def_paths.specs.declared.per_ns.MacroSubNs.TheVariants as sub
+use Rattle.def_paths.specs.OuterMaps.{is_plain}
 use Rattle.def_paths.specs.Paths.{resolver}
 use Rattle.def_paths.specs.Sources.{World}
 use Rattle.def_rules.specs.declared.diagnostics.DefDiagnosticKind.{DefDiagnosticKind}
@@ -46,11 +45,6 @@ abbrev pub are_known : Oracle → List Name → List Name → Bool
 are_known oracle tools [] = false
 are_known oracle tools (name ∷ []) = is_listed tools name || oracle.is_builtin_attr name
 are_known oracle tools (name ∷ next ∷ rest) = is_listed tools name
-
--- whether a path has no word before it
-abbrev pub is_plain : PathKind → Bool
-is_plain Plain = true
-is_plain _ = false
 
 -- whether a path is that of a builtin attribute, or of one of these tools'
 abbrev pub is_builtin_or_registered_attr : Oracle → List Name → ModPath → Bool
