@@ -15,17 +15,22 @@ use Rattle.def_modules.specs.Updates.{set_where}
 use Rattle.def_database.specs.Database.{file_id_eq, path_in, tree_eq}
 use Rattle.def_database.specs.Filling.{with_lead}
 
-module _ {K X Y S : Type 0} (eq : K → K → Bool) (f : X → Y) (old new : IndexMap K X S) (k : K) (x : X) where
-  -- a write, where each value is shown by a function
-  pub shown-set : ((q : K) → get eq new q ≡ cond (eq k q) (Some x) (get eq old q)) → (λ (q : K). option_map f (get eq new q)) ≡ set_where (eq k) (Some (f x)) (λ (q : K). option_map f (get eq old q))
-  shown-set written = λ i q. at q i
+module _ {K X Y S : Type 0} (eq : K → K → Bool) (f : Option X → Y) (old new : IndexMap K X S) (k : K) (x : X) where
+  -- a write, where what is found is read by a function
+  pub read-set : ((q : K) → get eq new q ≡ cond (eq k q) (Some x) (get eq old q)) → (λ (q : K). f (get eq new q)) ≡ set_where (eq k) (f (Some x)) (λ (q : K). f (get eq old q))
+  read-set written = λ i q. at q i
     where
-      by : (b : Bool) (o : Option X) → option_map f (cond b (Some x) o) ≡ cond b (Some (f x)) (option_map f o)
+      by : (b : Bool) (o : Option X) → f (cond b (Some x) o) ≡ cond b (f (Some x)) (f o)
       by true o = refl
       by false o = refl
 
-      at : (q : K) → option_map f (get eq new q) ≡ set_where (eq k) (Some (f x)) (λ (q : K). option_map f (get eq old q)) q
-      at q = ap (option_map f) (written q) ∙ by (eq k q) (get eq old q)
+      at : (q : K) → f (get eq new q) ≡ set_where (eq k) (f (Some x)) (λ (q : K). f (get eq old q)) q
+      at q = ap f (written q) ∙ by (eq k q) (get eq old q)
+
+-- a write, where each value is shown by a function
+pub shown-set : {K X Y S : Type 0} (eq : K → K → Bool) (f : X → Y) (old new : IndexMap K X S) (k : K) (x : X)
+    → ((q : K) → get eq new q ≡ cond (eq k q) (Some x) (get eq old q)) → (λ (q : K). option_map f (get eq new q)) ≡ set_where (eq k) (Some (f x)) (λ (q : K). option_map f (get eq old q))
+shown-set eq f = read-set eq (option_map f)
 
 abbrev tree_at : HirFileId → Option BlockId → TreeId
 tree_at file block = record { file = file; block = block }

@@ -10,9 +10,11 @@ use Rattle.def_modules.specs.MapState.{Position}
 use Rattle.def_modules.specs.Updates.{set_where}
 use Rattle.def_map.specs.Oracle.{Oracle}
 use Rattle.def_map.specs.Queries.{PlainCall, PlainAttrCall}
+use Rattle.def_oracle.specs.declared.source_database.DeriveCallQuery.{DeriveCallQuery}
 use Rattle.def_oracle.specs.declared.source_database.CallAnswer.{CallAnswer}
 use Rattle.def_oracle.specs.declared.source_database.UnresolvedMacro.{UnresolvedMacro}
 use Rattle.def_database.specs.declared.database.CallKey.{CallKey}
+use Rattle.def_database.specs.declared.database.DeriveCallKey.{DeriveCallKey}
 
 -- whether two macro calls are one
 abbrev pub call_eq : MacroCallId → MacroCallId → Bool
@@ -21,6 +23,10 @@ call_eq a b = a.0 == b.0
 -- whether two calls are at one position, and of one macro
 abbrev pub call_key_eq : CallKey → CallKey → Bool
 call_key_eq a b = position_eq a.position b.position && macro_eq a.macro_id b.macro_id
+
+-- whether two calls of derives are at one place of one attribute's list, and of one macro
+abbrev pub derive_call_key_eq : DeriveCallKey → DeriveCallKey → Bool
+derive_call_key_eq a b = position_eq a.position b.position && ((a.attr_id.0 == b.attr_id.0) && ((a.pos == b.pos) && macro_eq a.macro_id b.macro_id))
 
 -- what a call is answered by, where this macro is found for its path
 abbrev pub key_of : PlainCall → MacroDefId → CallKey
@@ -62,6 +68,18 @@ attr_call calls query = unwrap_or (calls (attr_key query)) no_call
 abbrev pub with_attr_call : Oracle → Position → MacroId → MacroCallId → Oracle
 with_attr_call o position macro_id call =
     record o { make_attr_call = λ query. cond (call_key_eq (record { position = position; macro_id = macro_id }) (attr_key query)) call (o.make_attr_call query) }
+
+-- what the call of a derive is found by
+abbrev pub derive_call_key : DeriveCallQuery → DeriveCallKey
+derive_call_key query = record { position = query.position; attr_id = query.attr_id; pos = query.pos; macro_id = query.macro_def.id }
+
+-- the call of a derive
+abbrev pub derive_call : (DeriveCallKey → Option MacroCallId) → DeriveCallQuery → MacroCallId
+derive_call calls query = unwrap_or (calls (derive_call_key query)) no_call
+
+-- the call of a derive at a place of an attribute's list
+abbrev pub with_derive_call : Oracle → DeriveCallKey → MacroCallId → Oracle
+with_derive_call o key call = record o { make_derive_call = λ query. cond (derive_call_key_eq key (derive_call_key query)) call (o.make_derive_call query) }
 
 -- the ways in which the macro at a position may be called
 abbrev pub with_styles : Oracle → Position → MacroCallStyles → Oracle

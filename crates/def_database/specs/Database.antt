@@ -1,5 +1,6 @@
 -- What a database whose answers were written down answers.
-use Rattle.std.specs.Prelude.{Bool, false, ◌==◌, ◌&&◌, ◌||◌, nat_le, List, [], ◌∷◌, ℕ, String, Option, Some, None, option_map, unwrap_or}
+use Rattle.std.specs.Prelude.{Bool, false, ◌==◌, ◌&&◌, ◌||◌, nat_le, List, [], ◌∷◌, ℕ, String, Option, Some, None, option_map, unwrap_or, is_some, nat_eq}
+use Rattle.std.specs.Option.{option_map_or}
 use Rattle.indexmap.specs.IndexMap.{IndexMap, get, get_by_text}
 use Rattle.indexmap.specs.IndexSet.{contains}
 use Rattle.item_tree.specs.declared.ids.BlockId.{BlockId}
@@ -17,7 +18,7 @@ use Rattle.def_modules.specs.Locals.{local_view}
 use Rattle.def_map.specs.Oracle.{Oracle}
 use Rattle.def_database.specs.declared.database.CfgFlag.{CfgFlag}
 use Rattle.def_database.specs.declared.database.Database.{Database}
-use Rattle.def_database.specs.Calls.{attr_call, call_answer, call_eq, call_key_eq}
+use Rattle.def_database.specs.Calls.{attr_call, call_answer, call_eq, call_key_eq, derive_call, derive_call_key_eq}
 
 -- whether two trees are one
 abbrev pub tree_eq : TreeId → TreeId → Bool
@@ -72,7 +73,7 @@ answers_of s =
       asked_paths = λ query. query.path ∷ [];
       macro_call = call_answer (get call_key_eq s.calls.answers);
       make_attr_call = attr_call (get call_key_eq s.calls.attrs);
-      make_derive_call = λ query. record { 0 = 0 };
+      make_derive_call = derive_call (get derive_call_key_eq s.calls.derives);
       is_include = contains call_eq s.calls.includes;
       enum_variants = λ loc. option_map (λ v. v.items) (get position_eq s.types.variants loc.position);
       assoc_items = λ owner. None;
@@ -83,9 +84,9 @@ answers_of s =
       find_builtin_attr = λ name. get is_name s.builtins.attrs name;
       builtin_type = λ name. get is_name s.types.builtin name;
       is_builtin_attr = λ name. is_read_attr name || contains is_name s.builtins.inert name;
-      has_builtin_derive_impl = λ derive. false;
-      derive_traits = λ derive. [];
+      has_builtin_derive_impl = λ derive. is_some (get nat_eq s.builtins.derive_traits derive);
+      derive_traits = λ derive. option_map_or (λ v. v.items) (get nat_eq s.builtins.derive_traits derive) [];
       cfg_flag = λ krate name. contains flag_eq s.crates.flags (record { krate = krate; name = name });
-      builtin_derive_fast_path = false;
+      builtin_derive_fast_path = s.builtins.derive_fast_path;
       expand_proc_attr_macros = false;
     }

@@ -1,5 +1,5 @@
 -- What a database answers once something more is written down: what is given, and all else as before.
-use Rattle.std.specs.Prelude.{ℕ, true, ◌&&◌, cond, List, Option, Some, bytes_eq}
+use Rattle.std.specs.Prelude.{ℕ, Bool, true, ◌&&◌, nat_eq, cond, List, Option, Some, bytes_eq}
 use Rattle.either.specs.declared.Either.{Either}
 use Rattle.item_tree.specs.declared.ids.BlockId.{BlockId}
 use Rattle.item_tree.specs.declared.ids.Crate.{Crate}
@@ -60,6 +60,18 @@ with_builtin_macro o name found = record o { find_builtin_macro = set_where (is_
 -- the builtin derive of a name
 abbrev pub with_builtin_derive : Oracle → Name → ℕ → Oracle
 with_builtin_derive o name number = record o { find_builtin_derive = set_where (is_name name) (Some number) o.find_builtin_derive }
+
+-- the traits of which a builtin derive gives impls with no expansion
+abbrev pub with_derive_traits : Oracle → ℕ → List ℕ → Oracle
+with_derive_traits o number traits =
+    record o {
+      has_builtin_derive_impl = set_where (nat_eq number) true o.has_builtin_derive_impl;
+      derive_traits = set_where (nat_eq number) traits o.derive_traits;
+    }
+
+-- whether builtin derives give impls with no expansion where they can
+abbrev pub with_derive_fast_path : Oracle → Bool → Oracle
+with_derive_fast_path o on = record o { builtin_derive_fast_path = on }
 
 -- the builtin attribute of a name
 abbrev pub with_builtin_attr : Oracle → Name → BuiltinAttr → Oracle

@@ -11,8 +11,8 @@ use def_map::{
 use either::Either;
 use indexmap::{IndexMap, IndexSet};
 use item_tree::{
-    BlockId, Crate, FileAstId, FileId, HirFileId, InFile, ItemTree, MacroCallId, MacroCallStyles,
-    Name, Seq, TreeId,
+    AttrId, BlockId, Crate, FileAstId, FileId, HirFileId, InFile, ItemTree, MacroCallId,
+    MacroCallStyles, Name, Seq, TreeId,
 };
 use std::alloc::{AllocError, Global};
 
@@ -42,11 +42,14 @@ pub struct Types {
 
 /// The builtin macros, derives and attribute macros, by their names. Of the macros those on the left
 /// are expanded as they stand, those on the right are eager. Attributes that are no macros are inert;
-/// those that definitions are collected by are so without being listed.
+/// those that definitions are collected by are so without being listed. A derive that gives impls with
+/// no expansion has their traits, by its number.
 #[derive(Drop)]
 pub struct Builtins {
     pub macros: IndexMap<Name, Either<u32, u32>>,
     pub derives: IndexMap<Name, u32>,
+    pub derive_traits: IndexMap<u32, Vec<u32>>,
+    pub derive_fast_path: bool,
     pub attrs: IndexMap<Name, BuiltinAttr>,
     pub inert: IndexSet<Name>,
 }
@@ -58,12 +61,23 @@ pub struct CallKey {
     pub macro_id: MacroId,
 }
 
-/// What macro calls and attribute macros give, which calls are calls of `include!`, and in which ways
-/// the macro at a position may be called.
+/// The call of a derive at a place of an attribute's list, of the macro that is found for its path.
+#[derive(Clone, Copy, PartialEq, Eq, Hash)]
+pub struct DeriveCallKey {
+    /// The item that has the attribute.
+    pub position: InFile<FileAstId>,
+    pub attr_id: AttrId,
+    pub pos: usize,
+    pub macro_id: MacroId,
+}
+
+/// What macro calls, attribute macros and derives give, which calls are calls of `include!`, and in
+/// which ways the macro at a position may be called.
 #[derive(Drop)]
 pub struct Calls {
     pub answers: IndexMap<CallKey, CallAnswer>,
     pub attrs: IndexMap<CallKey, MacroCallId>,
+    pub derives: IndexMap<DeriveCallKey, MacroCallId>,
     pub includes: IndexSet<MacroCallId>,
     pub styles: IndexMap<InFile<FileAstId>, MacroCallStyles>,
 }
@@ -76,9 +90,9 @@ pub struct CfgFlag {
 }
 
 /// A database whose answers were written down. A macro call asks the resolver for its path alone,
-/// and gives nothing where nothing was written down of the macro that is found; an attribute macro
-/// then gives a call without items. A macro is called as `m!(..)` where nothing else was written down.
-/// The source file of each expansion is file 0.
+/// and gives nothing where nothing was written down of the macro that is found; an attribute macro or
+/// a derive then gives a call without items. A macro is called as `m!(..)` where nothing else was
+/// written down. The source file of each expansion is file 0.
 pub struct Database {
     pub files: Files,
     pub crates: Crates,
@@ -121,12 +135,15 @@ impl Database {
             builtins: Builtins {
                 macros: IndexMap::new(alloc),
                 derives: IndexMap::new(alloc),
+                derive_traits: IndexMap::new(alloc),
+                derive_fast_path: false,
                 attrs: IndexMap::new(alloc),
                 inert: IndexSet::new(alloc),
             },
             calls: Calls {
                 answers: IndexMap::new(alloc),
                 attrs: IndexMap::new(alloc),
+                derives: IndexMap::new(alloc),
                 includes: IndexSet::new(alloc),
                 styles: IndexMap::new(alloc),
             },
@@ -229,8 +246,17 @@ impl SourceDatabase for Database {
         }
     }
 
-    fn make_derive_call(&self, _query: DeriveCallQuery) -> MacroCallId {
-        MacroCallId(0)
+    fn make_derive_call(&self, query: DeriveCallQuery) -> MacroCallId {
+        let key = DeriveCallKey {
+            position: query.position,
+            attr_id: query.attr_id,
+            pos: query.pos,
+            macro_id: query.macro_def.id,
+        };
+        match self.calls.derives.get(&key) {
+            Some(call) => *call,
+            None => MacroCallId(usize::MAX),
+        }
     }
 
     fn is_include(&self, call: MacroCallId) -> bool {
@@ -279,12 +305,15 @@ impl SourceDatabase for Database {
         is_read_attr(name) || self.builtins.inert.contains(&name)
     }
 
-    fn has_builtin_derive_impl(&self, _derive: u32) -> bool {
-        false
+    fn has_builtin_derive_impl(&self, derive: u32) -> bool {
+        self.builtins.derive_traits.contains_key(&derive)
     }
 
-    fn derive_traits(&self, _derive: u32) -> &[u32] {
-        &[]
+    fn derive_traits(&self, derive: u32) -> &[u32] {
+        match self.builtins.derive_traits.get(&derive) {
+            Some(traits) => traits.as_slice(),
+            None => &[],
+        }
     }
 
     fn cfg_flag(&self, krate: Crate, name: Name) -> bool {
@@ -292,7 +321,7 @@ impl SourceDatabase for Database {
     }
 
     fn builtin_derive_fast_path(&self) -> bool {
-        false
+        self.builtins.derive_fast_path
     }
 
     fn expand_proc_attr_macros(&self) -> bool {

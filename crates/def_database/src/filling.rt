@@ -2,11 +2,11 @@
 ghost use Rattle.std.specs.Prelude.{◌≡◌, Some, bytes_eq, OnOk, OnErr};
 ghost use Rattle.indexmap.specs.IndexMap.{get_by_text};
 ghost use Rattle.def_modules.specs.Updates.{set_where};
-ghost use Rattle.def_database.specs.Calls.{with_attr_call, with_call, with_include, with_styles};
+ghost use Rattle.def_database.specs.Calls.{with_attr_call, with_call, with_derive_call, with_include, with_styles};
 ghost use Rattle.def_database.specs.Database.{answers_of, leads};
-ghost use Rattle.def_database.specs.Filling.{with_tree, with_path, with_crate, with_maps, with_outer_map, with_variants, with_builtin, with_builtin_attr, with_builtin_derive, with_builtin_macro, with_flag, with_inert_attr, with_lead};
+ghost use Rattle.def_database.specs.Filling.{with_tree, with_path, with_crate, with_maps, with_outer_map, with_variants, with_builtin, with_builtin_attr, with_builtin_derive, with_builtin_macro, with_derive_fast_path, with_derive_traits, with_flag, with_inert_attr, with_lead};
 
-use crate::database::{CallKey, CfgFlag, Database};
+use crate::database::{CallKey, CfgFlag, Database, DeriveCallKey};
 use def_ids::MacroId;
 use def_locs::BuiltinAttr;
 use def_map::{CallAnswer, CrateData, DefMap, EnumVariant, LocalDefMap};
@@ -113,6 +113,22 @@ impl Database {
         Ok(())
     }
 
+    /// Lets a builtin derive, by its number, give impls of these traits with no expansion.
+    pub fn add_derive_traits(&mut self, number: u32, traits: Vec<u32>) -> Result<(), AllocError>
+        ensures ok { OnOk result (answers_of self.new ≡ with_derive_traits (answers_of self.old) number traits.items) }
+        ensures err { OnErr result (answers_of self.new ≡ answers_of self.old) }
+    {
+        self.builtins.derive_traits.insert(number, traits)?;
+        Ok(())
+    }
+
+    /// Says whether builtin derives give impls with no expansion where they can.
+    pub fn set_derive_fast_path(&mut self, on: bool)
+        ensures { answers_of self.new ≡ with_derive_fast_path (answers_of self.old) on }
+    {
+        self.builtins.derive_fast_path = on;
+    }
+
     /// Makes a name that of a builtin attribute.
     pub fn add_builtin_attr(&mut self, name: Name, attr: BuiltinAttr) -> Result<(), AllocError>
         ensures ok { OnOk result (answers_of self.new ≡ with_builtin_attr (answers_of self.old) name attr) }
@@ -149,6 +165,19 @@ impl Database {
     {
         let key = CallKey { position, macro_id };
         self.calls.attrs.insert(key, call)?;
+        Ok(())
+    }
+
+    /// Gives a derive its call, at a place of an attribute's list.
+    pub fn add_derive_call(
+        &mut self,
+        key: DeriveCallKey,
+        call: MacroCallId,
+    ) -> Result<(), AllocError>
+        ensures ok { OnOk result (answers_of self.new ≡ with_derive_call (answers_of self.old) key call) }
+        ensures err { OnErr result (answers_of self.new ≡ answers_of self.old) }
+    {
+        self.calls.derives.insert(key, call)?;
         Ok(())
     }
 

@@ -4,4 +4,6 @@
 mod database;
 mod filling;
 
-pub use database::{Builtins, CallKey, Calls, CfgFlag, Crates, Database, Files, Types};
+pub use database::{
+    Builtins, CallKey, Calls, CfgFlag, Crates, Database, DeriveCallKey, Files, Types,
+};
