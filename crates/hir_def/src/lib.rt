@@ -40,7 +40,9 @@ pub use def_modules::{
 };
 
 // The oracle: its trait, what it is asked and answers, and a database to fill.
-pub use def_database::{Builtins, CallKey, Calls, CfgFlag, Crates, Database, Files, Types};
+pub use def_database::{
+    Builtins, CallKey, Calls, CfgFlag, Crates, Database, DeriveCallKey, Files, Types,
+};
 pub use def_map::{
     AssocItem, AssocItemKind, AssocItemsOwner, AssocList, AttrCallQuery, CallAnswer, CallQuery,
     CrateData, Dependency, DeriveCallQuery, EnumVariant, LangCrate, MacroResolver, SourceDatabase,
