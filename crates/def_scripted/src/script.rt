@@ -34,6 +34,16 @@ pub struct BuiltinAttrText {
     pub attr: BuiltinAttr,
 }
 
+/// A builtin derive, with its number.
+pub struct BuiltinDeriveText {
+    pub name: &'static str,
+    pub number: u32,
+    /// The traits that it implements.
+    pub traits: &'static [u32],
+    /// Whether it gives impls with no expansion.
+    pub has_impl: bool,
+}
+
 /// A macro that may be called in these ways, and not only as `m!(..)`: where it stands.
 pub struct StyleText {
     pub file: HirFileId,
@@ -41,7 +51,19 @@ pub struct StyleText {
     pub styles: MacroCallStyles,
 }
 
-/// A macro call or an attribute's that is answered, where this macro is found for its path.
+/// How a macro is called.
+#[derive(Clone, Copy)]
+pub enum CalledBy {
+    /// By a call that is the item.
+    Call,
+    /// By an attribute of the item.
+    Attr,
+    /// By a path of a derive list: the attribute's number, and the path's place.
+    Derive { attr: usize, pos: usize },
+}
+
+/// A macro call, an attribute's or a derive's that is answered, where this macro is found for its
+/// path.
 #[derive(Clone, Copy)]
 pub struct CallText {
     /// Where it stands: the file, and the item's number.
@@ -51,8 +73,7 @@ pub struct CallText {
     /// The text of its expansion.
     pub gives: &'static str,
     pub is_include: bool,
-    /// Whether an attribute of the item calls the macro.
-    pub is_attr: bool,
+    pub by: CalledBy,
     /// The error of its answer.
     pub err: Option<u32>,
     /// Whether its answer names no call.
@@ -67,7 +88,7 @@ pub const CALL: CallText = CallText {
     of: MacroId::MacroRules(MacroRulesId(0)),
     gives: "",
     is_include: false,
-    is_attr: false,
+    by: CalledBy::Call,
     err: None,
     is_silent: false,
 };
@@ -84,6 +105,9 @@ pub struct Vector {
     pub crates: &'static [CrateText],
     pub builtin_types: &'static [BuiltinText],
     pub builtin_attrs: &'static [BuiltinAttrText],
+    pub builtin_derives: &'static [BuiltinDeriveText],
+    /// Whether builtin derives give impls with no expansion where they can.
+    pub derive_fast_path: bool,
     /// The words that `cfg` knows of the crate that is shown.
     pub flags: &'static [&'static str],
     /// The macro calls that are answered, each with its place as its number.
@@ -105,6 +129,8 @@ pub const ALONE: Vector = Vector {
     }],
     builtin_types: &[],
     builtin_attrs: &[],
+    builtin_derives: &[],
+    derive_fast_path: false,
     flags: &[],
     calls: &[],
     styles: &[],
