@@ -8,14 +8,15 @@ ghost use Rattle.def_rules.specs.Headline.{Answers};
 ghost use Rattle.def_workspace.specs.Workspace.{file_tree, setting};
 
 use def_collector::{Collected, collect_defs};
-use def_database::Database;
+use def_database::{Database, DeriveCallKey};
 use def_ids::VariantId;
 use def_interner::Interner;
 use def_map::{CallAnswer, CrateData, DefMap, Dependency, EnumVariant};
 use def_scripted::{
-    CallText, CrateText, DependencyText, Fault, ReadEnum, ReadFault, ReadFile, Vector, read,
+    CallText, CalledBy, CrateText, DependencyText, Fault, ReadEnum, ReadFault, ReadFile, Vector,
+    read,
 };
-use item_tree::{Crate, FileAstId, FileId, HirFileId, InFile, MacroCallId, Seq, TreeId};
+use item_tree::{AttrId, Crate, FileAstId, FileId, HirFileId, InFile, MacroCallId, Seq, TreeId};
 use std::alloc::{AllocError, Global};
 
 /// A session, and a database whose answers are in its names.
@@ -62,6 +63,7 @@ impl Workspace {
             self.db.add_builtin(name, text.number)?;
         }
         self.add_macros(vector)?;
+        self.add_derives(vector)?;
         Ok(())
     }
 
@@ -86,6 +88,20 @@ impl Workspace {
             let name = self.session.intern_name(flag)?;
             self.db.add_flag(Crate(krate.krate), name)?;
         }
+        Ok(())
+    }
+
+    /// Adds the builtin derives of a vector, and which of them give impls with no expansion.
+    fn add_derives(&mut self, vector: &Vector) -> Result<(), AllocError> {
+        for text in vector.builtin_derives {
+            let name = self.session.intern_name(text.name)?;
+            self.db.add_builtin_derive(name, text.number)?;
+            if text.has_impl {
+                let traits = text.traits.to_vec(self.alloc)?;
+                self.db.add_derive_traits(text.number, traits)?;
+            }
+        }
+        self.db.set_derive_fast_path(vector.derive_fast_path);
         Ok(())
     }
 
@@ -144,21 +160,32 @@ impl Workspace {
         self.db.add_variants(position, variants)
     }
 
-    /// Adds the answer of a macro call, or the call of an attribute macro.
+    /// Adds the answer of a macro call, or the call of an attribute macro or a derive.
     fn add_answer(&mut self, call: MacroCallId, text: &CallText) -> Result<(), AllocError> {
         let position = InFile {
             file: text.file,
             value: FileAstId(text.ast_id),
         };
-        if text.is_attr {
-            return self.db.add_attr_call(position, text.of, call);
+        match text.by {
+            CalledBy::Call => {
+                let answer = CallAnswer {
+                    value: if text.is_silent { None } else { Some(call) },
+                    err: text.err,
+                    inner: Seq::from_vec(Vec::new(self.alloc)),
+                };
+                self.db.add_call(position, text.of, answer)
+            }
+            CalledBy::Attr => self.db.add_attr_call(position, text.of, call),
+            CalledBy::Derive { attr, pos } => {
+                let key = DeriveCallKey {
+                    position,
+                    attr_id: AttrId(attr),
+                    pos,
+                    macro_id: text.of,
+                };
+                self.db.add_derive_call(key, call)
+            }
         }
-        let answer = CallAnswer {
-            value: if text.is_silent { None } else { Some(call) },
-            err: text.err,
-            inner: Seq::from_vec(Vec::new(self.alloc)),
-        };
-        self.db.add_call(position, text.of, answer)
     }
 
     /// Adds a macro call, and the items of its expansion.

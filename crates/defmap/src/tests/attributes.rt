@@ -4,7 +4,7 @@
 use crate::tests::rows::{ITEM, Row, expect_rows};
 use def_ids::{Macro2Id, MacroId};
 use def_locs::BuiltinAttr;
-use def_workspace::{ALONE, BuiltinAttrText, CALL, CallText, Fault, StyleText, Vector};
+use def_workspace::{ALONE, BuiltinAttrText, CALL, CallText, CalledBy, Fault, StyleText, Vector};
 use item_tree::{FileId, HirFileId, MacroCallId, MacroCallStyles};
 
 /// The second `macro` item.
@@ -20,7 +20,7 @@ const AT: StyleText = StyleText {
 /// The attribute of item 1 calls the first `macro` item.
 const ON_ITEM: CallText = CallText {
     of: ITEM,
-    is_attr: true,
+    by: CalledBy::Attr,
     ..CALL
 };
 
@@ -368,7 +368,7 @@ left macro 0 attr nix
                 },
                 CallText {
                     ast_id: 5,
-                    is_attr: true,
+                    by: CalledBy::Attr,
                     gives: "pub struct B;",
                     ..CALL
                 },
