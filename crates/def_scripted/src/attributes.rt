@@ -5,7 +5,7 @@ use crate::paths::path;
 use crate::reader::Reader;
 use crate::tokens::{Keyword, Token};
 use item_tree::{
-    Attr, AttrInput, Attrs, AttrsOrCfg, CfgExpr, Leaf, ModPath, Name, PathKind, Seq, SyntaxContext,
+    Attr, AttrInput, Attrs, AttrsOrCfg, CfgExpr, Leaf, ModPath, Name, Seq, SyntaxContext,
     TopSubtreeBuilder,
 };
 use std::alloc::{AllocError, Global};
@@ -35,59 +35,89 @@ impl Written {
     }
 }
 
-/// The path of one segment.
-fn word(alloc: Global, name: Name) -> Result<ModPath, AllocError> {
-    let mut segments = Seq::from_vec(Vec::new(alloc));
-    segments.push(name)?;
-    Ok(ModPath {
-        kind: PathKind::Plain,
-        segments,
-    })
-}
-
-/// Adds the names that stand in parentheses with commas between them, and takes the closing one.
-fn add_names(reader: &mut Reader, names: &mut Seq<Name>) -> Result<(), Stop> {
-    for _ in 0..reader.left() {
+/// Adds names with commas between them, up to the closing parenthesis, which is taken.
+fn add_names(reader: &mut Reader, tokens: &mut TopSubtreeBuilder) -> Result<(), Stop> {
+    for passed in 0..reader.left() {
         let Token::Name(name) = reader.peek(0) else {
             break;
         };
         reader.skip(1);
-        names.push(name)?;
+        if passed > 0 {
+            tokens.push(Leaf::Punct(','))?;
+        }
+        tokens.push(Leaf::Ident(name))?;
         reader.comma()?;
     }
     reader.expect(')')
 }
 
-/// Names as token trees, with commas between them.
-fn name_tokens(alloc: Global, names: &[Name]) -> Result<Option<AttrInput>, AllocError> {
-    let mut tokens = TopSubtreeBuilder::new(alloc);
+/// Adds the segments of a path, with two colons between them.
+fn add_segments(tokens: &mut TopSubtreeBuilder, segments: &[Name]) -> Result<(), AllocError> {
     let mut is_due = false;
-    for name in names {
+    for name in segments {
         if is_due {
-            tokens.push(Leaf::Punct(','))?;
+            tokens.push(Leaf::Punct(':'))?;
+            tokens.push(Leaf::Punct(':'))?;
         }
         tokens.push(Leaf::Ident(*name))?;
         is_due = true;
     }
-    match tokens.build() {
-        Some(tokens) => Ok(Some(AttrInput::TokenTree(tokens))),
-        None => Ok(None),
-    }
+    Ok(())
 }
 
-/// Names as the paths that they are.
-fn name_paths(alloc: Global, names: &[Name]) -> Result<Seq<(ModPath, SyntaxContext)>, AllocError> {
-    let mut paths = Seq::from_vec(Vec::new(alloc));
-    for name in names {
-        paths.push((word(alloc, *name)?, SyntaxContext(0)))?;
+/// Adds an argument: a path, which may have names in parentheses. Answers whether it has none.
+fn add_argument(
+    reader: &mut Reader,
+    tokens: &mut TopSubtreeBuilder,
+    paths: &mut Seq<(ModPath, SyntaxContext)>,
+) -> Result<bool, Stop> {
+    let path = path(reader)?;
+    add_segments(tokens, path.segments.as_slice())?;
+    paths.push((path, SyntaxContext(0)))?;
+    if !reader.takes(Token::Mark('(')) {
+        return Ok(true);
     }
-    Ok(paths)
+    tokens.open()?;
+    add_names(reader, tokens)?;
+    tokens.close()?;
+    Ok(false)
 }
 
-/// Gives an attribute names as its arguments: as token trees, and as the paths that they are.
-fn set_names(alloc: Global, names: &[Name], attr: &mut Attr) -> Result<(), AllocError> {
-    attr.input = name_tokens(alloc, names)?;
-    attr.paths = Some(name_paths(alloc, names)?);
+/// Adds the arguments in parentheses, with commas between them, and takes the closing one. Answers
+/// whether they are paths alone.
+fn add_arguments(
+    reader: &mut Reader,
+    tokens: &mut TopSubtreeBuilder,
+    paths: &mut Seq<(ModPath, SyntaxContext)>,
+) -> Result<bool, Stop> {
+    let mut are_paths = true;
+    for passed in 0..reader.left() {
+        if reader.peek(0) == Token::Mark(')') {
+            break;
+        }
+        if passed > 0 {
+            tokens.push(Leaf::Punct(','))?;
+        }
+        if !add_argument(reader, tokens, paths)? {
+            are_paths = false;
+        }
+        reader.comma()?;
+    }
+    reader.expect(')')?;
+    Ok(are_paths)
+}
+
+/// Gives an attribute its arguments: as token trees, and as paths, where they are paths alone.
+fn set_list(reader: &mut Reader, attr: &mut Attr) -> Result<(), Stop> {
+    let mut tokens = TopSubtreeBuilder::new(reader.alloc);
+    let mut paths = Seq::from_vec(Vec::new(reader.alloc));
+    let are_paths = add_arguments(reader, &mut tokens, &mut paths)?;
+    if let Some(tokens) = tokens.build() {
+        attr.input = Some(AttrInput::TokenTree(tokens));
+    }
+    if are_paths {
+        attr.paths = Some(paths);
+    }
     Ok(())
 }
 
@@ -101,9 +131,7 @@ fn set_arguments(reader: &mut Reader, attr: &mut Attr) -> Result<(), Stop> {
         }
         (Token::Mark('('), _) => {
             reader.skip(1);
-            let mut names = Seq::from_vec(Vec::new(reader.alloc));
-            add_names(reader, &mut names)?;
-            Ok(set_names(reader.alloc, names.as_slice(), attr)?)
+            set_list(reader, attr)
         }
         _ => Ok(()),
     }
