@@ -1,3 +1,4 @@
 pub mod CallsLemmas
 pub mod WaitingLemmas
 pub mod AttrsLemmas
+pub mod DerivesLemmas

@@ -5,11 +5,11 @@ use Rattle.def_calls.specs.declared.directives.MacroDirective.{MacroDirective}
 use Rattle.def_calls.specs.Shown.{macro_directive_of, macros_in}
 use Rattle.def_rules.specs.declared.outcome.LeftMacro.{LeftMacro}
 use Rattle.def_rules.specs.Report.{left_macro}
-use Rattle.def_rules.specs.State as rules
+use Rattle.def_rules.specs.Waiting as waits
 use Rattle.def_steps.proofs.ImportListsLaws.{Around, around, present-nil, present_pushed, present_same}
 
 -- what waits at an entry
-abbrev pub entry_macros : Option MacroDirective → List rules.MacroDirective
+abbrev pub entry_macros : Option MacroDirective → List waits.MacroDirective
 entry_macros None = []
 entry_macros (Some d) = macro_directive_of d ∷ []
 
@@ -40,8 +40,8 @@ left_more left left' entries i entry so_far within is adds =
 
 -- one that waits stands between others, and these stay where it leaves
 pub record Between (entries : List (Option MacroDirective)) (i : ℕ) (d : MacroDirective) : Type 0 where
-  pub before : List rules.MacroDirective
-  pub behind : List rules.MacroDirective
+  pub before : List waits.MacroDirective
+  pub behind : List waits.MacroDirective
   pub stands : macros_in entries ≡ before ++ macro_directive_of d ∷ behind
   pub left : macros_in (slice_set entries i None) ≡ before ++ behind
 

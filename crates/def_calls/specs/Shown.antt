@@ -3,42 +3,55 @@ use Rattle.std.specs.Prelude.{◌≡◌, Bool, true, false, List, ◌∷◌, ◌
 use Rattle.def_calls.specs.declared.attrs.AttrUse.{AttrUse}
 use Rattle.def_calls.specs.declared.attrs.AttrUse.TheVariants.{PassesOver, ReadsDerives, ReplacesItem}
 use Rattle.def_calls.specs.declared.attrs.WrittenAttr.{WrittenAttr}
+use Rattle.def_calls.specs.declared.derives.DeriveList.{DeriveList}
+use Rattle.def_calls.specs.declared.derives.WrittenDerive.{WrittenDerive}
 use Rattle.def_calls.specs.declared.directives.Expansion.{Expansion}
 use Rattle.def_calls.specs.declared.directives.MacroDirective.{MacroDirective}
 use Rattle.def_calls.specs.declared.directives.MacroDirectiveKind.{MacroDirectiveKind}
-use Rattle.def_calls.specs.declared.directives.MacroDirectiveKind.TheVariants.{FnLike, Attr}
+use Rattle.def_calls.specs.declared.directives.MacroDirectiveKind.TheVariants.{FnLike, Attr, Derive}
 use Rattle.def_calls.specs.declared.directives.WrittenCall.{WrittenCall}
 use Rattle.def_modules.specs.declared.map.MapData.{MapData}
 use Rattle.def_modules.specs.Maps.{map_state}
 use Rattle.def_rules.specs.Attributes as attributes
-use Rattle.def_rules.specs.Directives.{Told, Turn, Stays, GivesCall, WalksItem, turn_effect}
+use Rattle.def_rules.specs.Derives.{derives_from}
+use Rattle.def_rules.specs.Directives.{Told, Turn, Stays, GivesCall, GivesDerive, WalksItem, turn_effect}
 use Rattle.def_steps.specs.ImportLists.{present}
 use Rattle.def_rules.specs.State as rules
+use Rattle.def_rules.specs.Waiting as waits
 
 -- a call, with its path in the place of the reference
-abbrev pub written_of : WrittenCall → rules.WrittenCall
+abbrev pub written_of : WrittenCall → waits.WrittenCall
 written_of call = record { path = call.path.now; expand_to = call.expand_to; ctxt = call.ctxt }
 
 -- an attribute, with itself in the place of the reference
-abbrev pub written_attr_of : WrittenAttr → rules.WrittenAttr
+abbrev pub written_attr_of : WrittenAttr → waits.WrittenAttr
 written_attr_of written = record { tree = written.tree_id; item = written.item; id = written.attr_id; attr = written.attr.now }
 
+-- a path of a derive's list, with itself in the place of the reference
+abbrev pub written_derive_of : WrittenDerive → waits.WrittenDerive
+written_derive_of written = record { id = written.attr_id; pos = written.pos; path = written.path.now; ctxt = written.ctxt; call = written.call }
+
+-- the derives of a list
+abbrev pub derives_in : DeriveList → List waits.WrittenDerive
+derives_in list = derives_from list.written.attr_id list.call 0 list.paths.now
+
 -- what waits for a macro
-abbrev pub kind_of : MacroDirectiveKind → rules.MacroDirectiveKind
-kind_of (FnLike call) = rules.FnLike (written_of call)
-kind_of (Attr written) = rules.Attr (written_attr_of written)
+abbrev pub kind_of : MacroDirectiveKind → waits.MacroDirectiveKind
+kind_of (FnLike call) = waits.FnLike (written_of call)
+kind_of (Attr written) = waits.Attr (written_attr_of written)
+kind_of (Derive written) = waits.Derive (written_derive_of written)
 
 -- the same with its place and depth
-abbrev pub macro_directive_of : MacroDirective → rules.MacroDirective
+abbrev pub macro_directive_of : MacroDirective → waits.MacroDirective
 macro_directive_of d = record { scope = d.module_id; container = d.container; position = d.position; depth = d.depth; kind = kind_of d.kind }
 
 -- what waits for macros, in a list whose places may be empty
-abbrev pub macros_in : List (Option MacroDirective) → List rules.MacroDirective
+abbrev pub macros_in : List (Option MacroDirective) → List waits.MacroDirective
 macros_in entries = map macro_directive_of (present entries)
 
 -- an expansion that is to be walked
-abbrev pub expansion_shown : Expansion → rules.Expansion
-expansion_shown e = record { scope = e.module_id; container = e.container; depth = e.depth; call = e.call }
+abbrev pub expansion_shown : Expansion → waits.Expansion
+expansion_shown e = record { scope = e.module_id; container = e.container; depth = e.depth; call = e.call; replaces = e.replaces }
 
 -- the state with this map, and in which these wait
 abbrev pub with_waiting : rules.State → MapData → List (Option MacroDirective) → List Expansion → rules.State
@@ -48,19 +61,20 @@ with_waiting s m directives expansions = record s { map = map_state m; macros = 
 abbrev pub leaves : Turn → Bool
 leaves Stays = false
 leaves (GivesCall call) = true
-leaves (WalksItem written) = true
+leaves (GivesDerive call) = true
+leaves (WalksItem derives written) = true
 
 -- what waits for a macro had its turn, in which this was told
-pub record IsTurned (s : rules.State) (d : rules.MacroDirective) (given : Told) (t : rules.State) : Type 0 where
-  pub before : List rules.MacroDirective
-  pub behind : List rules.MacroDirective
+pub record IsTurned (s : rules.State) (d : waits.MacroDirective) (given : Told) (t : rules.State) : Type 0 where
+  pub before : List waits.MacroDirective
+  pub behind : List waits.MacroDirective
   pub stands : s.macros ≡ before ++ d ∷ behind
   pub is : t ≡ (turn_effect given.state before d behind given.turn).state
 
 -- one that waited left the others
-pub record IsLeft (macros : List rules.MacroDirective) (d : rules.MacroDirective) (others : List rules.MacroDirective) : Type 0 where
-  pub before : List rules.MacroDirective
-  pub behind : List rules.MacroDirective
+pub record IsLeft (macros : List waits.MacroDirective) (d : waits.MacroDirective) (others : List waits.MacroDirective) : Type 0 where
+  pub before : List waits.MacroDirective
+  pub behind : List waits.MacroDirective
   pub stands : macros ≡ before ++ d ∷ behind
   pub left : others ≡ before ++ behind
 

@@ -1,6 +1,5 @@
 //! Attributes of items: which one an item waits for, and what its macro does with the item.
-ghost use Rattle.std.specs.Prelude.{◌≡◌, is_some, map, option_map, OnOk};
-ghost use Rattle.std.specs.Option.{option_copied};
+ghost use Rattle.std.specs.Prelude.{◌≡◌, map, option_map};
 ghost use Rattle.def_calls.specs.ItemAttrs.{active_of, skipped_of};
 ghost use Rattle.def_calls.specs.Shown.{attr_use_of, macro_directive_of, written_attr_of};
 ghost use Rattle.def_items.specs.Parts.{site_of};
@@ -21,12 +20,10 @@ use def_locs::BuiltinAttr;
 use def_map::{
     AttrCallQuery, DeriveHelper, MacroResolver, MacroSubNs, MapData, SourceDatabase, Table, World,
 };
-use def_rules::{DefDiagnostic, DefDiagnosticKind};
 use item_tree::{
-    Attr, AttrId, AttrsAfter, Crate, FileAstId, InFile, ItemNode, MacroCallId, ModItemId,
-    ModItemKind, ModPath, Name, PathKind, TreeId,
+    Attr, AttrId, AttrsAfter, Crate, FileAstId, InFile, ItemNode, MacroCallId, ModItemId, ModPath,
+    Name, PathKind, TreeId,
 };
-use std::alloc::AllocError;
 
 /// An attribute as it is written, its number, and the item that has it.
 #[derive(Clone, Copy)]
@@ -203,48 +200,4 @@ pub fn attr_call<D: SourceDatabase>(
         censored: item_attrs.active(directive.position),
         depth: directive.depth,
     })
-}
-
-/// Reads the list of a derive attribute: an item that is no struct, union or enum, and an attribute
-/// without a list, are reported. On `Err` nothing but safety is promised.
-pub fn report_derives(
-    diagnostics: &mut Vec<DefDiagnostic>,
-    item_attrs: &mut ItemAttrs,
-    directive: &MacroDirective<'_>,
-    written: WrittenAttr<'_>,
-    node: Option<&ItemNode>,
-) -> Result<(), AllocError>
-    ensures read { OnOk result ((s : State) →
-        let before = record s { active = active_of item_attrs.old; diagnostics = diagnostics.old.items } in
-        record s { active = active_of item_attrs.new; diagnostics = diagnostics.new.items }
-        ≡ rules.derives_state before (macro_directive_of directive.now) (written_attr_of written.entry) (rules.may_derive (option_copied node.entry)) (is_some written.entry.attr.now.paths)) }
-    ensures skipped { skipped_of item_attrs.new ≡ skipped_of item_attrs.old }
-{
-    let id = written.attr_id;
-    let kind = if !may_derive(node) {
-        DefDiagnosticKind::InvalidDeriveTarget { id }
-    } else if written.attr.paths.is_none() {
-        DefDiagnosticKind::MalformedDerive { id }
-    } else {
-        return item_attrs.activate(directive.position, id);
-    };
-    diagnostics.push(DefDiagnostic {
-        module: directive.module_id,
-        ast_id: directive.position,
-        kind,
-    })?;
-    Ok(())
-}
-
-/// Whether an item is there, and is a struct, a union or an enum.
-fn may_derive(node: Option<&ItemNode>) -> bool
-    ensures { result ≡ rules.may_derive (option_copied node.entry) }
-{
-    let Some(node) = node else {
-        return false;
-    };
-    match &node.kind {
-        ModItemKind::Struct { .. } | ModItemKind::Union { .. } | ModItemKind::Enum { .. } => true,
-        _ => false,
-    }
 }

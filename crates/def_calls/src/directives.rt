@@ -1,14 +1,17 @@
 //! Calls as they are written, calls and items that wait for macros, and calls that were made.
 ghost use Rattle.std.specs.Prelude.{◌≡◌, ◌++◌, ◌∷◌, [], false, Some, map, slice_get, IfOk, OnOk};
-ghost use Rattle.def_calls.specs.Shown.{IsLeft, IsTurned, expansion_shown, kind_of, leaves, macro_directive_of, macros_in, with_waiting};
+ghost use Rattle.def_calls.specs.Shown.{IsLeft, IsTurned, expansion_shown, kind_of, leaves, macro_directive_of, macros_in, with_waiting, written_derive_of};
 ghost use Rattle.def_modules.specs.Maps.{map_state};
 ghost use Rattle.def_items.specs.Parts.{site_of};
 ghost use Rattle.def_rules.specs.Calls.{invoking, waiting};
+ghost use Rattle.def_rules.specs.Derives.{derive_directive};
 ghost use Rattle.def_rules.specs.Directives.{GivesCall, call_told, expansion_of};
-ghost use Rattle.def_rules.specs.Report.{answer_report, left_macro};
-ghost use Rattle.def_rules.specs.State.{FnLike, State, WrittenCall as WrittenCallRule};
+ghost use Rattle.def_rules.specs.Report.{answer_report, left_macro, unresolved_macro};
+ghost use Rattle.def_rules.specs.State.{State};
+ghost use Rattle.def_rules.specs.Waiting.{Derive, FnLike, WrittenCall as WrittenCallRule};
 
 use crate::attrs::WrittenAttr;
+use crate::derives::WrittenDerive;
 use crate::queries::deeper;
 use def_ids::{ItemContainerId, ModuleId};
 use def_items::Site;
@@ -27,11 +30,12 @@ pub struct WrittenCall<'a> {
     pub ctxt: SyntaxContext,
 }
 
-/// What waits for a macro: a call, or an item for the macro of one of its attributes.
+/// What waits for a macro: a call, an item for the macro of one of its attributes, or a derive.
 #[derive(Clone, Copy)]
 pub enum MacroDirectiveKind<'a> {
     FnLike(WrittenCall<'a>),
     Attr(WrittenAttr<'a>),
+    Derive(WrittenDerive<'a>),
 }
 
 /// What waits for a macro: the module and the container in which the items of its expansion are to
@@ -45,7 +49,7 @@ pub struct MacroDirective<'a> {
     pub kind: MacroDirectiveKind<'a>,
 }
 
-impl MacroDirective<'_> {
+impl<'a> MacroDirective<'a> {
     /// The expansion of what waited, once it was given a call.
     pub fn expansion(&self, call: MacroCallId) -> Expansion
         ensures { expansion_shown result ≡ expansion_of (macro_directive_of self.now) call }
@@ -55,18 +59,34 @@ impl MacroDirective<'_> {
             container: self.container,
             depth: self.depth,
             call,
+            replaces: match self.kind {
+                MacroDirectiveKind::Attr(_) => Some(self.position),
+                MacroDirectiveKind::FnLike(_) | MacroDirectiveKind::Derive(_) => None,
+            },
+        }
+    }
+
+    /// How a derive of the attribute that waited waits: one level deeper.
+    pub fn derive(&self, written: WrittenDerive<'a>) -> MacroDirective<'a>
+        ensures { macro_directive_of result ≡ derive_directive (macro_directive_of self.now) (written_derive_of written.entry) }
+    {
+        MacroDirective {
+            depth: deeper(self.depth),
+            kind: MacroDirectiveKind::Derive(written),
+            ..*self
         }
     }
 }
 
 /// An expansion that is to be walked: the module and the container in which its items are to stand,
-/// how deep they lie, and its call.
+/// how deep they lie, its call, and the item in whose place they stand, where an attribute was called.
 #[derive(Clone, Copy)]
 pub struct Expansion {
     pub module_id: ModuleId,
     pub container: ItemContainerId,
     pub depth: u32,
     pub call: MacroCallId,
+    pub replaces: Option<InFile<FileAstId>>,
 }
 
 /// Lets an item wait for a macro, whose expansion is to stand one level deeper. On `Err` nothing but
@@ -196,6 +216,12 @@ fn left_macro(directive: &MacroDirective<'_>) -> Result<LeftMacro, AllocError>
                 written.attr.path.clone()?,
             )
         }
+        MacroDirectiveKind::Derive(written) => {
+            (
+                LeftMacroKind::Derive(written.attr_id, written.pos),
+                written.path.clone()?,
+            )
+        }
     };
     Ok(LeftMacro {
         module: directive.module_id,
@@ -225,6 +251,26 @@ pub fn report_left_call(
         kind: DefDiagnosticKind::UnresolvedMacroCall {
             kind: LeftMacroKind::Fn,
             path: unresolved.path,
+        },
+    })?;
+    Ok(())
+}
+
+/// Reports a derive that is left over. On `Err` nothing but safety is promised.
+pub fn report_left_derive(
+    diagnostics: &mut Vec<DefDiagnostic>,
+    directive: &MacroDirective<'_>,
+    written: WrittenDerive<'_>,
+) -> Result<(), AllocError>
+    ensures { OnOk result ((macro_directive_of directive.now).kind ≡ Derive (written_derive_of written.entry) →
+        diagnostics.new.items ≡ diagnostics.old.items ++ unresolved_macro (macro_directive_of directive.now) written.entry.path.now ∷ []) }
+{
+    diagnostics.push(DefDiagnostic {
+        module: directive.module_id,
+        ast_id: directive.position,
+        kind: DefDiagnosticKind::UnresolvedMacroCall {
+            kind: LeftMacroKind::Derive(written.attr_id, written.pos),
+            path: written.path.clone()?,
         },
     })?;
     Ok(())

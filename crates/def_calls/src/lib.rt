@@ -4,6 +4,7 @@
 #![tactic(auto)]
 
 mod attrs;
+mod derives;
 mod directives;
 mod early_resolver;
 mod item_attrs;
@@ -12,11 +13,14 @@ mod queries;
 
 pub use attrs::{
     AttrUse, WrittenAttr, attr_call, attr_macro, attr_use, awaited_attr,
-    is_builtin_or_registered_attr, is_helper, report_derives,
+    is_builtin_or_registered_attr, is_helper,
+};
+pub use derives::{
+    DeriveList, WrittenDerive, derive_macro, derive_paths, give_derive, hand_on, record_list,
 };
 pub use directives::{
     Expansion, MacroDirective, MacroDirectiveKind, WrittenCall, give_call, leave, left_macros,
-    queue_macro, record_calls, report_left_call, settle_call,
+    queue_macro, record_calls, report_left_call, report_left_derive, settle_call,
 };
 pub use early_resolver::EarlyResolver;
 pub use item_attrs::ItemAttrs;

@@ -6,7 +6,8 @@ use Rattle.def_map.specs.Oracle.{Oracle}
 use Rattle.def_oracle.specs.declared.source_database.CallAnswer.{CallAnswer}
 use Rattle.def_rules.specs.Calls.{answered_effect, expansion_at, expansion_effect, made_effect, queued, told_effect, with_invocations}
 use Rattle.def_rules.specs.Items.{position_of}
-use Rattle.def_rules.specs.State.{State, FnLike, followed_by, only, Site, Task, WrittenCall}
+use Rattle.def_rules.specs.State.{State, followed_by, only, Site, Task}
+use Rattle.def_rules.specs.Waiting.{FnLike, WrittenCall}
 use Rattle.def_laws.specs.Performs.{IsDone}
 use Rattle.def_laws.proofs.CallsLaws.{left_done}
 
@@ -26,8 +27,8 @@ module _ (oracle : Oracle) (s t : State) (site : Site) (item : ItemNode) (writte
       (ap (told_effect oracle recorded site item written answer.value) fine ∙ ap (made_effect oracle recorded site item) none ∙ ap only (sym after))
 
   -- or a call, which is expanded
-  pub answered_opens : (call : MacroCallId) (inner : List Task) → answer.err ≡ None → answer.value ≡ Some call → t ≡ with_invocations recorded site.scope ((position_of site item, call) ∷ [])
-      → expansion_effect oracle t (expansion_at site call) ≡ followed_by t inner → IsDone oracle (answered_effect oracle s site item written (Ok answer)) t inner
-  answered_opens call inner fine is after opened =
-      left_done oracle (answered_effect oracle s site item written (Ok answer)) t inner
+  pub answered_opens : (call : MacroCallId) (inner : List Task) (begun : State) → answer.err ≡ None → answer.value ≡ Some call → t ≡ with_invocations recorded site.scope ((position_of site item, call) ∷ [])
+      → expansion_effect oracle t (expansion_at site call) ≡ followed_by begun inner → IsDone oracle (answered_effect oracle s site item written (Ok answer)) begun inner
+  answered_opens call inner begun fine is after opened =
+      left_done oracle (answered_effect oracle s site item written (Ok answer)) begun inner
       (ap (told_effect oracle recorded site item written answer.value) fine ∙ ap (made_effect oracle recorded site item) is ∙ ap (λ u. expansion_effect oracle u (expansion_at site call)) (sym after) ∙ opened)

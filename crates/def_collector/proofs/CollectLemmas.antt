@@ -28,6 +28,7 @@ use Rattle.def_rules.specs.Report.{Answer, with_macro_reports}
 use Rattle.def_laws.specs.Finished.{NoneFailed, IsFinished}
 use Rattle.def_rules.specs.Start.{first_tasks, seeded_state, started}
 use Rattle.def_rules.specs.State as rules
+use Rattle.def_rules.specs.Waiting as waits
 use Rattle.def_rules.specs.State.{Setting, State}
 use Rattle.def_laws.specs.Runs.{Collects}
 use Rattle.def_laws.specs.Sound.{IsSoundWith}
@@ -54,7 +55,7 @@ no_imports unresolved indeterminate none nor =
     ∙ ap directives_in nor
     ∙ ap (map directive_of) (present-nil ImportDirective)
 
-module _ (w : Setting) (before : Session) (m : MapState) (content : Content Visibility) (targets : Targets) (local : LocalView) (procs : Bool) (deps : LocalView) (missing : Name → Bool) (directories : ModuleId → Option Directory) (imports : List rules.ImportDirective) (skipped : HirFileId → ModItemId → Option AttrId) (active : InFile FileAstId → List AttrId) (macros : List rules.MacroDirective) (expansions : List rules.Expansion) (diagnostics : List DefDiagnostic) where
+module _ (w : Setting) (before : Session) (m : MapState) (content : Content Visibility) (targets : Targets) (local : LocalView) (procs : Bool) (deps : LocalView) (missing : Name → Bool) (directories : ModuleId → Option Directory) (imports : List rules.ImportDirective) (skipped : HirFileId → ModItemId → Option AttrId) (active : InFile FileAstId → List AttrId) (macros : List waits.MacroDirective) (expansions : List waits.Expansion) (diagnostics : List DefDiagnostic) where
   -- the state that the code begins with
   abbrev begun : State
   begun = record { session = before; map = m; content = content; targets = targets; local = local; outer = w.crate_local; is_proc_macro = procs; deps = deps; missing_crates = missing; directories = directories; imports = imports; skipped = skipped; active = active; macros = macros; expansions = expansions; diagnostics = diagnostics }

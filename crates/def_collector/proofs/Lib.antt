@@ -7,3 +7,4 @@ mod WalkLemmas
 mod CallLemmas
 mod MacroPassLemmas
 mod TurnLemmas
+mod DeriveLemmas

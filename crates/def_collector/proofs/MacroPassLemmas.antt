@@ -19,6 +19,7 @@ use Rattle.def_collector.specs.Collector.{state_of}
 use Rattle.def_collector.specs.Passes.{HadTurns}
 use Rattle.def_rules.specs.Directives.{AllStay, Stays, answer_in, told}
 use Rattle.def_rules.specs.State as rules
+use Rattle.def_rules.specs.Waiting as waits
 use Rattle.def_rules.specs.State.{world}
 use Rattle.def_laws.specs.Depths.{waiting_work}
 use Rattle.def_laws.specs.Performs.{IsExpanded}
@@ -146,15 +147,15 @@ all_stay_after oracle first start session c i so_far all =
 module _ (oracle : Oracle) (s t : rules.State) (e : Expansion) (rest : List Expansion) (first : s.expansions ≡ expansion_shown e ∷ map expansion_shown rest)
     (walked : IsExpanded oracle (expansion_shown e) (record s { expansions = map expansion_shown rest }) t) where
   pub walked_run : Collects oracle [] s [] t
-  walked_run = collects_expanded oracle s t (expansion_shown e) (map expansion_shown rest) walked.inner first walked.opened walked.leads
+  walked_run = collects_expanded oracle s t (expansion_shown e) (map expansion_shown rest) walked.inner first walked.begun walked.opened walked.leads
 
   pub walked_fewer : e.depth < 2 ^ 32 → length t.macros < 2 ^ 64 → waiting_work t < waiting_work s
-  walked_fewer small few = expanded_lighter oracle s t (expansion_shown e) (map expansion_shown rest) walked.inner first walked.opened walked.leads (omega (arith, small)) few
+  walked_fewer small few = expanded_lighter oracle s t (expansion_shown e) (map expansion_shown rest) walked.inner first walked.begun walked.opened walked.leads (omega (arith, small)) few
 
 -- Reports
 
 -- a call that is left over is reported by the answer that the code's world shows
-pub call_report : (oracle : Oracle) (s : rules.State) (w : World) (d : rules.MacroDirective) (written : rules.WrittenCall) (answer : Result CallAnswer UnresolvedMacro) → d.kind ≡ rules.FnLike written → w ≡ world oracle s
+pub call_report : (oracle : Oracle) (s : rules.State) (w : World) (d : waits.MacroDirective) (written : waits.WrittenCall) (answer : Result CallAnswer UnresolvedMacro) → d.kind ≡ waits.FnLike written → w ≡ world oracle s
     → answer ≡ answer_in w s.map d written → answer_report d answer ≡ macro_report oracle s d
 call_report oracle s w d written answer kind same gives =
     ap (answer_report d) (gives ∙ ap (λ x. answer_in x s.map d written) same) ∙ sym (ap (kind_report oracle s d) kind)

@@ -1,8 +1,9 @@
 -- The turn of a macro that waits.
-use Rattle.std.proofs.Common.{◌≡◌, ◌<◌, ◌≤◌, ◌^◌, Bool, true, false, true≢false, [], ◌∷◌, ◌++◌, length, Option, Some, None, Result, Ok, Err, refl, sym, ap, subst, ◌∙◌, arith}
+use Rattle.std.proofs.Common.{◌≡◌, ◌<◌, ◌≤◌, ◌^◌, Bool, true, false, true≢false, List, [], ◌∷◌, ◌++◌, length, Option, Some, None, Result, Ok, Err, refl, sym, ap, subst, ◌∙◌, arith}
+use Rattle.def_ids.specs.declared.ids.ModuleId.{ModuleId}
 use Rattle.def_interner.specs.declared.macro_def.MacroDefId.{MacroDefId}
 use Rattle.item_tree.specs.declared.ids.MacroCallId.{MacroCallId}
-use Rattle.def_calls.specs.Shown.{IsTurned, leaves}
+use Rattle.def_calls.specs.Shown.{IsLeft, IsTurned, leaves}
 use Rattle.def_collector.specs.Passes.{HadTurns, IsWalked}
 use Rattle.def_oracle.specs.declared.source_database.CallAnswer.{CallAnswer}
 use Rattle.def_oracle.specs.declared.source_database.UnresolvedMacro.{UnresolvedMacro}
@@ -10,11 +11,14 @@ use Rattle.def_map.specs.Oracle.{Oracle}
 use Rattle.def_paths.specs.Sources.{World}
 use Rattle.def_rules.specs.Attributes.{AttrUse, attr_macro, attr_use, is_helper, item_site}
 use Rattle.def_rules.specs.Calls.{deepest}
-use Rattle.def_rules.specs.Directives.{GivesCall, Stays, Told, Turn, WalksItem, answer_in, attr_told, call_told, given_turn, item_told, told, told_by, turn_effect, use_told, walked_state}
-use Rattle.def_rules.specs.State.{State, Attr, FnLike, MacroDirective, Visit, WrittenAttr, WrittenCall, world}
+use Rattle.def_rules.specs.Derives.{derive_call, derive_macro, derived}
+use Rattle.def_rules.specs.Directives.{GivesCall, GivesDerive, Stays, Told, Turn, WalksItem, answer_in, attr_told, call_told, derive_told, expanding, given_told, given_turn, item_told, told, told_by, turn_effect, use_told, walked_state}
+use Rattle.def_rules.specs.State.{State, Task, Visit, world}
+use Rattle.def_rules.specs.Waiting.{Attr, Derive, FnLike, MacroDirective, WrittenAttr, WrittenCall, WrittenDerive}
 use Rattle.def_laws.specs.Depths.{OnlyInvokes, waiting_work}
+use Rattle.def_laws.specs.Performs.{Tried}
 use Rattle.def_laws.specs.Runs.{Collects, Leads}
-use Rattle.def_laws.proofs.PassLaws.{collects_given, collects_stays, collects_walked, given_lighter, invokes_refl, invokes_trans, only_invokes, walked_lighter, work_same}
+use Rattle.def_laws.proofs.PassLaws.{collects_derived, collects_given, collects_stays, collects_walked, derived_lighter, given_lighter, invokes_refl, invokes_trans, only_invokes, walked_lighter, work_same}
 use Rattle.def_laws.proofs.StepsLaws.{collects_refl, collects_trans}
 
 -- Turns
@@ -49,7 +53,8 @@ module _ (oracle : Oracle) (s t u : State) (moved : Bool) (before : HadTurns ora
 pub stays_of : (turn : Turn) → leaves turn ≡ false → turn ≡ Stays
 stays_of Stays none = refl
 stays_of (GivesCall call) none = absurd (cc none)
-stays_of (WalksItem written) none = absurd (cc none)
+stays_of (GivesDerive call) none = absurd (cc none)
+stays_of (WalksItem derives written) none = absurd (cc none)
 
 -- One that is asked
 
@@ -78,28 +83,68 @@ module _ (oracle : Oracle) (s s' t : State) (d : MacroDirective) (given : Told) 
   pub had_call : (call : MacroCallId) → given.turn ≡ GivesCall call → HadTurns oracle s true t
   had_call call which = record {
     run = subst (λ u. Collects oracle [] s [] u) (sym (now (GivesCall call) which)) (collects_given oracle s turned.before d turned.behind stands call (was (GivesCall call) which));
-    fewer = λ yes. subst (λ u. waiting_work u < waiting_work s) (sym (now (GivesCall call) which)) (given_lighter oracle s turned.before d turned.behind stands call (was (GivesCall call) which));
+    fewer = λ yes. subst (λ u. waiting_work u < waiting_work s) (sym (now (GivesCall call) which)) (given_lighter oracle s turned.before d turned.behind stands call);
     still = λ yes. absurd (true≢false yes);
   }
 
+-- the macro that a derive finds
+pub derive_found : (oracle : Oracle) (s : State) (at : ModuleId) (written : WrittenDerive) (w : World) (known found : Option MacroDefId) → w ≡ world oracle s → known ≡ derive_macro w at written → known ≡ found
+    → derive_macro (world oracle s) at written ≡ found
+derive_found oracle s at written w known found same finds is = sym (finds ∙ ap (λ x. derive_macro x at written) same) ∙ is
+
+-- a derive is given a call
+module _ (oracle : Oracle) (s t : State) (d : MacroDirective) (written : WrittenDerive) (kind : d.kind ≡ Derive written) where
+  derive_by : (w : World) (found : Option MacroDefId) → w ≡ world oracle s → found ≡ derive_macro w d.scope written → told oracle s d ≡ derive_told oracle s d written found
+  derive_by w found same finds = ap (told_by oracle s d) kind ∙ ap (derive_told oracle s d written) (sym (finds ∙ ap (λ x. derive_macro x d.scope written) same))
+
+  -- or it stays
+  pub derive_stays : (w : World) (found : Option MacroDefId) → w ≡ world oracle s → found ≡ derive_macro w d.scope written → found ≡ None → (told oracle s d).turn ≡ Stays
+  derive_stays w found same finds none = ap (λ (x : Told). x.turn) (derive_by w found same finds ∙ ap (derive_told oracle s d written) none)
+
+  module _ (w : World) (known : Option MacroDefId) (found : MacroDefId) (same : w ≡ world oracle s) (finds : known ≡ derive_macro w d.scope written) (some : known ≡ Some found) (left : IsLeft s.macros d t.macros) where
+    abbrev given_call : MacroCallId
+    given_call = derive_call oracle s d written found
+
+    given_is : told oracle s d ≡ given_told oracle s d written found given_call
+    given_is = derive_by w known same finds ∙ ap (derive_told oracle s d written) some
+
+    pub had_derive : t ≡ expanding (derived oracle s d written found given_call) (left.before ++ left.behind) d given_call → HadTurns oracle s true t
+    had_derive now =
+        let turn : (told oracle s d).turn ≡ GivesDerive given_call = ap (λ (x : Told). x.turn) given_is in
+        let here : t ≡ expanding (told oracle s d).state (left.before ++ left.behind) d given_call =
+        now ∙ ap (λ (x : Told). expanding x.state (left.before ++ left.behind) d given_call) (sym given_is) in
+        record {
+          run = subst (λ u. Collects oracle [] s [] u) (sym here) (collects_derived oracle s left.before d left.behind left.stands given_call turn);
+          fewer = λ yes. subst (λ u. waiting_work u < waiting_work s) (sym here) (derived_lighter oracle s left.before d left.behind left.stands given_call);
+          still = λ yes. absurd (true≢false yes);
+        }
+
 -- an item is walked without its attribute
-module _ (oracle : Oracle) (s s' t : State) (d : MacroDirective) (written : WrittenAttr) (is : told oracle s d ≡ record { state = s'; turn = WalksItem written }) (alike : s'.macros ≡ s.macros) (walked : IsWalked oracle s' d written t) where
+module _ (oracle : Oracle) (s s' t : State) (d : MacroDirective) (derives : List WrittenDerive) (written : WrittenAttr) (is : told oracle s d ≡ record { state = s'; turn = WalksItem derives written }) (alike : s'.macros ≡ s.macros)
+    (walked : IsWalked oracle s' d derives written t) where
   abbrev given : Told
   given = told oracle s d
 
-  walks : given.turn ≡ WalksItem written
+  walks : given.turn ≡ WalksItem derives written
   walks = ap (λ (x : Told). x.turn) is
 
   item_stands : s.macros ≡ walked.before ++ d ∷ walked.behind
   item_stands = sym alike ∙ walked.stands
 
-  leads : Leads oracle (Visit (item_site given.state d written) written.item ∷ []) (walked_state given.state walked.before d walked.behind written) [] t
-  leads = subst (λ (x : Told). Leads oracle (Visit (item_site x.state d written) written.item ∷ []) (walked_state x.state walked.before d walked.behind written) [] t) (sym is) walked.leads
+  -- as it was told
+  abbrev again : State → Task
+  again x = Visit (item_site x d written) written.item
 
-  pub had_walk : d.depth ≤ deepest → length t.macros < 2 ^ 64 → HadTurns oracle s true t
-  had_walk most few = record {
-    run = collects_walked oracle s walked.before d walked.behind item_stands written walks t leads;
-    fewer = λ yes. walked_lighter oracle s walked.before d walked.behind item_stands written walks t leads most few;
+  tries : Tried oracle d derives (walked_state given.state walked.before d walked.behind written) walked.tried
+  tries = subst (λ (x : Told). Tried oracle d derives (walked_state x.state walked.before d walked.behind written) walked.tried) (sym is) walked.tries
+
+  leads : Leads oracle (again given.state ∷ []) walked.tried [] t
+  leads = subst (λ (x : Told). Leads oracle (again x.state ∷ []) walked.tried [] t) (sym is) walked.leads
+
+  pub had_walk : d.depth ≤ deepest → length derives < 2 ^ 64 → length t.macros < 2 ^ 64 → HadTurns oracle s true t
+  had_walk most short few = record {
+    run = collects_walked oracle s walked.before d walked.behind item_stands derives written walks walked.tried t tries leads;
+    fewer = λ yes. walked_lighter oracle s walked.before d walked.behind item_stands derives written walks walked.tried t tries leads most short few;
     still = λ yes. absurd (true≢false yes);
   }
 

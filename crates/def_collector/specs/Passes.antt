@@ -10,8 +10,10 @@ use Rattle.def_rules.specs.Attributes.{awaited_attr, awaiting, item_site}
 use Rattle.def_rules.specs.Calls.{queued}
 use Rattle.def_rules.specs.Directives.{walked_state}
 use Rattle.def_rules.specs.Imports.{answer_now, is_ready}
-use Rattle.def_rules.specs.State.{State, MacroDirective, Site, Visit, WrittenAttr}
+use Rattle.def_rules.specs.State.{State, Site, Visit}
+use Rattle.def_rules.specs.Waiting.{MacroDirective, WrittenAttr, WrittenDerive}
 use Rattle.def_laws.specs.Depths.{OnlyInvokes, waiting_work}
+use Rattle.def_laws.specs.Performs.{Tried}
 use Rattle.def_laws.specs.Runs.{Collects, Leads}
 use Rattle.def_collector.specs.declared.collector.DefCollector.{DefCollector}
 use Rattle.def_collector.specs.Collector.{state_of}
@@ -41,9 +43,11 @@ pub record HadTurns (oracle : Oracle) (s : State) (moved : Bool) (t : State) : T
   pub fewer : moved ≡ true → waiting_work t < waiting_work s
   pub still : moved ≡ false → OnlyInvokes s t
 
--- an item that waited left, and was walked without its attribute
-pub record IsWalked (oracle : Oracle) (s : State) (d : MacroDirective) (written : WrittenAttr) (t : State) : Type 0 where
+-- an item that waited left, these derives of its attribute were tried, and it was walked without the attribute
+pub record IsWalked (oracle : Oracle) (s : State) (d : MacroDirective) (derives : List WrittenDerive) (written : WrittenAttr) (t : State) : Type 0 where
   pub before : List MacroDirective
   pub behind : List MacroDirective
   pub stands : s.macros ≡ before ++ d ∷ behind
-  pub leads : Leads oracle (Visit (item_site s d written) written.item ∷ []) (walked_state s before d behind written) [] t
+  pub tried : State
+  pub tries : Tried oracle d derives (walked_state s before d behind written) tried
+  pub leads : Leads oracle (Visit (item_site s d written) written.item ∷ []) tried [] t

@@ -12,7 +12,7 @@ ghost use Rattle.def_rules.specs.State.{followed_by};
 use crate::collector::DefCollector;
 use def_calls::{
     Expansion, MacroDirectiveKind, WrittenCall, call_query, deeper, early_answer, expansion_dir,
-    is_too_deep, queue_macro, record_calls,
+    hand_on, is_too_deep, queue_macro, record_calls,
 };
 use def_interner::Interner;
 use def_items::{ItemList, Site, top_items};
@@ -82,19 +82,21 @@ fn collect_answer<'a, D: SourceDatabase>(
         container: site.container,
         depth: deeper(site.depth),
         call,
+        replaces: None,
     };
     open_expansion(collector, db, here)
 }
 
-/// The list of an expansion's items, unless it lies too deep.
+/// The list of an expansion's items, unless it lies too deep. Where they stand in the place of an
+/// item, its helpers are theirs. On `Err` nothing but safety is promised.
 pub(crate) fn open_expansion<'a, D: SourceDatabase>(
-    collector: &DefCollector<'a>,
+    collector: &mut DefCollector<'a>,
     db: &'a D,
     expansion: Expansion,
 ) -> Result<Option<ItemList<'a>>, AllocError>
     ensures opened { IfOk result (λ opened. (session : Interner) →
-        calls.expansion_effect (D.oracle db.now) (state_of collector.now session) (expansion_shown expansion)
-        ≡ followed_by (state_of collector.now session) (inner_of (D.oracle db.now) opened)) }
+        calls.expansion_effect (D.oracle db.now) (state_of collector.old session) (expansion_shown expansion)
+        ≡ followed_by (state_of collector.new session) (inner_of (D.oracle db.now) opened)) }
     ensures known { IfOk result (λ opened. AreKnown (D.oracle db.now) opened) }
 {
     let Expansion {
@@ -102,6 +104,7 @@ pub(crate) fn open_expansion<'a, D: SourceDatabase>(
         container,
         depth,
         call,
+        replaces,
     } = expansion;
     if is_too_deep(&collector.def_map, depth) {
         return Ok(None);
@@ -111,6 +114,9 @@ pub(crate) fn open_expansion<'a, D: SourceDatabase>(
         block: None,
     };
     let tree = db.item_tree(tree_id);
+    if let Some(position) = replaces {
+        hand_on(collector.alloc, &mut collector.def_map, db, position, tree_id)?;
+    }
     let dir = expansion_dir(collector.alloc, db, &collector.mod_dirs, module_id, call)?;
     Ok(Some(ItemList {
         module_id,

@@ -1,31 +1,33 @@
 //! Macros that wait: each pass lets each of them have its turn, and walks the expansions of those that
 //! are given a call.
-ghost use Rattle.std.specs.Prelude.{◌≡◌, ◌<◌, ◌≤◌, ◌^◌, [], false, Some, is_some, option_and_then, slice_get, IfOk, OnOk};
-ghost use Rattle.def_calls.specs.Shown.{IsTurned, expansion_shown, kind_of, macro_directive_of, written_attr_of, written_of};
+ghost use Rattle.std.specs.Prelude.{◌≡◌, ◌<◌, ◌≤◌, ◌^◌, [], false, Some, length, option_and_then, slice_get, IfOk, OnOk};
+ghost use Rattle.def_calls.specs.Shown.{IsTurned, derives_in, expansion_shown, kind_of, macro_directive_of, written_attr_of, written_derive_of, written_of};
 ghost use Rattle.def_calls.specs.declared.directives.MacroDirective.{MacroDirective as Directive};
 ghost use Rattle.def_interner.specs.declared.interner.Interner.{Interner};
 ghost use Rattle.def_interner.specs.Session.{AddsLocations, session_of};
 ghost use Rattle.def_collector.specs.Collector.{state_of};
 ghost use Rattle.def_collector.specs.Passes.{HadTurns, IsWalked};
 ghost use Rattle.def_laws.specs.Depths.{waiting_work};
-ghost use Rattle.def_laws.specs.Performs.{IsExpanded};
+ghost use Rattle.def_laws.specs.Performs.{IsExpanded, Tried};
 ghost use Rattle.def_laws.specs.Runs.{Collects};
-ghost use Rattle.def_rules.specs.Attributes.{ReplacesItem, activated, derives_state, may_derive};
-ghost use Rattle.def_rules.specs.Directives.{AllStay, Stays, told, use_told};
-ghost use Rattle.def_rules.specs.Items.{node_at};
+ghost use Rattle.def_rules.specs.Attributes.{ReadsDerives, ReplacesItem, activated};
+ghost use Rattle.def_rules.specs.Derives as rule;
+ghost use Rattle.def_rules.specs.Directives.{AllStay, Stays, WalksItem, told, tried_effect, use_told};
 ghost use Rattle.def_rules.specs.State as rules;
+ghost use Rattle.def_rules.specs.Waiting as waits;
 
 use crate::calls::open_expansion;
 use crate::collector::DefCollector;
 use crate::stack::{item_in, walk, walk_item};
 use def_calls::{
-    AttrUse, Expansion, MacroDirective, MacroDirectiveKind, WrittenAttr, WrittenCall, attr_call,
-    attr_macro, attr_use, call_answer, give_call, is_helper, leave, report_derives, settle_call,
-    stored_dir,
+    AttrUse, DeriveList, Expansion, MacroDirective, MacroDirectiveKind, WrittenAttr, WrittenCall,
+    WrittenDerive, attr_call, attr_macro, attr_use, call_answer, derive_macro, derive_paths,
+    give_call, give_derive, is_helper, leave, record_list, settle_call, stored_dir,
 };
 use def_interner::{Interner, MacroDefId};
 use def_items::ItemList;
 use def_map::SourceDatabase;
+use def_rules::DefDiagnostic;
 use def_steps::drop_left;
 use std::alloc::AllocError;
 
@@ -102,6 +104,9 @@ fn ask_macro<'a, D: SourceDatabase>(
         MacroDirectiveKind::Attr(written) => {
             ask_attr(collector, db, session, i, directive, written)
         }
+        MacroDirectiveKind::Derive(written) => {
+            ask_derive(collector, db, session, i, directive, written)
+        }
     }
 }
 
@@ -126,7 +131,7 @@ fn ask_call<'a, D: SourceDatabase>(
     written: WrittenCall<'a>,
 ) -> Result<bool, AllocError>
     requires here { slice_get collector.old.unresolved_macros.items i ≡ Some (Some directive) }
-    requires kind { kind_of directive.kind ≡ rules.FnLike (written_of written) }
+    requires kind { kind_of directive.kind ≡ waits.FnLike (written_of written) }
     ensures turn { IfOk result (λ moved.
         HadTurns (D.oracle db.now) (state_of collector.old session.now) moved (state_of collector.new session.now)) }
     ensures same { IfOk result (λ moved. moved ≡ false →
@@ -152,6 +157,36 @@ fn ask_call<'a, D: SourceDatabase>(
     )
 }
 
+/// Asks for a derive that waits. With a call it leaves, and its expansion is to be walked. Answers
+/// whether its macro was found. On `Err` nothing but safety is promised.
+fn ask_derive<'a, D: SourceDatabase>(
+    collector: &mut DefCollector<'a>,
+    db: &D,
+    session: &Interner,
+    i: usize,
+    directive: MacroDirective<'a>,
+    written: WrittenDerive<'a>,
+) -> Result<bool, AllocError>
+    requires here { slice_get collector.old.unresolved_macros.items i ≡ Some (Some directive) }
+    requires kind { kind_of directive.kind ≡ waits.Derive (written_derive_of written) }
+    ensures turn { IfOk result (λ moved.
+        HadTurns (D.oracle db.now) (state_of collector.old session.now) moved (state_of collector.new session.now)) }
+    ensures same { IfOk result (λ moved. moved ≡ false →
+        collector.new.unresolved_macros.items ≡ collector.old.unresolved_macros.items) }
+    ensures none { IfOk result (λ moved. moved ≡ false →
+        (told (D.oracle db.now) (state_of collector.old session.now) (macro_directive_of directive.entry)).turn ≡ Stays) }
+{
+    let world = collector.world(db, session);
+    let Some(found) = derive_macro(&world, directive.module_id, written) else {
+        return Ok(false);
+    };
+    let def_map = &mut collector.def_map;
+    let call = give_derive(def_map, db, &directive, written, found)?;
+    leave(&mut collector.unresolved_macros, i, directive);
+    collector.expansions.push_back(directive.expansion(call))?;
+    Ok(true)
+}
+
 /// Lets an item have its turn that waits for the macro of an attribute. Where the macro is found, the
 /// macro's expansion is to stand in the item's place, or the item is walked without the attribute.
 /// Answers whether it is. On `Err` nothing but safety is promised.
@@ -164,7 +199,7 @@ fn ask_attr<'a, D: SourceDatabase>(
     written: WrittenAttr<'a>,
 ) -> Result<bool, AllocError>
     requires here { slice_get collector.old.unresolved_macros.items i ≡ Some (Some directive) }
-    requires kind { kind_of directive.kind ≡ rules.Attr (written_attr_of written) }
+    requires kind { kind_of directive.kind ≡ waits.Attr (written_attr_of written) }
     ensures turn { IfOk result (λ moved.
         HadTurns (D.oracle db.now) (state_of collector.old session.old) moved (state_of collector.new session.new)) }
     ensures same { IfOk result (λ moved. moved ≡ false →
@@ -174,7 +209,8 @@ fn ask_attr<'a, D: SourceDatabase>(
     ensures session { AddsLocations (session_of session.old) (session_of session.new) }
 {
     if is_helper(&collector.def_map, directive.position, written.attr) {
-        walk_without(collector, db, session, i, directive, written)?;
+        let list = DeriveList::empty(written);
+        walk_without(collector, db, session, i, directive, list)?;
         return Ok(true);
     }
     let world = collector.world(db, session);
@@ -183,12 +219,13 @@ fn ask_attr<'a, D: SourceDatabase>(
     };
     match attr_use(db, collector.def_map.tree.map.krate, found) {
         AttrUse::PassesOver => {
-            walk_without(collector, db, session, i, directive, written)?;
+            let list = DeriveList::empty(written);
+            walk_without(collector, db, session, i, directive, list)?;
             Ok(true)
         }
         AttrUse::ReadsDerives => {
-            read_derives(collector, db, directive, written)?;
-            walk_without(collector, db, session, i, directive, written)?;
+            let list = read_derives(collector, db, directive, written, found)?;
+            walk_without(collector, db, session, i, directive, list)?;
             Ok(true)
         }
         AttrUse::ReplacesItem => {
@@ -198,27 +235,48 @@ fn ask_attr<'a, D: SourceDatabase>(
     }
 }
 
-/// Reads the list of a derive attribute. On `Err` nothing but safety is promised.
+/// Reads a derive attribute: it is recorded with its call, and the paths that it lists are answered,
+/// which are to be tried. What is wrong with it is reported. On `Err` nothing but safety is promised.
 fn read_derives<'a, D: SourceDatabase>(
     collector: &mut DefCollector<'a>,
     db: &D,
     directive: MacroDirective<'a>,
     written: WrittenAttr<'a>,
-) -> Result<(), AllocError>
-    ensures read { OnOk result ((session : Interner) → let w = written_attr_of written.entry in
-        state_of collector.new session
-        ≡ derives_state (state_of collector.old session) (macro_directive_of directive.entry) w (may_derive (node_at (D.oracle db.now) w.tree w.item)) (is_some w.attr.paths)) }
+    found: MacroDefId,
+) -> Result<DeriveList<'a>, AllocError>
+    ensures read { IfOk result (λ list. (session : Interner) → let w = written_attr_of written.entry in
+        use_told (D.oracle db.now) (state_of collector.old session) (macro_directive_of directive.entry) w found ReadsDerives
+        ≡ record { state = state_of collector.new session; turn = WalksItem (derives_in list) w }) }
+    ensures written { IfOk result (λ list. list.written ≡ written.entry) }
     ensures same { collector.new.unresolved_macros ≡ collector.old.unresolved_macros }
 {
     let node = item_in(db.item_tree(written.tree_id), written.item);
-    let diagnostics = &mut collector.diagnostics;
-    report_derives(
-        diagnostics,
-        &mut collector.item_attrs,
-        &directive,
-        written,
-        node,
-    )
+    match derive_paths(written, node) {
+        Ok(paths) => {
+            collector
+                .item_attrs
+                .activate(directive.position, written.attr_id)?;
+            let krate = collector.def_map.tree.map.krate;
+            let item_attrs = &collector.item_attrs;
+            let call = attr_call(db, krate, item_attrs, &directive, written, found);
+            let list = DeriveList {
+                written,
+                call,
+                paths,
+            };
+            let alloc = collector.alloc;
+            record_list(alloc, &mut collector.def_map, &directive, list)?;
+            Ok(list)
+        }
+        Err(kind) => {
+            collector.diagnostics.push(DefDiagnostic {
+                module: directive.module_id,
+                ast_id: directive.position,
+                kind,
+            })?;
+            Ok(DeriveList::empty(written))
+        }
+    }
 }
 
 /// Calls the macro of an attribute: the item leaves, and the macro's expansion is to stand in its
@@ -250,28 +308,31 @@ fn replace_item<'a, D: SourceDatabase>(
     )
 }
 
-/// Walks an item that waits without its attribute: it leaves, and the attribute is passed over. On
-/// `Err` nothing but safety is promised.
+/// Walks an item that waits without its attribute: it leaves, the attribute is passed over, and the
+/// derives that it lists are tried. On `Err` nothing but safety is promised.
 fn walk_without<'a, D: SourceDatabase>(
     collector: &mut DefCollector<'a>,
     db: &'a D,
     session: &mut Interner,
     i: usize,
     directive: MacroDirective<'a>,
-    written: WrittenAttr<'a>,
+    list: DeriveList<'a>,
 ) -> Result<(), AllocError>
     requires { slice_get collector.old.unresolved_macros.items i ≡ Some (Some directive) }
     ensures walked { OnOk result (IsWalked (D.oracle db.now) (state_of collector.old session.old)
-        (macro_directive_of directive.entry) (written_attr_of written.entry) (state_of collector.new session.new)) }
+        (macro_directive_of directive.entry) (derives_in list.entry) (written_attr_of list.entry.written) (state_of collector.new session.new)) }
     ensures depth { directive.entry.depth < 2 ^ 32 }
+    ensures few { OnOk result (length list.entry.paths.now < 2 ^ 64) }
     ensures session { AddsLocations (session_of session.old) (session_of session.new) }
 {
     leave(&mut collector.unresolved_macros, i, directive);
+    let written = list.written;
     let file = directive.position.file;
     let item_attrs = &mut collector.item_attrs;
     item_attrs.pass_over(file, written.item, written.attr_id)?;
+    try_derives(collector, db, session, directive, list)?;
     let dir = stored_dir(collector.alloc, &collector.mod_dirs, directive.module_id)?;
-    let list = ItemList {
+    let items = ItemList {
         module_id: directive.module_id,
         container: directive.container,
         tree_id: written.tree_id,
@@ -281,7 +342,61 @@ fn walk_without<'a, D: SourceDatabase>(
         into: None,
         dir,
     };
-    walk_item(collector, db, session, &list, written.item)
+    walk_item(collector, db, session, &items, written.item)
+}
+
+/// Tries the derives of an attribute in order. On `Err` nothing but safety is promised.
+fn try_derives<'a, D: SourceDatabase>(
+    collector: &mut DefCollector<'a>,
+    db: &D,
+    session: &Interner,
+    directive: MacroDirective<'a>,
+    list: DeriveList<'a>,
+) -> Result<(), AllocError>
+    ensures tried { OnOk result (Tried (D.oracle db.now) (macro_directive_of directive.entry) (derives_in list.entry)
+        (state_of collector.old session.now) (state_of collector.new session.now)) }
+    ensures dirs { collector.new.mod_dirs ≡ collector.old.mod_dirs }
+    ensures few { length list.entry.paths.now < 2 ^ 64 }
+{
+    'derives: for pos in 0..list.paths.len() {
+        let (path, ctxt) = &list.paths[pos];
+        let written = WrittenDerive {
+            attr_id: list.written.attr_id,
+            pos,
+            path,
+            ctxt: *ctxt,
+            call: list.call,
+        };
+        try_derive(collector, db, session, directive, written)?;
+    }
+    Ok(())
+}
+
+/// Tries a derive of an attribute: with a call its expansion is to be walked, else it waits. On `Err`
+/// nothing but safety is promised.
+fn try_derive<'a, D: SourceDatabase>(
+    collector: &mut DefCollector<'a>,
+    db: &D,
+    session: &Interner,
+    directive: MacroDirective<'a>,
+    written: WrittenDerive<'a>,
+) -> Result<(), AllocError>
+    ensures tried { OnOk result (let s = state_of collector.old session.now in let d = macro_directive_of directive.entry in
+        let w = written_derive_of written.entry in
+        state_of collector.new session.now ≡ (tried_effect (D.oracle db.now) s d w (rule.derive_macro (rules.world (D.oracle db.now) s) d.scope w)).state) }
+    ensures dirs { collector.new.mod_dirs ≡ collector.old.mod_dirs }
+    ensures depth { directive.entry.depth < 2 ^ 32 }
+{
+    let waiting = directive.derive(written);
+    let world = collector.world(db, session);
+    let Some(found) = derive_macro(&world, directive.module_id, written) else {
+        collector.unresolved_macros.push(Some(waiting))?;
+        return Ok(());
+    };
+    let def_map = &mut collector.def_map;
+    let call = give_derive(def_map, db, &directive, written, found)?;
+    collector.expansions.push_back(waiting.expansion(call))?;
+    Ok(())
 }
 
 /// Walks the expansions of what was given a call, in order. On `Err` nothing but safety is promised.

@@ -28,7 +28,9 @@ use crate::imports::resolve_imports;
 use crate::macro_pass::resolve_macros;
 use crate::seeding::seed;
 use crate::stack::walk;
-use def_calls::{ItemAttrs, MacroDirectiveKind, call_answer, report_left_call};
+use def_calls::{
+    ItemAttrs, MacroDirectiveKind, call_answer, report_left_call, report_left_derive,
+};
 use def_crates::{MissingCrates, deps_by_name, is_proc_macro_crate, top_attrs};
 use def_ids::{ItemContainerId, MapId, ModuleId};
 use def_interner::Interner;
@@ -257,6 +259,9 @@ fn report_macro<'a, D: SourceDatabase>(
             report_left_call(&mut collector.diagnostics, &directive, answer)
         }
         MacroDirectiveKind::Attr(_) => Ok(()),
+        MacroDirectiveKind::Derive(written) => {
+            report_left_derive(&mut collector.diagnostics, &directive, written)
+        }
     }
 }
 

@@ -1,24 +1,32 @@
 -- No name fails where a module is added or changed.
-use Rattle.std.proofs.Common.{◌≡◌, ℕ, zero, suc, Bool, true, false, List, [], ◌∷◌, length, All, Option, Some, None, refl}
+use Rattle.std.proofs.Common.{◌≡◌, ℕ, zero, suc, Bool, true, false, List, [], ◌∷◌, map, length, All, Option, Some, None, refl}
 use Rattle.std.proofs.lemmas.List.Elements.{All-cons, All-head, All-tail, All-push}
 use Rattle.item_tree.specs.declared.ids.FileAstId.{FileAstId}
 use Rattle.item_tree.specs.declared.ids.InFile.{InFile}
 use Rattle.item_tree.specs.declared.ids.MacroCallId.{MacroCallId}
+use Rattle.item_tree.specs.declared.ids.ModItemId.{ModItemId}
+use Rattle.item_tree.specs.declared.ids.TreeId.{TreeId}
+use Rattle.item_tree.specs.declared.items.ItemNode.{ItemNode}
 use Rattle.item_tree.specs.declared.name.Name.{Name}
 use Rattle.def_ids.specs.declared.ids.MacroId.{MacroId}
 use Rattle.def_ids.specs.declared.ids.ModuleId.{ModuleId}
 use Rattle.def_ids.specs.declared.ids.Def.{Def}
 use Rattle.def_bindings.specs.declared.visibility.Visibility.{Visibility}
+use Rattle.def_interner.specs.declared.macro_def.MacroDefId.{MacroDefId}
+use Rattle.def_oracle.specs.Oracle.{Oracle}
 use Rattle.def_modules.specs.declared.module_data.ModuleOrigin.{ModuleOrigin}
-use Rattle.def_modules.specs.Maps.{pushed, with_macro_use, with_module}
-use Rattle.def_modules.specs.MapState.{MapState, ModuleState}
+use Rattle.def_modules.specs.Maps.{pushed, with_helper, with_macro_use, with_module}
+use Rattle.def_modules.specs.MapState.{MapState, ModuleState, ShownHelper}
 use Rattle.def_modules.specs.Scopes.{declared_in, with_child, with_invocation}
 use Rattle.def_modules.specs.Updates.{update_at}
-use Rattle.def_rules.specs.Calls.{invoking}
+use Rattle.def_rules.specs.Calls.{each_helped, expansion_tree, helped, invoking, replaced_by, with_helpers}
+use Rattle.def_rules.specs.Derives.{derived_map, helper_names, helper_of, with_derive_call}
+use Rattle.def_rules.specs.Items.{node_at, top_items}
 use Rattle.def_rules.specs.Macros.{showing_helpers, taking}
 use Rattle.def_rules.specs.Modules.{add_module, fresh_module}
 use Rattle.def_parts.specs.ProcMacros.{NameAndHelpers}
 use Rattle.def_rules.specs.State.{State}
+use Rattle.def_rules.specs.Waiting.{MacroDirective, WrittenDerive}
 use Rattle.def_laws.specs.Finished.{NoneFailed}
 
 all_updated : {X : Type 0} (P : X → Type 0) (xs : List X) (i : ℕ) (f : X → X) → ((x : X) → P x → P (f x)) → All P xs → All P (update_at xs i f)
@@ -54,6 +62,28 @@ pub none_failed-showing_helpers : (in_block : Bool) (id : MacroId) (read : Optio
 none_failed-showing_helpers in_block id None m none = none
 none_failed-showing_helpers true id (Some read) m none = none
 none_failed-showing_helpers false id (Some read) m none = none
+
+none_failed-helpers : (position : InFile FileAstId) (helpers : List ShownHelper) (m : MapState) → NoneFailed m → NoneFailed (with_helpers m position helpers)
+none_failed-helpers position [] m none = none
+none_failed-helpers position (helper ∷ helpers) m none = none_failed-helpers position helpers (with_helper m position helper) none
+
+none_failed-helped : (tree : TreeId) (helpers : List ShownHelper) (item : Option ItemNode) (m : MapState) → NoneFailed m → NoneFailed (helped m tree helpers item)
+none_failed-helped tree helpers None m none = none
+none_failed-helped tree helpers (Some item) m none = none_failed-helpers (record { file = tree.file; value = item.ast_id }) helpers m none
+
+none_failed-each : (oracle : Oracle) (tree : TreeId) (helpers : List ShownHelper) (ids : List ModItemId) (m : MapState) → NoneFailed m → NoneFailed (each_helped oracle m tree helpers ids)
+none_failed-each oracle tree helpers [] m none = none
+none_failed-each oracle tree helpers (id ∷ ids) m none =
+    none_failed-each oracle tree helpers ids (helped m tree helpers (node_at oracle tree id)) (none_failed-helped tree helpers (node_at oracle tree id) m none)
+
+pub none_failed-replaced : (oracle : Oracle) (call : MacroCallId) (replaces : Option (InFile FileAstId)) (m : MapState) → NoneFailed m → NoneFailed (replaced_by oracle m call replaces)
+none_failed-replaced oracle call None m none = none
+none_failed-replaced oracle call (Some position) m none = none_failed-each oracle (expansion_tree call) (m.helpers position) (top_items oracle (expansion_tree call)) m none
+
+pub none_failed-derived : (oracle : Oracle) (m : MapState) (d : MacroDirective) (written : WrittenDerive) (found : MacroDefId) (call : MacroCallId) → NoneFailed m → NoneFailed (derived_map oracle m d written found call)
+none_failed-derived oracle m d written found call none =
+    let placed : ModuleState → ModuleState = with_derive_call d written call in
+    none_failed-helpers d.position (map (helper_of found call) (helper_names oracle m.id.krate found)) (with_module m d.scope.index placed) (none_failed-with_module m d.scope.index placed (λ e h. h) none)
 
 pub none_failed-add_module : (s : State) (at : ModuleId) (name : Name) (vis : Visibility) (o : ModuleOrigin) → NoneFailed s.map → NoneFailed (add_module s at name vis o).map
 none_failed-add_module s at name vis o none =

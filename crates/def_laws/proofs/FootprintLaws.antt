@@ -50,7 +50,7 @@ use Rattle.def_laws.specs.Depths.{AreVisitsBelow, depth_rank, kind_rank, macro_r
 use Rattle.def_laws.specs.Finished.{NoneFailed}
 use Rattle.def_laws.specs.Own.{AreOwnTasks, IsOwn, IsRecorded}
 use Rattle.def_rules.specs.Attributes.{awaited_attr, awaiting, first_unknown}
-use Rattle.def_rules.specs.Calls.{answered_effect, deeper, deepest, expansion_at, expansion_effect, expansion_site, expansion_tree, queued, told_effect, waiting, with_invocations}
+use Rattle.def_rules.specs.Calls.{answered_effect, deeper, deepest, expansion_at, expansion_effect, expansion_site, expansion_tree, queued, told_effect, waiting, with_invocations, with_replaced}
 use Rattle.def_rules.specs.Crates.{tree_attrs}
 use Rattle.def_rules.specs.Globs.{Targets}
 use Rattle.def_rules.specs.Items.{ctor_task, declare, declared_effect, diagnostic, ctor_vis, is_crate_root, is_prelude_import, node_at, noted_in, new_imports, position_of, put_declared, top_items, tree_cfg, walk, written_vis}
@@ -59,12 +59,13 @@ use Rattle.def_rules.specs.Modules.{add_module, bring_if, file_tree, inline_cont
 use Rattle.def_rules.specs.ExternCrates.{crate_effect, crate_entry, crate_name, named_crate, naming_crate}
 use Rattle.def_rules.specs.Rules.{HandlesInSession, Visits, VisitsAt, VisitsEnabled, VisitsNode, Rule, Follows, rule_of, declares, declares_struct, opens_module, opens_block, queues, binds_crate, notes_impl, notes_const, defines_rules, defines_macro, calls_macro}
 use Rattle.def_rules.specs.Imports.{no_namespaces}
-use Rattle.def_rules.specs.State.{State, Effect, Expansion, entered, followed_by, only, FnLike, ImportDirective, MacroDirective, MacroDirectiveKind, Site, Task, Put, reported, root, with_map, with_missing, WrittenCall}
+use Rattle.def_rules.specs.State.{State, Effect, entered, followed_by, only, ImportDirective, Site, Task, Put, reported, root, with_map, with_missing}
+use Rattle.def_rules.specs.Waiting.{Expansion, FnLike, MacroDirective, MacroDirectiveKind, WrittenCall}
 use Rattle.def_laws.proofs.DepthsLaws.{attr_ranks, call_ranks, deeper_ranks, lie_both, walk_lies}
 use Rattle.def_laws.proofs.SoundLaws.{IsLarger}
 use Rattle.def_laws.proofs.AddedLaws.{AddsNew, added_new, none_added}
-use Rattle.def_laws.proofs.CleanLaws.{IsClean, none_failed-add_module, none_failed-invoking, none_failed-showing_helpers, none_failed-taking, none_failed-with_module}
-use Rattle.def_laws.proofs.LargerLaws.{larger_add_module, larger_invoking, larger_showing, larger_refl, larger_same, larger_taking, larger_trans, larger_with_module, own_next, own_root}
+use Rattle.def_laws.proofs.CleanLaws.{IsClean, none_failed-add_module, none_failed-invoking, none_failed-replaced, none_failed-showing_helpers, none_failed-taking, none_failed-with_module}
+use Rattle.def_laws.proofs.LargerLaws.{larger_add_module, larger_invoking, larger_replaced, larger_showing, larger_refl, larger_same, larger_taking, larger_trans, larger_with_module, own_next, own_root}
 use Rattle.def_laws.proofs.OwnLaws.{own_both}
 use Rattle.def_laws.proofs.PlainLaws.{ArePlain, own_walk, plain_both, plain_walk, explicit_by}
 
@@ -259,12 +260,16 @@ expanded_footprint oracle s scope depth t e here content targets imports macros 
     ids : List ModItemId
     ids = top_items oracle (expansion_tree e.call)
 
-    by : (over last : Bool) → nat_eq e.depth deepest ≡ last → Footprint s scope depth (cond (over || last) (only t) (followed_by t (walk oracle inner ids)))
+    u : State
+    u = with_replaced oracle t e
+
+    by : (over last : Bool) → nat_eq e.depth deepest ≡ last → Footprint s scope depth (cond (over || last) (only t) (followed_by u (walk oracle inner ids)))
     by true last is = map_footprint s scope depth t [] content targets imports macros expansions larger clean (λ targets own. tt) tt (λ rank low. tt)
     by false true is = map_footprint s scope depth t [] content targets imports macros expansions larger clean (λ targets own. tt) tt (λ rank low. tt)
     by false false is =
-        map_footprint s scope depth t (walk oracle inner ids) content targets imports macros expansions larger clean
-        (λ targets own. own_walk oracle t.map targets inner ids (subst (λ at. IsOwn t.map at) (sym here) own)) (plain_walk oracle inner ids)
+        map_footprint s scope depth u (walk oracle inner ids) content targets imports macros expansions
+        (larger_trans s.map t.map u.map larger (larger_replaced oracle e.call e.replaces t.map)) (λ none. none_failed-replaced oracle e.call e.replaces t.map (clean none))
+        (λ targets own. own_walk oracle u.map targets inner ids (subst (λ at. IsOwn u.map at) (sym here) own)) (plain_walk oracle inner ids)
         (λ rank low. walk_lies oracle rank inner ids (omega (arith, low, lies)))
 
 module _ (oracle : Oracle) (s : State) (site : Site) where

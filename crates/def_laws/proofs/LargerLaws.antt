@@ -1,28 +1,36 @@
 -- Maps that grow by modules.
-use Rattle.std.proofs.Common.{◌≡◌, ◌⊎◌, ◌<◌, ◌+◌, ℕ, zero, suc, Bool, true, false, cond, List, [], ◌∷◌, ◌++◌, length, slice_get, Option, Some, None, refl, sym, ap, ◌∙◌, subst, arith, inl, inr, length-append, append-nil, append_assoc}
+use Rattle.std.proofs.Common.{◌≡◌, ◌⊎◌, ◌<◌, ◌+◌, ℕ, zero, suc, Bool, true, false, cond, List, [], ◌∷◌, ◌++◌, map, length, slice_get, Option, Some, None, refl, sym, ap, ◌∙◌, subst, arith, inl, inr, length-append, append-nil, append_assoc}
 use Rattle.std.specs.Prelude.{nat_lt}
 use Rattle.std.specs.Option.{option_and_then}
 use Rattle.std.proofs.lemmas.Bool.{ltb-true}
 use Rattle.item_tree.specs.declared.ids.FileAstId.{FileAstId}
 use Rattle.item_tree.specs.declared.ids.InFile.{InFile}
 use Rattle.item_tree.specs.declared.ids.MacroCallId.{MacroCallId}
+use Rattle.item_tree.specs.declared.ids.ModItemId.{ModItemId}
+use Rattle.item_tree.specs.declared.ids.TreeId.{TreeId}
+use Rattle.item_tree.specs.declared.items.ItemNode.{ItemNode}
 use Rattle.item_tree.specs.declared.name.Name.{Name}
 use Rattle.def_ids.specs.declared.ids.MacroId.{MacroId}
 use Rattle.def_ids.specs.declared.ids.ModuleId.{ModuleId}
+use Rattle.def_interner.specs.declared.macro_def.MacroDefId.{MacroDefId}
 use Rattle.def_bindings.specs.declared.visibility.Visibility.{Visibility}
 use Rattle.def_bindings.specs.Tree.{AreParentsLower}
 use Rattle.def_modules.specs.declared.module_data.ModuleOrigin.{ModuleOrigin}
-use Rattle.def_modules.specs.MapState.{MapState, ModuleState}
-use Rattle.def_modules.specs.Maps.{known_parent, pushed, with_macro_use, with_module}
+use Rattle.def_modules.specs.MapState.{MapState, ModuleState, ShownHelper}
+use Rattle.def_modules.specs.Maps.{known_parent, pushed, with_helper, with_macro_use, with_module}
 use Rattle.def_modules.specs.Scopes.{with_invocation}
 use Rattle.def_modules.specs.Updates.{update_at}
+use Rattle.def_oracle.specs.Oracle.{Oracle}
 use Rattle.def_parts.specs.ProcMacros.{NameAndHelpers}
 use Rattle.def_laws.specs.Own.{IsOwn}
-use Rattle.def_rules.specs.Calls.{invoking}
+use Rattle.def_rules.specs.Calls.{each_helped, expansion_tree, helped, invoking, replaced_by, with_helpers}
+use Rattle.def_rules.specs.Derives.{derived_map, helper_names, helper_of, with_derive_call}
+use Rattle.def_rules.specs.Items.{node_at, top_items}
 use Rattle.def_rules.specs.Macros.{showing_helpers, taking}
 use Rattle.def_rules.specs.Recording.{with_new_prelude}
 use Rattle.def_rules.specs.Modules.{add_module, fresh_module, next_module}
 use Rattle.def_rules.specs.State.{State, root}
+use Rattle.def_rules.specs.Waiting.{MacroDirective, WrittenDerive}
 use Rattle.def_laws.proofs.SoundLaws.{IsLarger}
 
 length-update_at : {X : Type 0} (xs : List X) (i : ℕ) (f : X → X) → length (update_at xs i f) ≡ length xs
@@ -136,6 +144,34 @@ pub larger_showing : (in_block : Bool) (id : MacroId) (read : Option NameAndHelp
 larger_showing in_block id None m = larger_refl m
 larger_showing true id (Some read) m = larger_refl m
 larger_showing false id (Some read) m = larger_same m (showing_helpers false id (Some read) m) refl refl refl refl
+
+-- nor do helpers of a derive, and its call
+larger_helpers : (position : InFile FileAstId) (helpers : List ShownHelper) (m : MapState) → IsLarger m (with_helpers m position helpers)
+larger_helpers position [] m = larger_refl m
+larger_helpers position (helper ∷ helpers) m =
+    let first : MapState = with_helper m position helper in
+    larger_trans m first (with_helpers first position helpers) (larger_same m first refl refl refl refl) (larger_helpers position helpers first)
+
+larger_helped : (tree : TreeId) (helpers : List ShownHelper) (item : Option ItemNode) (m : MapState) → IsLarger m (helped m tree helpers item)
+larger_helped tree helpers None m = larger_refl m
+larger_helped tree helpers (Some item) m = larger_helpers (record { file = tree.file; value = item.ast_id }) helpers m
+
+larger_each : (oracle : Oracle) (tree : TreeId) (helpers : List ShownHelper) (ids : List ModItemId) (m : MapState) → IsLarger m (each_helped oracle m tree helpers ids)
+larger_each oracle tree helpers [] m = larger_refl m
+larger_each oracle tree helpers (id ∷ ids) m =
+    let first : MapState = helped m tree helpers (node_at oracle tree id) in
+    larger_trans m first (each_helped oracle first tree helpers ids) (larger_helped tree helpers (node_at oracle tree id) m) (larger_each oracle tree helpers ids first)
+
+pub larger_replaced : (oracle : Oracle) (call : MacroCallId) (replaces : Option (InFile FileAstId)) (m : MapState) → IsLarger m (replaced_by oracle m call replaces)
+larger_replaced oracle call None m = larger_refl m
+larger_replaced oracle call (Some position) m = larger_each oracle (expansion_tree call) (m.helpers position) (top_items oracle (expansion_tree call)) m
+
+pub larger_derived : (oracle : Oracle) (m : MapState) (d : MacroDirective) (written : WrittenDerive) (found : MacroDefId) (call : MacroCallId) → IsLarger m (derived_map oracle m d written found call)
+larger_derived oracle m d written found call =
+    let placed : ModuleState → ModuleState = with_derive_call d written call in
+    let first : MapState = with_module m d.scope.index placed in
+    let helpers : List ShownHelper = map (helper_of found call) (helper_names oracle m.id.krate found) in
+    larger_trans m first (with_helpers first d.position helpers) (larger_with_module m d.scope.index placed) (larger_helpers d.position helpers first)
 
 pub own_next : (s : State) (at : ModuleId) (name : Name) (vis : Visibility) (o : ModuleOrigin) → length s.map.parents ≡ length s.map.modules → IsOwn (add_module s at name vis o).map (next_module s)
 own_next s at name vis o even =

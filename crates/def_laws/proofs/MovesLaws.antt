@@ -1,5 +1,5 @@
 -- The steps of a run, by what they do to the table of bindings.
-use Rattle.std.proofs.Common.{◌≡◌, ℕ, true, List, [], ◌∷◌, ◌++◌, refl, ap, subst, ◌∙◌}
+use Rattle.std.proofs.Common.{◌≡◌, ◌⊎◌, ℕ, true, List, [], ◌∷◌, ◌++◌, refl, ap, subst, ◌∙◌, inl}
 use Rattle.def_ids.specs.declared.ids.ModuleId.{ModuleId}
 use Rattle.def_bindings.specs.declared.bindings.EdgeTo.{EdgeTo}
 use Rattle.def_bindings.specs.declared.bindings.Entry.{Entry}
@@ -8,13 +8,14 @@ use Rattle.def_bindings.specs.Content.{Content}
 use Rattle.def_oracle.specs.Oracle.{Oracle}
 use Rattle.def_globs.specs.Globs.{with_recorded}
 use Rattle.def_rules.specs.Recording.{ImportStep}
-use Rattle.def_rules.specs.State.{State, Effect, Expansion, MacroDirective, Moment, Rearranges, Task, Enter, Visit, Put, Bring, AddEdge, after, only, order, with_content, with_state}
+use Rattle.def_rules.specs.State.{State, Effect, Moment, Rearranges, Task, Enter, Visit, TryDerive, Put, Bring, AddEdge, after, only, order, with_content, with_state}
+use Rattle.def_rules.specs.Waiting.{Expansion, MacroDirective}
 use Rattle.def_rules.specs.Steps.{Copies, Does, Step, performs, copies, rearranges, records, asks, expands, put_effect}
 use Rattle.def_laws.specs.Depths.{WaitsIn}
 use Rattle.def_laws.specs.Own.{IsOwn, Stands}
 use Rattle.def_laws.specs.Roles.{is_still, place_of, role_of}
 use Rattle.def_laws.proofs.FootprintLaws.{Footprint, bring_footprint, enter_footprint, visits_footprint}
-use Rattle.def_laws.proofs.TurnsLaws.{TurnFootprint, asks_footprint, expands_footprint, waiting_with}
+use Rattle.def_laws.proofs.TurnsLaws.{TryFootprint, TurnFootprint, asks_footprint, expands_footprint, tries_footprint, waiting_with}
 
 -- tasks that leave the table as it is
 abbrev pub AreStill : List Task → Type 0
@@ -28,9 +29,9 @@ pub data Move (oracle : Oracle) (a b : Moment) : Type 0 where
   -- an edge is added
   linking : (source : ModuleId) (edge : EdgeTo Visibility) (rest : List Task) → a.tasks ≡ AddEdge source edge ∷ rest
       → b ≡ after a rest (only (with_content a.state (with_recorded (order a.state) a.state.content source edge))) → Move oracle a b
-  -- something else is done in a module, for which these tasks go, and perhaps some of what waits: of the rest each waits where something waited
+  -- something else is done in a module, for which these tasks go, and of what waits some may go or join: each waits where something waited, or in that module
   doing : (gone rest : List Task) (scope : ModuleId) (depth : ℕ) (macros : List MacroDirective) (expansions : List Expansion) (effect : Effect) → a.tasks ≡ gone ++ rest → AreStill gone
-      → (Stands a.tasks a.state → IsOwn a.state.map scope) → ((at : ModuleId) → WaitsIn (waiting_with a.state macros expansions) at → WaitsIn a.state at)
+      → (Stands a.tasks a.state → IsOwn a.state.map scope) → ((at : ModuleId) → WaitsIn (waiting_with a.state macros expansions) at → WaitsIn a.state at ⊎ (at ≡ scope))
       → Footprint (waiting_with a.state macros expansions) scope depth effect → b ≡ after a rest effect → Move oracle a b
   -- something is copied
   copying : (content : Content Visibility) → Copies a.state content → b ≡ with_state a (with_content a.state content) → Move oracle a b
@@ -48,15 +49,18 @@ module _ {oracle : Oracle} (a b : Moment) where
   move_by (Put at entry) rest effect first does is = putting at entry rest first (is ∙ ap (after a rest) does)
   move_by (AddEdge source edge) rest effect first does is = linking source edge rest first (is ∙ ap (after a rest) does)
   move_by (Enter at directory) rest effect first does is =
-      doing (Enter at directory ∷ []) rest at 0 a.state.macros a.state.expansions _ first (refl, tt) (first_own a (Enter at directory) rest first) (λ at waits. waits) (enter_footprint a.state at directory) (is ∙ ap (after a rest) does)
+      doing (Enter at directory ∷ []) rest at 0 a.state.macros a.state.expansions _ first (refl, tt) (first_own a (Enter at directory) rest first) (λ at waits. inl waits) (enter_footprint a.state at directory) (is ∙ ap (after a rest) does)
   move_by (Bring from into) rest effect first does is =
-      doing (Bring from into ∷ []) rest into 0 a.state.macros a.state.expansions _ first (refl, tt) (first_own a (Bring from into) rest first) (λ at waits. waits) (bring_footprint a.state from into) (is ∙ ap (after a rest) does)
+      doing (Bring from into ∷ []) rest into 0 a.state.macros a.state.expansions _ first (refl, tt) (first_own a (Bring from into) rest first) (λ at waits. inl waits) (bring_footprint a.state from into) (is ∙ ap (after a rest) does)
   move_by (Visit site id) rest effect first does is =
-      doing (Visit site id ∷ []) rest site.scope site.depth a.state.macros a.state.expansions effect first (refl, tt) (first_own a (Visit site id) rest first) (λ at waits. waits) (visits_footprint oracle a.state site id effect does) is
+      doing (Visit site id ∷ []) rest site.scope site.depth a.state.macros a.state.expansions effect first (refl, tt) (first_own a (Visit site id) rest first) (λ at waits. inl waits) (visits_footprint oracle a.state site id effect does) is
+  move_by (TryDerive directive written) rest effect first does is =
+      let tried : TryFootprint a.state directive.scope effect = tries_footprint oracle a.state directive written effect does in
+      doing (TryDerive directive written ∷ []) rest directive.scope directive.depth tried.macros tried.expansions effect first (refl, tt) (first_own a (TryDerive directive written) rest first) tried.fewer (tried.foot directive.depth) is
 
   -- a macro or an expansion has its turn
   turning : (effect : Effect) → a.tasks ≡ [] → TurnFootprint a.state effect → b ≡ after a [] effect → Move oracle a b
-  turning effect idle turn is = doing [] [] turn.scope turn.depth turn.macros turn.expansions effect idle tt (λ stands. stands.waiting turn.scope turn.waits) turn.fewer turn.foot is
+  turning effect idle turn is = doing [] [] turn.scope turn.depth turn.macros turn.expansions effect idle tt (λ stands. stands.waiting turn.scope turn.waits) (λ at waits. inl (turn.fewer at waits)) turn.foot is
 
   -- what a step does
   pub move_of : Step oracle a b → Move oracle a b

@@ -1,13 +1,17 @@
 -- A pass over the macros that wait, and the expansions that it leads to.
-use Rattle.std.proofs.Common.{◌≡◌, ◌<◌, ◌≤◌, ◌+◌, ◌-◌, ◌*◌, ◌^◌, ℕ, zero, suc, Bool, true, false, cond, ◌||◌, nat_eq, nat_lt, List, [], ◌∷◌, ◌++◌, length, length-append, slice_get, Option, Some, None, Result, Ok, Err, Contains, refl, ap, subst, ◌∙◌, append-nil, arith, if◌then◌else◌}
+use Rattle.std.proofs.Common.{◌≡◌, ◌<◌, ◌≤◌, ◌+◌, ◌-◌, ◌*◌, ◌^◌, ℕ, zero, suc, Bool, true, false, cond, ◌||◌, nat_eq, nat_lt, List, [], ◌∷◌, ◌++◌, length, length-append, map, slice_get, Option, Some, None, Result, Ok, Err, Contains, refl, sym, ap, subst, ◌∙◌, append-nil, append_assoc, arith, inl, inr, if◌then◌else◌}
 use Rattle.std.specs.Prelude.{sum_by, unwrap_or}
 use Rattle.std.specs.Option.{option_map_or}
+use Rattle.std.proofs.lemmas.Bool.{cases_lt}
+use Rattle.std.proofs.lemmas.List.{map-append}
 use Rattle.std.proofs.Math.Nat.{mul-le-mul_right, one-le-pow}
 use Rattle.std.proofs.lemmas.List.Sums.{sum_by-append, sum_by-cons}
 use Rattle.item_tree.specs.declared.ids.FileAstId.{FileAstId}
 use Rattle.item_tree.specs.declared.ids.InFile.{InFile}
 use Rattle.item_tree.specs.declared.ids.MacroCallId.{MacroCallId}
 use Rattle.item_tree.specs.declared.ids.ModItemId.{ModItemId}
+use Rattle.item_tree.specs.declared.ids.SyntaxContext.{SyntaxContext}
+use Rattle.item_tree.specs.declared.mod_path.ModPath.{ModPath}
 use Rattle.item_tree.specs.declared.name.Name.{Name}
 use Rattle.item_tree.specs.Paths.{as_ident}
 use Rattle.def_ids.specs.declared.ids.MapId.{MapId}
@@ -26,21 +30,26 @@ use Rattle.def_paths.specs.declared.asked.BuiltinShadowMode.TheVariants as shado
 use Rattle.def_paths.specs.declared.per_ns.MacroSubNs.TheVariants as sub
 use Rattle.def_paths.specs.Paths.{for_import, resolve, resolver}
 use Rattle.def_globs.proofs.ListLaws.{first_in, later_in}
-use Rattle.def_rules.specs.Calls.{answer_by, deepest, expansion_effect, expansion_site, expansion_tree, invoking, with_invocations}
+use Rattle.def_rules.specs.Calls.{answer_by, deeper, deepest, expansion_effect, expansion_site, expansion_tree, invoking, is_too_deep, with_invocations, with_replaced}
 use Rattle.def_rules.specs.Attributes.{AttrUse, PassesOver, ReadsDerives, ReplacesItem, attr_macro, attr_query, attr_use, is_helper, is_helper_name, item_site}
-use Rattle.def_rules.specs.Directives.{AllStay, ExpansionStep, GivesCall, MacroStep, Stays, Told, Turn, WalksItem, answer_in, attr_told, call_answer, call_told, expansion_of, given_state, given_turn, item_told, told, told_by, turn_effect, use_told, walked_state}
+use Rattle.def_rules.specs.Derives.{derive_call, derive_directive, derive_macro, derive_paths, derive_query, derives_from, may_derive}
+use Rattle.def_rules.specs.declared.diagnostics.DefDiagnosticKind.{DefDiagnosticKind}
+use Rattle.def_rules.specs.Directives.{AllStay, ExpansionStep, GivesCall, GivesDerive, MacroStep, Stays, Told, Turn, WalksItem, answer_in, attr_told, call_answer, call_told, derive_told, expanding, expansion_of, given_state, given_turn, item_told, list_told, told, told_by, tried_effect, tries, turn_effect, use_told, walked_state}
 use Rattle.def_rules.specs.Imports.{is_ready}
-use Rattle.def_rules.specs.Items.{top_items, walk}
+use Rattle.def_rules.specs.Items.{node_at, top_items, walk}
 use Rattle.def_rules.specs.Recording.{NoneReady}
-use Rattle.def_rules.specs.State.{State, Attr, Effect, Event, Expansion, FnLike, MacroDirective, MacroDirectiveKind, Site, Task, Visit, WrittenAttr, WrittenCall, after, followed_by, only, with_map, world}
+use Rattle.def_rules.specs.State.{State, Effect, Event, Site, Task, TryDerive, Visit, after, followed_by, only, with_map, world}
+use Rattle.def_rules.specs.Waiting.{Attr, Derive, Expansion, FnLike, MacroDirective, MacroDirectiveKind, WrittenAttr, WrittenCall, WrittenDerive}
 use Rattle.def_rules.specs.Steps.{Step, asks, expands, one}
 use Rattle.def_laws.specs.Depths.{AreVisitsBelow, OnlyInvokes, Queues, WaitsAlike, depth_rank, expansion_work, kind_rank, macro_rank, macro_work, visit_rank, waiting_work}
-use Rattle.def_laws.specs.Own.{Stands}
+use Rattle.def_laws.specs.Own.{IsOwn, Stands}
+use Rattle.def_laws.specs.Performs.{Tried}
 use Rattle.def_laws.specs.Runs.{Collects, Leads, at}
-use Rattle.def_laws.proofs.DepthsLaws.{above_deepest, item_ranks, visit_rank_is, walk_lies}
+use Rattle.def_laws.proofs.DepthsLaws.{above_deepest, deeper_is, deeper_last, item_ranks, visit_rank_is, walk_lies}
 use Rattle.def_laws.specs.Work.{weight}
-use Rattle.def_laws.proofs.StepsLaws.{collects_trans, footprint_raised, footprint_sound}
-use Rattle.def_laws.proofs.TurnsLaws.{TurnFootprint, asks_footprint, expands_footprint, told_same, waiting_with}
+use Rattle.def_laws.proofs.StepsLaws.{collects_refl, collects_trans, footprint_raised, footprint_sound}
+use Rattle.def_laws.proofs.TurnsLaws.{TryFootprint, TurnFootprint, asks_footprint, expands_footprint, told_same, tries_footprint, waiting_with}
+use Rattle.def_laws.proofs.WaveLaws.{runs_task}
 use Rattle.def_laws.proofs.WorkLaws.{lighter, weight_is}
 
 -- Calls that are recorded, which no path reads
@@ -123,9 +132,13 @@ module _ (oracle : Oracle) (s t : State) (only_calls : OnlyInvokes s t) where
           depth = d.depth;
         }
 
+    list_turn_same : (found : MacroDefId) (paths : Result (List (ModPath × SyntaxContext)) DefDiagnosticKind) → (list_told oracle t d written found paths).turn ≡ (list_told oracle s d written found paths).turn
+    list_turn_same found (Ok paths) = ap (λ q. WalksItem (derives_from written.id (oracle.make_attr_call q) 0 paths) written) (query_same found)
+    list_turn_same found (Err kind) = refl
+
     use_turn_same : (found : MacroDefId) (role : AttrUse) → (use_told oracle t d written found role).turn ≡ (use_told oracle s d written found role).turn
     use_turn_same found PassesOver = refl
-    use_turn_same found ReadsDerives = refl
+    use_turn_same found ReadsDerives = list_turn_same found (derive_paths written (may_derive (node_at oracle written.tree written.item)))
     use_turn_same found ReplacesItem = ap (λ q. GivesCall (oracle.make_attr_call q)) (query_same found)
 
     attr_turn_same : (found : Option MacroDefId) → (attr_told oracle t d written found).turn ≡ (attr_told oracle s d written found).turn
@@ -138,11 +151,17 @@ module _ (oracle : Oracle) (s t : State) (only_calls : OnlyInvokes s t) where
     item_turn_same false =
         ap (λ w. (attr_told oracle t d written (attr_macro w d.scope written.attr)).turn) world_same ∙ attr_turn_same (attr_macro (world oracle s) d.scope written.attr)
 
+  derive_turn_same : (d : MacroDirective) (written : WrittenDerive) (found : Option MacroDefId) → (derive_told oracle t d written found).turn ≡ (derive_told oracle s d written found).turn
+  derive_turn_same d written None = refl
+  derive_turn_same d written (Some found) = ap (λ (id : MapId). GivesDerive (oracle.make_derive_call (derive_query id.krate d written found))) id_same
+
   kind_turn_same : (d : MacroDirective) (kind : MacroDirectiveKind) → (told_by oracle t d kind).turn ≡ (told_by oracle s d kind).turn
   kind_turn_same d (FnLike written) = ap (λ a. (call_told t d a).turn) (answer_same d written) ∙ call_turn_same d (call_answer oracle s d written)
   kind_turn_same d (Attr written) =
       ap (λ helpers. (item_told oracle t d written (is_helper_name (helpers d.position) (as_ident written.attr.path))).turn) helpers_same
       ∙ item_turn_same d written (is_helper s d.position written.attr)
+  kind_turn_same d (Derive written) =
+      ap (λ w. (derive_told oracle t d written (derive_macro w d.scope written)).turn) world_same ∙ derive_turn_same d written (derive_macro (world oracle s) d.scope written)
 
   -- what waits has the same turn as before
   pub turn_same : (d : MacroDirective) → (told oracle t d).turn ≡ (told oracle s d).turn
@@ -186,6 +205,7 @@ module _ (oracle : Oracle) (s : State) (effect : Effect) (turn : TurnFootprint s
 
 weight_grows : (rank : ℕ) (kind : MacroDirectiveKind) → weight rank ≤ weight (rank + kind_rank kind)
 weight_grows rank (FnLike written) = let same : rank + kind_rank (FnLike written) ≡ rank = omega arith in let whole = ap weight same in omega (arith, whole)
+weight_grows rank (Derive written) = let same : rank + kind_rank (Derive written) ≡ rank = omega arith in let whole = ap weight same in omega (arith, whole)
 weight_grows rank (Attr written) = let here = weight_is rank in let above = weight_is (rank + 1) in let low = lighter rank (rank + 1) (omega arith) in omega (arith, here, above, low)
 
 some_weight : (rank : ℕ) → 1 ≤ weight rank
@@ -210,19 +230,122 @@ queues_less rank s t queues few =
     let whole = weight_is rank in
     omega (arith, all, most, one, whole)
 
+-- Derives that are tried
+
+-- those of one list weigh less than what ranks above their attribute's depth
+tries_less : (rank n : ℕ) → n < 2 ^ 64 → n * (2 * weight rank) < weight (rank + 1)
+tries_less rank n few =
+    let above = weight_is (rank + 1) in
+    let low = lighter rank (rank + 1) (omega arith) in
+    let some = some_weight rank in
+    let most : n * (2 * weight rank) ≤ (2 ^ 64 - 1) * (2 * weight rank) = mul-le-mul_right (2 * weight rank) (omega (arith, few)) in
+    omega (arith, above, low, some, most)
+
+-- what lies deeper weighs no more
+deeper_weighs : (depth : ℕ) → depth ≤ deepest → weight (depth_rank (deeper depth)) ≤ weight (depth_rank depth)
+deeper_weighs depth most = elim (cases_lt depth deepest) [
+  | inl less ↦
+      let next = deeper_is depth less in
+      let low = lighter (depth_rank (deeper depth)) (depth_rank depth) (omega (arith, next, less)) in
+      let whole = weight_is (depth_rank depth) in
+      omega (arith, low, whole)
+  | inr last ↦
+      let here : deeper depth ≡ depth = deeper_last depth last ∙ omega (arith, most, last) in
+      let both = ap (λ x. weight (depth_rank x)) here in
+      omega (arith, both)
+]
+
+module _ (oracle : Oracle) (s : State) (d : MacroDirective) (written : WrittenDerive) where
+  -- the state in which one was tried
+  abbrev after_try : Option MacroDefId → State
+  after_try found = (tried_effect oracle s d written found).state
+
+  -- it weighs no more than two expansions of the attribute's depth
+  try_weighs : d.depth ≤ deepest → (found : Option MacroDefId) → waiting_work (after_try found) ≤ waiting_work s + 2 * weight (depth_rank d.depth)
+  try_weighs deep None =
+      let waits : MacroDirective = derive_directive d written in
+      let more = sum_by-append macro_work s.macros (waits ∷ []) in
+      let last = sum_by-cons macro_work waits [] in
+      let rank : macro_rank waits ≡ depth_rank (deeper d.depth) = omega arith in
+      let same = ap weight rank in
+      let most = deeper_weighs d.depth deep in
+      omega (arith, more, last, same, most)
+  try_weighs deep (Some found) =
+      let of_expansion : Expansion → ℕ = λ x. expansion_work x.depth in
+      let e : Expansion = expansion_of (derive_directive d written) (derive_call oracle s d written found) in
+      let more = sum_by-append of_expansion s.expansions (e ∷ []) in
+      let last = sum_by-cons of_expansion e [] in
+      let most = deeper_weighs d.depth deep in
+      omega (arith, more, last, most)
+
+  module _ (rest : List Task) (found : Option MacroDefId) (is : derive_macro (world oracle s) d.scope written ≡ found) where
+    abbrev tried : Effect
+    tried = tried_effect oracle s d written found
+
+    foot : TryFootprint s d.scope tried
+    foot = tries_footprint oracle s d written tried (ap (tried_effect oracle s d written) (sym is))
+
+    abbrev beside : State
+    beside = waiting_with s foot.macros foot.expansions
+
+    try_stands : Stands (TryDerive d written ∷ rest) s → Stands (TryDerive d written ∷ rest) beside
+    try_stands stands = record {
+      state = stands.state;
+      tasks = stands.tasks;
+      waiting = λ place waits. elim (foot.fewer place waits) [ inl old ↦ stands.waiting place old | inr here ↦ subst (IsOwn s.map) (sym here) stands.tasks.0.0 ];
+    }
+
+    -- one is tried
+    collects_try : Collects oracle (TryDerive d written ∷ rest) s rest tried.state
+    collects_try = subst (λ (tasks : List Task). Collects oracle (TryDerive d written ∷ rest) s (tasks ++ rest) tried.state) foot.ends (record {
+      runs = runs_task (TryDerive d written) rest s tried (ap (tried_effect oracle s d written) (sym is));
+      keeps = λ stands sound. footprint_sound (TryDerive d written ∷ rest) beside d.scope d.depth tried (foot.foot d.depth) (try_stands stands) sound;
+      raised = λ stands sound before importer slot kept raised. footprint_raised (TryDerive d written ∷ rest) beside d.scope d.depth tried (foot.foot d.depth) (try_stands stands) importer slot kept.order raised;
+    })
+
+-- none is tried
+pub tried_none : (oracle : Oracle) (d : MacroDirective) (s : State) → Tried oracle d [] s s
+tried_none oracle d s = record { collects = λ rest. collects_refl rest s; work = omega arith }
+
+-- one more is
+pub tried_more : (oracle : Oracle) (d : MacroDirective) → d.depth ≤ deepest → (derives : List WrittenDerive) (written : WrittenDerive) (s t u : State) (found : Option MacroDefId) → Tried oracle d derives s t
+    → derive_macro (world oracle t) d.scope written ≡ found → u ≡ (tried_effect oracle t d written found).state → Tried oracle d (derives ++ written ∷ []) s u
+tried_more oracle d deep derives written s t u found before is now = record {
+  collects = λ rest.
+      let order : tries d (derives ++ written ∷ []) ++ rest ≡ tries d derives ++ TryDerive d written ∷ rest =
+      ap (λ tasks. tasks ++ rest) (map-append (λ w. TryDerive d w) derives (written ∷ [])) ∙ append_assoc (tries d derives) (TryDerive d written ∷ []) rest in
+      subst (λ tasks. Collects oracle tasks s rest u) (sym order)
+      (subst (λ x. Collects oracle (tries d derives ++ TryDerive d written ∷ rest) s rest x) (sym now)
+      (collects_trans (before.collects (TryDerive d written ∷ rest)) (collects_try oracle t d written rest found is)));
+  work =
+      let long = length-append derives (written ∷ []) in
+      let was = before.work in
+      let one = try_weighs oracle t d written deep found in
+      let same = ap waiting_work now in
+      let part : ℕ = 2 * weight (depth_rank d.depth) in
+      let next : length (derives ++ written ∷ []) ≡ suc (length derives) = omega (arith, long) in
+      let both : length (derives ++ written ∷ []) * part ≡ suc (length derives) * part = ap (λ n. n * part) next in
+      omega (arith, was, one, same, both);
+}
+
 -- A macro that waits has its turn
 
-walks_items : (oracle : Oracle) (s : State) (d : MacroDirective) (kind : MacroDirectiveKind) (written : WrittenAttr) → (told_by oracle s d kind).turn ≡ WalksItem written → kind_rank kind ≡ 1
-walks_items oracle s d (FnLike call) written is = absurd (by (call_answer oracle s d call) is)
+walks_items : (oracle : Oracle) (s : State) (d : MacroDirective) (kind : MacroDirectiveKind) (derives : List WrittenDerive) (written : WrittenAttr) → (told_by oracle s d kind).turn ≡ WalksItem derives written → kind_rank kind ≡ 1
+walks_items oracle s d (FnLike call) derives written is = absurd (by (call_answer oracle s d call) is)
   where
-    given : (value : Option MacroCallId) → given_turn value ≡ WalksItem written → ⊥
+    given : (value : Option MacroCallId) → given_turn value ≡ WalksItem derives written → ⊥
     given None is = cc is
     given (Some call) is = cc is
 
-    by : (answer : Result CallAnswer UnresolvedMacro) → (call_told s d answer).turn ≡ WalksItem written → ⊥
+    by : (answer : Result CallAnswer UnresolvedMacro) → (call_told s d answer).turn ≡ WalksItem derives written → ⊥
     by (Ok answer) is = given answer.value is
     by (Err unresolved) is = cc is
-walks_items oracle s d (Attr attr) written is = refl
+walks_items oracle s d (Derive derive) derives written is = absurd (by (derive_macro (world oracle s) d.scope derive) is)
+  where
+    by : (found : Option MacroDefId) → (derive_told oracle s d derive found).turn ≡ WalksItem derives written → ⊥
+    by None is = cc is
+    by (Some found) is = cc is
+walks_items oracle s d (Attr attr) derives written is = refl
 
 module _ (oracle : Oracle) (s : State) (before : List MacroDirective) (d : MacroDirective) (behind : List MacroDirective) (stands : s.macros ≡ before ++ d ∷ behind) where
   -- what it was told
@@ -249,9 +372,13 @@ module _ (oracle : Oracle) (s : State) (before : List MacroDirective) (d : Macro
   call_stays (Ok answer) = invokes_calls s d.scope answer.inner
   call_stays (Err unresolved) = invokes_refl s
 
+  list_stays : (written : WrittenAttr) (found : MacroDefId) (paths : Result (List (ModPath × SyntaxContext)) DefDiagnosticKind) → (list_told oracle s d written found paths).turn ≡ Stays → OnlyInvokes s (list_told oracle s d written found paths).state
+  list_stays written found (Ok paths) is = absurd (cc is)
+  list_stays written found (Err kind) is = absurd (cc is)
+
   use_stays : (written : WrittenAttr) (found : MacroDefId) (role : AttrUse) → (use_told oracle s d written found role).turn ≡ Stays → OnlyInvokes s (use_told oracle s d written found role).state
   use_stays written found PassesOver is = absurd (cc is)
-  use_stays written found ReadsDerives is = absurd (cc is)
+  use_stays written found ReadsDerives is = list_stays written found (derive_paths written (may_derive (node_at oracle written.tree written.item))) is
   use_stays written found ReplacesItem is = absurd (cc is)
 
   attr_stays : (written : WrittenAttr) (found : Option MacroDefId) → (attr_told oracle s d written found).turn ≡ Stays → OnlyInvokes s (attr_told oracle s d written found).state
@@ -262,9 +389,14 @@ module _ (oracle : Oracle) (s : State) (before : List MacroDirective) (d : Macro
   item_stays written true is = absurd (cc is)
   item_stays written false is = attr_stays written (attr_macro (world oracle s) d.scope written.attr) is
 
+  derive_stays : (written : WrittenDerive) (found : Option MacroDefId) → (derive_told oracle s d written found).turn ≡ Stays → OnlyInvokes s (derive_told oracle s d written found).state
+  derive_stays written None is = invokes_refl s
+  derive_stays written (Some found) is = absurd (cc is)
+
   kind_stays : (kind : MacroDirectiveKind) → (told_by oracle s d kind).turn ≡ Stays → OnlyInvokes s (told_by oracle s d kind).state
   kind_stays (FnLike written) is = call_stays (call_answer oracle s d written)
   kind_stays (Attr written) is = item_stays written (is_helper s d.position written.attr) is
+  kind_stays (Derive written) is = derive_stays written (derive_macro (world oracle s) d.scope written) is
 
   pub only_invokes : given.turn ≡ Stays → OnlyInvokes s given.state
   only_invokes is = kind_stays d.kind is
@@ -277,17 +409,10 @@ module _ (oracle : Oracle) (s : State) (before : List MacroDirective) (d : Macro
       let left = sum_by-append macro_work before behind in
       omega (arith, was, first, left)
 
-  module _ (call : MacroCallId) (is : given.turn ≡ GivesCall call) where
-    -- the state in which it was given a call
-    abbrev now : State
-    now = given_state given.state before d behind call
-
-    pub collects_given : Collects oracle [] s [] now
-    collects_given = collects_by (GivesCall call) is
-
-    -- with a call, less waits
-    pub given_lighter : waiting_work now < waiting_work s
-    given_lighter =
+  -- with a call, less waits
+  module _ (call : MacroCallId) where
+    expanding_lighter : (m : MapState) → waiting_work (expanding (with_map given.state m) (before ++ behind) d call) < waiting_work s
+    expanding_lighter m =
         let of_expansion : Expansion → ℕ = λ x. expansion_work x.depth in
         let was = weighed in
         let more = sum_by-append of_expansion given.state.expansions (expansion_of d call ∷ []) in
@@ -297,7 +422,21 @@ module _ (oracle : Oracle) (s : State) (before : List MacroDirective) (d : Macro
         let some = some_weight (depth_rank d.depth) in
         omega (arith, was, more, old, last, grows, some)
 
-  module _ (written : WrittenAttr) (is : given.turn ≡ WalksItem written) where
+    -- it was given one
+    pub collects_given : given.turn ≡ GivesCall call → Collects oracle [] s [] (given_state given.state before d behind call)
+    collects_given is = collects_by (GivesCall call) is
+
+    pub given_lighter : waiting_work (given_state given.state before d behind call) < waiting_work s
+    given_lighter = expanding_lighter (invoking d.scope.index ((d.position, call) ∷ []) given.state.map)
+
+    -- it is a derive that was given one
+    pub collects_derived : given.turn ≡ GivesDerive call → Collects oracle [] s [] (expanding given.state (before ++ behind) d call)
+    collects_derived is = collects_by (GivesDerive call) is
+
+    pub derived_lighter : waiting_work (expanding given.state (before ++ behind) d call) < waiting_work s
+    derived_lighter = expanding_lighter given.state.map
+
+  module _ (derives : List WrittenDerive) (written : WrittenAttr) (is : given.turn ≡ WalksItem derives written) where
     -- the state in which its attribute was passed over
     abbrev passed : State
     passed = walked_state given.state before d behind written
@@ -305,26 +444,40 @@ module _ (oracle : Oracle) (s : State) (before : List MacroDirective) (d : Macro
     abbrev again : Task
     again = Visit (item_site given.state d written) written.item
 
-    module _ (t : State) (leads : Leads oracle (again ∷ []) passed [] t) where
-      -- its item was walked
+    module _ (u t : State) (tried : Tried oracle d derives passed u) (leads : Leads oracle (again ∷ []) u [] t) where
+      -- its derives were tried, and its item was walked
       pub collects_walked : Collects oracle [] s [] t
-      collects_walked = collects_trans (collects_by (WalksItem written) is) leads.collects
+      collects_walked =
+          let left : Collects oracle [] s (tries d derives ++ again ∷ []) passed =
+          subst (λ tasks. Collects oracle [] s tasks passed) (append-nil (tries d derives ++ again ∷ [])) (collects_by (WalksItem derives written) is) in
+          collects_trans left (collects_trans (tried.collects (again ∷ [])) leads.collects)
 
       -- and less waits
-      pub walked_lighter : d.depth ≤ deepest → length t.macros < 2 ^ 64 → waiting_work t < waiting_work s
-      walked_lighter most few =
+      pub walked_lighter : d.depth ≤ deepest → length derives < 2 ^ 64 → length t.macros < 2 ^ 64 → waiting_work t < waiting_work s
+      walked_lighter most short few =
           let of_expansion : Expansion → ℕ = λ x. expansion_work x.depth in
-          let kind = walks_items oracle s d d.kind written is in
+          let kind = walks_items oracle s d d.kind derives written is in
           let low = item_ranks d.depth most in
           let below : visit_rank d.depth ≤ macro_rank d = omega (arith, kind, low) in
-          let queues : Queues (macro_rank d) passed t = (leads.queues (macro_rank d) (below, tt)).1 in
-          let less = queues_less (macro_rank d) passed t queues few in
-          let now : sum_by macro_work t.macros ≡ sum_by macro_work (before ++ behind) + sum_by macro_work queues.more = ap (sum_by macro_work) queues.macros ∙ sum_by-append macro_work (before ++ behind) queues.more in
+          let queues : Queues (macro_rank d) u t = (leads.queues (macro_rank d) (below, tt)).1 in
+          let less = queues_less (macro_rank d) u t queues few in
+          let now : sum_by macro_work t.macros ≡ sum_by macro_work u.macros + sum_by macro_work queues.more = ap (sum_by macro_work) queues.macros ∙ sum_by-append macro_work u.macros queues.more in
           let was = weighed in
-          let old : sum_by of_expansion t.expansions ≡ sum_by of_expansion s.expansions = ap (sum_by of_expansion) (leads.expansions ∙ (told_same oracle s d).expansions) in
-          omega (arith, less, now, was, old)
+          let kept : sum_by of_expansion t.expansions ≡ sum_by of_expansion u.expansions = ap (sum_by of_expansion) leads.expansions in
+          let old : sum_by of_expansion passed.expansions ≡ sum_by of_expansion s.expansions = ap (sum_by of_expansion) (told_same oracle s d).expansions in
+          let more = tried.work in
+          let some = tries_less (depth_rank d.depth) (length derives) short in
+          let same : weight (macro_rank d) ≡ weight (depth_rank d.depth + 1) = ap (λ k. weight (depth_rank d.depth + k)) kind in
+          omega (arith, less, now, was, kept, old, more, some, same)
 
 -- An expansion is walked
+
+begins_alike : (oracle : Oracle) (u : State) (e : Expansion) → WaitsAlike u (expansion_effect oracle u e).state
+begins_alike oracle u e = by (is_too_deep u.map e.depth)
+  where
+    by : (deep : Bool) → WaitsAlike u (cond deep (only u) (followed_by (with_replaced oracle u e) (walk oracle (expansion_site oracle u e) (top_items oracle (expansion_tree e.call))))).state
+    by true = record { macros = refl; expansions = refl }
+    by false = record { macros = refl; expansions = refl }
 
 expansion_lies : (oracle : Oracle) (u : State) (e : Expansion) → e.depth ≤ deepest → AreVisitsBelow (depth_rank e.depth) (expansion_effect oracle u e).tasks
 expansion_lies oracle u e most = by (nat_lt (limit_of u.map.krate) e.depth) (nat_eq e.depth deepest) refl
@@ -335,7 +488,7 @@ expansion_lies oracle u e most = by (nat_lt (limit_of u.map.krate) e.depth) (nat
     ids : List ModItemId
     ids = top_items oracle (expansion_tree e.call)
 
-    by : (over last : Bool) → nat_eq e.depth deepest ≡ last → AreVisitsBelow (depth_rank e.depth) (cond (over || last) (only u) (followed_by u (walk oracle inner ids))).tasks
+    by : (over last : Bool) → nat_eq e.depth deepest ≡ last → AreVisitsBelow (depth_rank e.depth) (cond (over || last) (only u) (followed_by (with_replaced oracle u e) (walk oracle inner ids))).tasks
     by true last is = tt
     by false true is = tt
     by false false is = let same = visit_rank_is e.depth (above_deepest e.depth most is) in walk_lies oracle (depth_rank e.depth) inner ids (omega (arith, same))
@@ -348,15 +501,15 @@ module _ (oracle : Oracle) (s t : State) (e : Expansion) (rest : List Expansion)
   stepped : ExpansionStep oracle s (expansion_effect oracle without e)
   stepped = record { before = []; expansion = e; behind = rest; stands = first; is = refl }
 
-  module _ (opened : expansion_effect oracle without e ≡ followed_by without inner) (leads : Leads oracle inner without [] t) where
+  module _ (begun : State) (opened : expansion_effect oracle without e ≡ followed_by begun inner) (leads : Leads oracle inner begun [] t) where
     -- an expansion had its turn, and was walked
     pub collects_expanded : Collects oracle [] s [] t
     collects_expanded =
         let effect : Effect = expansion_effect oracle without e in
         let turn : Collects oracle [] s (effect.tasks ++ []) effect.state = collects_turn oracle s effect (expands_footprint oracle s effect stepped) (λ earlier. expands effect refl stepped refl) in
-        let begun : Collects oracle [] s inner without =
-        subst (λ tasks. Collects oracle [] s tasks without) (append-nil inner) (subst (λ (x : Effect). Collects oracle [] s (x.tasks ++ []) x.state) opened turn) in
-        collects_trans begun leads.collects
+        let first_tasks : Collects oracle [] s inner begun =
+        subst (λ tasks. Collects oracle [] s tasks begun) (append-nil inner) (subst (λ (x : Effect). Collects oracle [] s (x.tasks ++ []) x.state) opened turn) in
+        collects_trans first_tasks leads.collects
 
     -- and less waits
     pub expanded_lighter : e.depth ≤ deepest → length t.macros < 2 ^ 64 → waiting_work t < waiting_work s
@@ -364,10 +517,12 @@ module _ (oracle : Oracle) (s t : State) (e : Expansion) (rest : List Expansion)
         let of_expansion : Expansion → ℕ = λ x. expansion_work x.depth in
         let rank : ℕ = depth_rank e.depth in
         let lie : AreVisitsBelow rank inner = subst (λ (x : Effect). AreVisitsBelow rank x.tasks) opened (expansion_lies oracle without e most) in
-        let queues : Queues rank without t = (leads.queues rank lie).1 in
-        let less = queues_less rank without t queues few in
-        let now : sum_by macro_work t.macros ≡ sum_by macro_work s.macros + sum_by macro_work queues.more = ap (sum_by macro_work) queues.macros ∙ sum_by-append macro_work s.macros queues.more in
-        let left : sum_by of_expansion t.expansions ≡ sum_by of_expansion rest = ap (sum_by of_expansion) leads.expansions in
+        let queues : Queues rank begun t = (leads.queues rank lie).1 in
+        let less = queues_less rank begun t queues few in
+        let alike : WaitsAlike without begun = subst (λ (x : Effect). WaitsAlike without x.state) opened (begins_alike oracle without e) in
+        let now : sum_by macro_work t.macros ≡ sum_by macro_work s.macros + sum_by macro_work queues.more =
+        ap (sum_by macro_work) (queues.macros ∙ ap (λ ds. ds ++ queues.more) alike.macros) ∙ sum_by-append macro_work s.macros queues.more in
+        let left : sum_by of_expansion t.expansions ≡ sum_by of_expansion rest = ap (sum_by of_expansion) (leads.expansions ∙ alike.expansions) in
         let was : sum_by of_expansion s.expansions ≡ expansion_work e.depth + sum_by of_expansion rest = ap (sum_by of_expansion) first ∙ sum_by-cons of_expansion e rest in
         omega (arith, less, now, left, was)
 

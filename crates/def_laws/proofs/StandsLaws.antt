@@ -123,7 +123,7 @@ move_stands a b (linking source edge rest first is) st =
 move_stands a b (doing gone rest scope depth macros expansions effect first still at fewer foot is) st =
     subst StandsAt (sym is)
     (footprint_stands (waiting_with a.state macros expansions) rest scope depth effect foot (at st)
-    (record { state = st.state; tasks = own_last a.state.map a.state.targets gone rest (stands_with a _ first st).tasks; waiting = λ place waits. st.waiting place (fewer place waits) }))
+    (record { state = st.state; tasks = own_last a.state.map a.state.targets gone rest (stands_with a _ first st).tasks; waiting = λ place waits. elim (fewer place waits) [ inl old ↦ st.waiting place old | inr here ↦ subst (IsOwn a.state.map) (sym here) (at st) ] }))
 move_stands a b (copying content copy is) st =
     let s : State = a.state in
     let own : AreOwn s.map s.targets content s.imports =

@@ -1,26 +1,38 @@
 -- What the turn of a macro that waits does, and that of an expansion.
-use Rattle.std.proofs.Common.{◌≡◌, ℕ, Bool, true, false, List, [], ◌∷◌, ◌++◌, Option, Some, None, is_some, arith, Result, Ok, Err, Contains, refl, sym, ap, subst, ◌∙◌, inl, inr}
+use Rattle.std.proofs.Common.{◌≡◌, ◌⊎◌, ℕ, Bool, true, false, List, [], ◌∷◌, ◌++◌, map, Option, Some, None, arith, Result, Ok, Err, Contains, refl, sym, ap, subst, ◌∙◌, inl, inr}
 use Rattle.std.proofs.lemmas.List.Elements.{Contains-append_cases, Contains-append_left, Contains-append_right}
 use Rattle.item_tree.specs.declared.ids.AttrId.{AttrId}
 use Rattle.item_tree.specs.declared.ids.FileAstId.{FileAstId}
 use Rattle.item_tree.specs.declared.ids.InFile.{InFile}
 use Rattle.item_tree.specs.declared.ids.MacroCallId.{MacroCallId}
+use Rattle.item_tree.specs.declared.ids.SyntaxContext.{SyntaxContext}
+use Rattle.item_tree.specs.declared.mod_path.ModPath.{ModPath}
 use Rattle.def_ids.specs.declared.ids.ModuleId.{ModuleId}
 use Rattle.def_interner.specs.declared.macro_def.MacroDefId.{MacroDefId}
+use Rattle.def_modules.specs.MapState.{MapState, ModuleState}
+use Rattle.def_modules.specs.Scopes.{with_derive}
 use Rattle.def_oracle.specs.declared.source_database.CallAnswer.{CallAnswer}
 use Rattle.def_oracle.specs.declared.source_database.UnresolvedMacro.{UnresolvedMacro}
 use Rattle.def_oracle.specs.Oracle.{Oracle}
 use Rattle.def_globs.proofs.ListLaws.{first_in, later_in, only_in}
 use Rattle.def_rules.specs.declared.diagnostics.DefDiagnostic.{DefDiagnostic}
-use Rattle.def_rules.specs.Attributes.{AttrUse, PassesOver, ReadsDerives, ReplacesItem, activated, attr_macro, attr_use, derives_state, is_helper, item_site, listed_state, may_derive}
-use Rattle.def_rules.specs.Directives.{ExpansionStep, GivesCall, MacroStep, Stays, Told, Turn, WalksItem, attr_told, call_answer, call_told, expansion_of, given_state, item_told, told, told_by, turn_effect, use_told, walked_state}
+use Rattle.def_rules.specs.declared.diagnostics.DefDiagnosticKind.{DefDiagnosticKind}
+use Rattle.def_rules.specs.Attributes.{AttrUse, PassesOver, ReadsDerives, ReplacesItem, activated, attr_macro, attr_query, attr_use, directive_reported, is_helper, item_site}
+use Rattle.def_rules.specs.Derives.{derive_call, derive_directive, derive_macro, derive_paths, derived, may_derive}
+use Rattle.def_rules.specs.Directives.{ExpansionStep, GivesCall, GivesDerive, MacroStep, Stays, Told, Turn, WalksItem, attr_told, call_answer, call_told, derive_told, expanding, expansion_of, given_state, item_told, list_told, told, told_by, tried_effect, tries, turn_effect, use_told, walked_state}
 use Rattle.def_rules.specs.Items.{node_at}
-use Rattle.def_rules.specs.State.{State, Attr, Effect, Expansion, FnLike, MacroDirective, MacroDirectiveKind, Site, Visit, WrittenAttr, world}
-use Rattle.def_laws.specs.Depths.{WaitsIn}
+use Rattle.def_rules.specs.Globs.{Targets}
+use Rattle.def_rules.specs.State.{State, Effect, Site, Visit, world}
+use Rattle.def_rules.specs.Waiting.{Attr, Derive, Expansion, FnLike, MacroDirective, MacroDirectiveKind, WrittenAttr, WrittenDerive}
+use Rattle.def_laws.specs.Depths.{AreVisitsBelow, WaitsIn}
 use Rattle.def_laws.specs.Finished.{NoneFailed}
-use Rattle.def_laws.proofs.CleanLaws.{none_failed-invoking}
-use Rattle.def_laws.proofs.FootprintLaws.{Footprint, expanded_footprint, map_footprint}
-use Rattle.def_laws.proofs.LargerLaws.{larger_invoking, larger_refl, larger_trans}
+use Rattle.def_laws.specs.Own.{AreOwnTasks, IsOwn}
+use Rattle.def_laws.proofs.CleanLaws.{none_failed-derived, none_failed-invoking, none_failed-with_module}
+use Rattle.def_laws.proofs.DepthsLaws.{lie_both}
+use Rattle.def_laws.proofs.FootprintLaws.{Footprint, expanded_footprint, map_footprint, still_footprint}
+use Rattle.def_laws.proofs.LargerLaws.{larger_derived, larger_invoking, larger_refl, larger_trans, larger_with_module}
+use Rattle.def_laws.proofs.OwnLaws.{own_both}
+use Rattle.def_laws.proofs.PlainLaws.{ArePlain, plain_both}
 use Rattle.def_laws.proofs.SoundLaws.{IsLarger}
 
 -- the state in which these wait
@@ -47,7 +59,7 @@ beside before behind x y h = elim (Contains-append_cases before behind y h) [
 among : {X : Type 0} (before behind : List X) (x : X) → Contains (before ++ x ∷ behind) x
 among before behind x = Contains-append_right before (x ∷ behind) x (first_in x behind)
 
--- what was told leaves all as it is but the map, in which calls may join, the active attributes and the diagnostics
+-- what was told leaves all as it is but the map, in which calls and derives may join, the active attributes and the diagnostics
 pub record IsToldOf (s t : State) : Type 0 where
   pub content : t.content ≡ s.content
   pub targets : t.targets ≡ s.targets
@@ -71,14 +83,24 @@ module _ (oracle : Oracle) (s : State) (d : MacroDirective) where
   call_same (Err unresolved) = told_still s
 
   module _ (written : WrittenAttr) where
-    derives_same : (may has_list : Bool) → IsToldOf s (derives_state s d written may has_list)
-    derives_same true true = told_noted s (activated s d.position written.id).active s.diagnostics
-    derives_same true false = told_noted s s.active (listed_state s d written false).diagnostics
-    derives_same false has_list = told_noted s s.active (derives_state s d written false has_list).diagnostics
+    list_same : (found : MacroDefId) (paths : Result (List (ModPath × SyntaxContext)) DefDiagnosticKind) → IsToldOf s (list_told oracle s d written found paths).state
+    list_same found (Ok paths) =
+        let call : MacroCallId = oracle.make_attr_call (attr_query s d written found) in
+        let recorded : ModuleState → ModuleState = with_derive d.position written.id (record { call = call; calls = map (λ path. None) paths }) in
+        record {
+          content = refl;
+          targets = refl;
+          imports = refl;
+          macros = refl;
+          expansions = refl;
+          larger = larger_with_module s.map d.scope.index recorded;
+          clean = none_failed-with_module s.map d.scope.index recorded (λ e h. h);
+        }
+    list_same found (Err kind) = told_noted s s.active (directive_reported s d kind).diagnostics
 
     use_same : (found : MacroDefId) (role : AttrUse) → IsToldOf s (use_told oracle s d written found role).state
     use_same found PassesOver = told_still s
-    use_same found ReadsDerives = derives_same (may_derive (node_at oracle written.tree written.item)) (is_some written.attr.paths)
+    use_same found ReadsDerives = list_same found (derive_paths written (may_derive (node_at oracle written.tree written.item)))
     use_same found ReplacesItem = told_noted s (activated s d.position written.id).active s.diagnostics
 
     attr_same : (found : Option MacroDefId) → IsToldOf s (attr_told oracle s d written found).state
@@ -89,12 +111,81 @@ module _ (oracle : Oracle) (s : State) (d : MacroDirective) where
     item_same true = told_still s
     item_same false = attr_same (attr_macro (world oracle s) d.scope written.attr)
 
+  derive_same : (written : WrittenDerive) (found : Option MacroDefId) → IsToldOf s (derive_told oracle s d written found).state
+  derive_same written None = told_still s
+  derive_same written (Some found) =
+      let call : MacroCallId = derive_call oracle s d written found in
+      record { content = refl; targets = refl; imports = refl; macros = refl; expansions = refl; larger = larger_derived oracle s.map d written found call; clean = none_failed-derived oracle s.map d written found call }
+
   told_by_same : (kind : MacroDirectiveKind) → IsToldOf s (told_by oracle s d kind).state
   told_by_same (FnLike written) = call_same (call_answer oracle s d written)
   told_by_same (Attr written) = item_same written (is_helper s d.position written.attr)
+  told_by_same (Derive written) = derive_same written (derive_macro (world oracle s) d.scope written)
 
   pub told_same : IsToldOf s (told oracle s d).state
   told_same = told_by_same d.kind
+
+-- Derives that are tried
+
+tries_own : (m : MapState) (targets : Targets) (d : MacroDirective) → IsOwn m d.scope → (derives : List WrittenDerive) → AreOwnTasks m targets (tries d derives)
+tries_own m targets d own [] = tt
+tries_own m targets d own (written ∷ derives) = ((own, tt), tries_own m targets d own derives)
+
+tries_plain : (d : MacroDirective) (derives : List WrittenDerive) → ArePlain (tries d derives)
+tries_plain d [] = tt
+tries_plain d (written ∷ derives) = (tt, tries_plain d derives)
+
+tries_lie : (rank : ℕ) (d : MacroDirective) (derives : List WrittenDerive) → AreVisitsBelow rank (tries d derives)
+tries_lie rank d [] = tt
+tries_lie rank d (written ∷ derives) = (tt, tries_lie rank d derives)
+
+-- one that is tried waits or has its expansion wait, in its module, and nothing else does
+pub record TryFootprint (s : State) (scope : ModuleId) (effect : Effect) : Type 0 where
+  pub macros : List MacroDirective
+  pub expansions : List Expansion
+  pub fewer : (at : ModuleId) → WaitsIn (waiting_with s macros expansions) at → WaitsIn s at ⊎ (at ≡ scope)
+  pub foot : (depth : ℕ) → Footprint (waiting_with s macros expansions) scope depth effect
+  pub ends : effect.tasks ≡ []
+
+module _ (oracle : Oracle) (s : State) (d : MacroDirective) (written : WrittenDerive) where
+  -- by the macro that is found
+  try_footprint : (found : Option MacroDefId) → TryFootprint s d.scope (tried_effect oracle s d written found)
+  try_footprint None =
+      let waits : MacroDirective = derive_directive d written in
+      record {
+        macros = s.macros ++ waits ∷ [];
+        expansions = s.expansions;
+        fewer = λ at still. elim still [
+          | inl macro ↦ elim (Contains-append_cases s.macros (waits ∷ []) macro.0 macro.1) [
+            | inl old ↦ inl (inl (macro.0, old, macro.2))
+            | inr new ↦ inr (sym macro.2 ∙ ap (λ (x : MacroDirective). x.scope) (only_in waits macro.0 new))
+          ]
+          | inr expansion ↦ inl (inr expansion)
+        ];
+        foot = λ depth. still_footprint (waiting_with s (s.macros ++ waits ∷ []) s.expansions) d.scope depth;
+        ends = refl;
+      }
+  try_footprint (Some found) =
+      let call : MacroCallId = derive_call oracle s d written found in
+      let e : Expansion = expansion_of (derive_directive d written) call in
+      let t : State = expanding (derived oracle s d written found call) s.macros (derive_directive d written) call in
+      record {
+        macros = s.macros;
+        expansions = s.expansions ++ e ∷ [];
+        fewer = λ at still. elim still [
+          | inl macro ↦ inl (inl macro)
+          | inr expansion ↦ elim (Contains-append_cases s.expansions (e ∷ []) expansion.0 expansion.1) [
+            | inl old ↦ inl (inr (expansion.0, old, expansion.2))
+            | inr new ↦ inr (sym expansion.2 ∙ ap (λ (x : Expansion). x.scope) (only_in e expansion.0 new))
+          ]
+        ];
+        foot = λ depth. map_footprint (waiting_with s s.macros (s.expansions ++ e ∷ [])) d.scope depth t [] refl refl refl refl refl
+            (larger_derived oracle s.map d written found call) (none_failed-derived oracle s.map d written found call) (λ targets own. tt) tt (λ rank low. tt);
+        ends = refl;
+      }
+
+  pub tries_footprint : (effect : Effect) → effect ≡ tried_effect oracle s d written (derive_macro (world oracle s) d.scope written) → TryFootprint s d.scope effect
+  tries_footprint effect does = subst (λ e. TryFootprint s d.scope e) (sym does) (try_footprint (derive_macro (world oracle s) d.scope written))
 
 module _ (oracle : Oracle) (s : State) (effect : Effect) where
   -- an expansion is walked
@@ -140,6 +231,16 @@ module _ (oracle : Oracle) (s : State) (effect : Effect) where
     same : IsToldOf s given.state
     same = told_same oracle s d
 
+    -- what waits once it was given a call
+    given_waits : (call : MacroCallId) (at : ModuleId) → WaitsIn (waiting_with s left (s.expansions ++ expansion_of d call ∷ [])) at → WaitsIn s at
+    given_waits call at waits = elim waits [
+      | inl macro ↦ inl (macro.0, waited macro.0 macro.1, macro.2)
+      | inr expansion ↦ elim (Contains-append_cases s.expansions (expansion_of d call ∷ []) expansion.0 expansion.1) [
+        | inl old ↦ inr (expansion.0, old, expansion.2)
+        | inr new ↦ inl (d, among_macros, ap (λ (x : Expansion). x.scope) (sym (only_in (expansion_of d call) expansion.0 new)) ∙ expansion.2)
+      ]
+    ]
+
     turn : (turn : Turn) → effect ≡ turn_effect given.state step.before d step.behind turn → TurnFootprint s effect
     turn Stays does = record {
       scope = d.scope;
@@ -162,19 +263,27 @@ module _ (oracle : Oracle) (s : State) (effect : Effect) where
           macros = left;
           expansions = more;
           waits = here;
-          fewer = λ at waits. elim waits [
-            | inl macro ↦ inl (macro.0, waited macro.0 macro.1, macro.2)
-            | inr expansion ↦ elim (Contains-append_cases s.expansions (expansion_of d call ∷ []) expansion.0 expansion.1) [
-              | inl old ↦ inr (expansion.0, old, expansion.2)
-              | inr new ↦ inl (d, among_macros, ap (λ (x : Expansion). x.scope) (sym (only_in (expansion_of d call) expansion.0 new)) ∙ expansion.2)
-            ]
-          ];
+          fewer = given_waits call;
           foot = subst (λ e. Footprint u d.scope d.depth e) (sym does)
               (map_footprint u d.scope d.depth t [] same.content same.targets same.imports refl (ap (λ es. es ++ expansion_of d call ∷ []) same.expansions)
               (larger_trans s.map given.state.map t.map same.larger (larger_invoking d.scope.index made given.state.map))
               (λ none. none_failed-invoking d.scope.index made given.state.map (same.clean none)) (λ targets own. tt) tt (λ rank low. tt));
         }
-    turn (WalksItem written) does =
+    turn (GivesDerive call) does =
+        let more : List Expansion = s.expansions ++ expansion_of d call ∷ [] in
+        let u : State = waiting_with s left more in
+        let t : State = expanding given.state left d call in
+        record {
+          scope = d.scope;
+          depth = d.depth;
+          macros = left;
+          expansions = more;
+          waits = here;
+          fewer = given_waits call;
+          foot = subst (λ e. Footprint u d.scope d.depth e) (sym does)
+              (map_footprint u d.scope d.depth t [] same.content same.targets same.imports refl (ap (λ es. es ++ expansion_of d call ∷ []) same.expansions) same.larger same.clean (λ targets own. tt) tt (λ rank low. tt));
+        }
+    turn (WalksItem derives written) does =
         let u : State = waiting_with s left s.expansions in
         let t : State = walked_state given.state step.before d step.behind written in
         let site : Site = item_site given.state d written in
@@ -186,8 +295,10 @@ module _ (oracle : Oracle) (s : State) (effect : Effect) where
           waits = here;
           fewer = λ at waits. elim waits [ inl macro ↦ inl (macro.0, waited macro.0 macro.1, macro.2) | inr expansion ↦ inr expansion ];
           foot = subst (λ e. Footprint u d.scope d.depth e) (sym does)
-              (map_footprint u d.scope d.depth t (Visit site written.item ∷ []) same.content same.targets same.imports refl same.expansions same.larger same.clean
-              (λ targets own. ((own, tt), tt)) (tt, tt) (λ rank low. (low, tt)));
+              (map_footprint u d.scope d.depth t (tries d derives ++ Visit site written.item ∷ []) same.content same.targets same.imports refl same.expansions same.larger same.clean
+              (λ targets own. own_both t.map targets (tries d derives) (Visit site written.item ∷ []) (tries_own t.map targets d own derives) ((own, tt), tt))
+              (plain_both (tries d derives) (Visit site written.item ∷ []) (tries_plain d derives) (tt, tt))
+              (λ rank low. lie_both rank (tries d derives) (Visit site written.item ∷ []) (tries_lie rank d derives) (low, tt)));
         }
 
     -- a macro that waits has its turn

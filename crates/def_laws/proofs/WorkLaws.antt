@@ -34,14 +34,15 @@ use Rattle.def_oracle.specs.declared.source_database.CallAnswer.{CallAnswer}
 use Rattle.def_oracle.specs.declared.source_database.UnresolvedMacro.{UnresolvedMacro}
 use Rattle.def_oracle.specs.Oracle.{Oracle}
 use Rattle.def_parts.specs.Directories.{Directory, FoundFile, descend, files_of, resolve_declaration}
-use Rattle.def_rules.specs.Calls.{answered_effect, deeper, deepest, expansion_at, expansion_effect, expansion_site, expansion_tree, told_effect, with_invocations}
+use Rattle.def_rules.specs.Calls.{answered_effect, deeper, deepest, expansion_at, expansion_effect, expansion_site, expansion_tree, told_effect, with_invocations, with_replaced}
 use Rattle.def_rules.specs.Crates.{tree_attrs}
 use Rattle.def_rules.specs.ExternCrates.{crate_effect, crate_name, named_crate}
 use Rattle.def_rules.specs.Items.{crates_first, ctor_task, is_crate_root, names_crate, node_at, noted_in, ordered, position_of, top_items, tree_cfg, visits, walk, written_vis}
 use Rattle.def_rules.specs.Macros.{export_effect, macros_brought, rules_expander, textual_state, unimplemented_reported}
 use Rattle.def_rules.specs.Modules.{bring_if, file_tree, inline_contents, inner_site, is_macro_use, module_item, name_text, next_module, outline_found, outline_item}
 use Rattle.def_rules.specs.Rules.{Rule, Follows, rule_of, declares, declares_struct, opens_module, opens_block, queues, binds_crate, notes_impl, notes_const, defines_rules, defines_macro, calls_macro}
-use Rattle.def_rules.specs.State.{State, Effect, followed_by, only, Site, Task, Visit, WrittenCall}
+use Rattle.def_rules.specs.State.{State, Effect, followed_by, only, Site, Task, Visit}
+use Rattle.def_rules.specs.Waiting.{WrittenCall}
 use Rattle.def_laws.specs.Performs.{Handled}
 use Rattle.def_laws.specs.Work.{AreBelow, IsBelow, rank, rank_of, rank_work, task_work, weight, work}
 use Rattle.def_laws.proofs.LevelsLaws.{IsDeeper, declaration_deeper, descend_deeper}
@@ -214,7 +215,7 @@ module _ (oracle : Oracle) (s : State) (site : Site) (id : ModItemId) (item : It
       stepped true is other = (refl, ltb-true site.depth deepest is)
       stepped false is other = absurd (true≢false (sym (eq-eqb deepest deepest refl) ∙ other))
 
-      by : (over last : Bool) → nat_eq (deeper site.depth) deepest ≡ last → AreBelow (rank site id) (cond (over || last) (only t) (followed_by t (walk oracle inner ids))).tasks
+      by : (over last : Bool) → nat_eq (deeper site.depth) deepest ≡ last → AreBelow (rank site id) (cond (over || last) (only t) (followed_by (with_replaced oracle t (expansion_at site call)) (walk oracle inner ids))).tasks
       by true last is = tt
       by false true is = tt
       by false false is =

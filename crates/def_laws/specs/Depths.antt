@@ -4,13 +4,15 @@ use Rattle.def_ids.specs.declared.ids.ModuleId.{ModuleId}
 use Rattle.def_rules.specs.Calls.{deepest}
 use Rattle.def_modules.specs.Maps.{facts_in}
 use Rattle.def_modules.specs.MapState.{MapState}
-use Rattle.def_rules.specs.State.{State, Expansion, MacroDirective, MacroDirectiveKind, FnLike, Attr, Task, Visit, with_map}
+use Rattle.def_rules.specs.State.{State, Task, Visit, with_map}
+use Rattle.def_rules.specs.Waiting.{Expansion, MacroDirective, MacroDirectiveKind, FnLike, Attr, Derive}
 use Rattle.def_laws.specs.Work.{weight}
 
--- how far what waits is from the deepest, as a rank that falls along a run: of one depth, an item that waits for an attribute ranks above a call
+-- how far what waits is from the deepest, as a rank that falls along a run: of one depth, an item that waits for an attribute ranks above calls and derives
 abbrev pub kind_rank : MacroDirectiveKind → ℕ
 kind_rank (FnLike written) = 0
 kind_rank (Attr written) = 1
+kind_rank (Derive written) = 0
 
 abbrev pub depth_rank : ℕ → ℕ
 depth_rank depth = 2 * (2 ^ 32 - depth)

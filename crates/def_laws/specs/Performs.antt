@@ -1,5 +1,5 @@
 -- Tasks that are performed together, and what an item leaves to be done.
-use Rattle.std.specs.Prelude.{◌≡◌, List, [], ◌++◌, Option}
+use Rattle.std.specs.Prelude.{◌≡◌, ◌≤◌, ◌+◌, ◌*◌, List, [], ◌++◌, length, Option}
 use Rattle.item_tree.specs.declared.items.ItemNode.{ItemNode}
 use Rattle.def_ids.specs.declared.ids.ModuleId.{ModuleId}
 use Rattle.def_bindings.specs.declared.bindings.Entry.{Entry}
@@ -8,13 +8,16 @@ use Rattle.def_oracle.specs.Oracle.{Oracle}
 use Rattle.def_laws.specs.Travels.{Travels}
 use Rattle.def_rules.specs.Calls.{expansion_effect}
 use Rattle.def_rules.specs.Rules.{HandlesInSession}
-use Rattle.def_rules.specs.State.{State, Expansion, Site, Task, Effect, followed_by, order, with_content}
-use Rattle.def_laws.specs.Depths.{WaitsAlike}
+use Rattle.def_rules.specs.Directives.{tries}
+use Rattle.def_rules.specs.State.{State, Site, Task, Effect, followed_by, order, with_content}
+use Rattle.def_rules.specs.Waiting.{Expansion, MacroDirective, WrittenDerive}
+use Rattle.def_laws.specs.Depths.{WaitsAlike, depth_rank, waiting_work}
 use Rattle.def_laws.specs.Followed.{AreFollowed}
 use Rattle.def_laws.specs.Sound.{IsSound, KeepsSound}
 use Rattle.def_laws.specs.Own.{Stands}
 use Rattle.def_rules.specs.Targets.{target_of}
-use Rattle.def_laws.specs.Runs.{Leads, Runs, StaysRaised}
+use Rattle.def_laws.specs.Runs.{Collects, Leads, Runs, StaysRaised}
+use Rattle.def_laws.specs.Work.{weight}
 use Rattle.item_tree.specs.declared.items.ImportKind.TheVariants as kind
 use Rattle.def_ids.specs.declared.ids.Def.{Def}
 use Rattle.def_ids.specs.declared.ids.GlobId.{GlobId}
@@ -48,8 +51,14 @@ pub record Handled (oracle : Oracle) (s t : State) (site : Site) (item : ItemNod
   pub handled : HandlesInSession oracle s site item effect
   pub done : IsDone oracle effect t inner
 
+-- derives of an attribute were tried: each waits, or its expansion does
+pub record Tried (oracle : Oracle) (d : MacroDirective) (derives : List WrittenDerive) (s t : State) : Type 0 where
+  pub collects : (rest : List Task) → Collects oracle (tries d derives ++ rest) s rest t
+  pub work : waiting_work t ≤ waiting_work s + length derives * (2 * weight (depth_rank d.depth))
+
 -- an expansion was walked, or dropped
 pub record IsExpanded (oracle : Oracle) (expansion : Expansion) (s t : State) : Type 0 where
   pub inner : List Task
-  pub opened : expansion_effect oracle s expansion ≡ followed_by s inner
-  pub leads : Leads oracle inner s [] t
+  pub begun : State
+  pub opened : expansion_effect oracle s expansion ≡ followed_by begun inner
+  pub leads : Leads oracle inner begun [] t

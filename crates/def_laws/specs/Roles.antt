@@ -4,7 +4,7 @@ use Rattle.def_ids.specs.declared.ids.ModuleId.{ModuleId}
 use Rattle.def_bindings.specs.declared.bindings.EdgeTo.{EdgeTo}
 use Rattle.def_bindings.specs.declared.bindings.Entry.{Entry}
 use Rattle.def_bindings.specs.declared.visibility.Visibility.{Visibility}
-use Rattle.def_rules.specs.State.{Task, Enter, Visit, Put, Bring, AddEdge}
+use Rattle.def_rules.specs.State.{Task, Enter, Visit, TryDerive, Put, Bring, AddEdge}
 
 -- what a task is to the table
 pub data Role : Type 0 where
@@ -25,6 +25,7 @@ role_of _ = stays
 abbrev pub place_of : Task → ModuleId
 place_of (Enter at directory) = at
 place_of (Visit site id) = site.scope
+place_of (TryDerive directive written) = directive.scope
 place_of (Put at entry) = at
 place_of (Bring from into) = into
 place_of (AddEdge source edge) = edge.importer

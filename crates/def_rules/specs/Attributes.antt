@@ -8,8 +8,6 @@ use Rattle.item_tree.specs.declared.ids.HirFileId.{HirFileId}
 use Rattle.item_tree.specs.declared.ids.InFile.{InFile}
 use Rattle.item_tree.specs.declared.ids.ModItemId.{ModItemId}
 use Rattle.item_tree.specs.declared.items.ItemNode.{ItemNode}
-use Rattle.item_tree.specs.declared.items.ModItemKind.{ModItemKind}
-use Rattle.item_tree.specs.declared.items.ModItemKind.TheVariants.{Struct, Union, Enum}
 use Rattle.item_tree.specs.declared.mod_path.ModPath.{ModPath}
 use Rattle.item_tree.specs.declared.name.Name.{Name}
 use Rattle.item_tree.specs.Attrs.{attrs_of, iter_after}
@@ -34,9 +32,9 @@ use Rattle.def_paths.specs.OuterMaps.{is_plain}
 use Rattle.def_paths.specs.Paths.{resolver}
 use Rattle.def_paths.specs.Sources.{World}
 use Rattle.def_rules.specs.declared.diagnostics.DefDiagnosticKind.{DefDiagnosticKind}
-use Rattle.def_rules.specs.declared.diagnostics.DefDiagnosticKind.TheVariants.{InvalidDeriveTarget, MalformedDerive}
 use Rattle.def_rules.specs.Calls.{deepest, stored_directory}
-use Rattle.def_rules.specs.State.{State, MacroDirective, MacroDirectiveKind, Attr as ForAttr, Site, WrittenAttr, reported}
+use Rattle.def_rules.specs.State.{State, Site, reported}
+use Rattle.def_rules.specs.Waiting.{MacroDirective, MacroDirectiveKind, Attr as ForAttr, WrittenAttr}
 
 -- Which attribute an item waits for
 
@@ -133,31 +131,9 @@ attr_query s directive written found =
       depth = directive.depth;
     }
 
--- whether an item of this kind may have derives: a struct, a union or an enum
-abbrev pub derives_kind : ModItemKind → Bool
-derives_kind (Struct name raw ctor) = true
-derives_kind (Union name raw) = true
-derives_kind (Enum name raw) = true
-derives_kind _ = false
-
--- whether an item is there, and may
-abbrev pub may_derive : Option ItemNode → Bool
-may_derive None = false
-may_derive (Some item) = derives_kind item.kind
-
 -- the state in which a diagnostic on what waits joins
 abbrev pub directive_reported : State → MacroDirective → DefDiagnosticKind → State
 directive_reported s directive kind = reported s (record { «module» = directive.scope; ast_id = directive.position; kind = kind })
-
--- a list of derives is read; without a list the attribute is malformed
-abbrev pub listed_state : State → MacroDirective → WrittenAttr → Bool → State
-listed_state s directive written true = activated s directive.position written.id
-listed_state s directive written false = directive_reported s directive (MalformedDerive written.id)
-
--- one on an item that may not have derives is reported
-abbrev pub derives_state : State → MacroDirective → WrittenAttr → Bool → Bool → State
-derives_state s directive written true has_list = listed_state s directive written has_list
-derives_state s directive written false has_list = directive_reported s directive (InvalidDeriveTarget written.id)
 
 -- An item without one of its attributes
 

@@ -14,8 +14,8 @@ use Rattle.def_ids.specs.declared.ids.ModuleId.{ModuleId}
 use Rattle.def_interner.specs.declared.macro_def.MacroDefId.{MacroDefId}
 use Rattle.def_interner.specs.MacroKinds.{is_fn_like}
 use Rattle.def_interner.specs.Session.{macro_def}
-use Rattle.def_modules.specs.Maps.{limit_of, with_module}
-use Rattle.def_modules.specs.MapState.{MapState}
+use Rattle.def_modules.specs.Maps.{limit_of, with_helper, with_module}
+use Rattle.def_modules.specs.MapState.{MapState, ShownHelper}
 use Rattle.def_modules.specs.Scopes.{with_invocation}
 use Rattle.def_oracle.specs.declared.source_database.CallAnswer.{CallAnswer}
 use Rattle.def_oracle.specs.declared.source_database.UnresolvedMacro.{UnresolvedMacro}
@@ -25,8 +25,10 @@ use Rattle.def_parts.specs.Directories.{Directory, root_directory}
 use Rattle.def_paths.specs.OuterMaps.{first_of_each_map}
 use Rattle.def_paths.specs.Paths.{macro_named, map_of, scope}
 use Rattle.def_paths.specs.Sources.{World}
-use Rattle.def_rules.specs.Items.{position_of, top_items, walk}
-use Rattle.def_rules.specs.State.{State, Effect, Expansion, MacroDirective, MacroDirectiveKind, FnLike, WrittenCall, only, followed_by, Site, with_map, world}
+use Rattle.item_tree.specs.declared.ids.ModItemId.{ModItemId}
+use Rattle.def_rules.specs.Items.{node_at, position_of, top_items, walk}
+use Rattle.def_rules.specs.State.{State, Effect, only, followed_by, Site, with_map, world}
+use Rattle.def_rules.specs.Waiting.{Expansion, MacroDirective, MacroDirectiveKind, FnLike, WrittenCall}
 
 -- Which macro a call finds at once
 
@@ -84,7 +86,7 @@ expansion_directory oracle directories at call = cond (oracle.is_include call) r
 
 -- the expansion of a call that stands here: in its place, one level deeper
 abbrev pub expansion_at : Site → MacroCallId → Expansion
-expansion_at site call = record { scope = site.scope; container = site.container; depth = deeper site.depth; call = call }
+expansion_at site call = record { scope = site.scope; container = site.container; depth = deeper site.depth; call = call; replaces = None }
 
 -- where the items of an expansion stand
 abbrev pub expansion_site : Oracle → State → Expansion → Site
@@ -97,10 +99,35 @@ expansion_site oracle s expansion =
       directory = expansion_directory oracle s.directories expansion.scope expansion.call;
     }
 
+-- these are read as helpers at a position
+abbrev pub with_helpers : MapState → InFile FileAstId → List ShownHelper → MapState
+with_helpers m position [] = m
+with_helpers m position (helper ∷ helpers) = with_helpers (with_helper m position helper) position helpers
+
+-- so they are at an item of a tree, if it is there
+abbrev pub helped : MapState → TreeId → List ShownHelper → Option ItemNode → MapState
+helped m tree helpers None = m
+helped m tree helpers (Some item) = with_helpers m (record { file = tree.file; value = item.ast_id }) helpers
+
+-- and at each of these items
+abbrev pub each_helped : Oracle → MapState → TreeId → List ShownHelper → List ModItemId → MapState
+each_helped oracle m tree helpers [] = m
+each_helped oracle m tree helpers (id ∷ ids) = each_helped oracle (helped m tree helpers (node_at oracle tree id)) tree helpers ids
+
+-- the map in which the helpers of an item are those of the items that stand in its place
+abbrev pub replaced_by : Oracle → MapState → MacroCallId → Option (InFile FileAstId) → MapState
+replaced_by oracle m call None = m
+replaced_by oracle m call (Some position) = each_helped oracle m (expansion_tree call) (m.helpers position) (top_items oracle (expansion_tree call))
+
+-- so the state of an expansion
+abbrev pub with_replaced : Oracle → State → Expansion → State
+with_replaced oracle s expansion = with_map s (replaced_by oracle s.map expansion.call expansion.replaces)
+
 -- an expansion is walked, and one that lies too deep is dropped
 abbrev pub expansion_effect : Oracle → State → Expansion → Effect
 expansion_effect oracle s expansion =
-    cond (is_too_deep s.map expansion.depth) (only s) (followed_by s (walk oracle (expansion_site oracle s expansion) (top_items oracle (expansion_tree expansion.call))))
+    cond (is_too_deep s.map expansion.depth) (only s)
+    (followed_by (with_replaced oracle s expansion) (walk oracle (expansion_site oracle s expansion) (top_items oracle (expansion_tree expansion.call))))
 
 -- What a call does
 

@@ -1,6 +1,10 @@
 -- Macros that wait: what one is told each time that it has its turn, what it does then, and expansions that are to be walked.
-use Rattle.std.specs.Prelude.{◌≡◌, Bool, true, false, List, [], ◌∷◌, ◌++◌, Option, None, Some, is_some, Result, Ok, Err, Contains}
+use Rattle.std.specs.Prelude.{◌≡◌, Bool, true, false, List, [], ◌∷◌, ◌++◌, map, Option, None, Some, Result, Ok, Err, Contains}
+use Rattle.item_tree.specs.declared.ids.FileAstId.{FileAstId}
+use Rattle.item_tree.specs.declared.ids.InFile.{InFile}
 use Rattle.item_tree.specs.declared.ids.MacroCallId.{MacroCallId}
+use Rattle.item_tree.specs.declared.ids.SyntaxContext.{SyntaxContext}
+use Rattle.item_tree.specs.declared.mod_path.ModPath.{ModPath}
 use Rattle.def_interner.specs.declared.macro_def.MacroDefId.{MacroDefId}
 use Rattle.def_modules.specs.MapState.{MapState}
 use Rattle.def_oracle.specs.declared.source_database.CallAnswer.{CallAnswer}
@@ -10,10 +14,13 @@ use Rattle.def_paths.specs.declared.asked.BuiltinShadowMode.TheVariants as shado
 use Rattle.def_paths.specs.declared.per_ns.MacroSubNs.TheVariants as sub
 use Rattle.def_paths.specs.Paths.{resolver}
 use Rattle.def_paths.specs.Sources.{World}
-use Rattle.def_rules.specs.Attributes.{AttrUse, PassesOver, ReadsDerives, ReplacesItem, activated, attr_macro, attr_query, attr_use, derives_state, is_helper, item_site, may_derive, passed_over}
+use Rattle.def_rules.specs.Attributes.{AttrUse, PassesOver, ReadsDerives, ReplacesItem, activated, attr_macro, attr_query, attr_use, directive_reported, is_helper, item_site, passed_over}
 use Rattle.def_rules.specs.Calls.{answer_by, call_query, expansion_effect, with_invocations}
+use Rattle.def_rules.specs.declared.diagnostics.DefDiagnosticKind.{DefDiagnosticKind}
+use Rattle.def_rules.specs.Derives.{derive_call, derive_directive, derive_macro, derive_paths, derived, derives_from, may_derive, with_list}
 use Rattle.def_rules.specs.Items.{node_at}
-use Rattle.def_rules.specs.State.{State, Effect, Expansion, MacroDirective, MacroDirectiveKind, FnLike, Attr, Visit, WrittenAttr, WrittenCall, followed_by, only, world}
+use Rattle.def_rules.specs.State.{State, Effect, Task, TryDerive, Visit, followed_by, only, with_map, world}
+use Rattle.def_rules.specs.Waiting.{Expansion, MacroDirective, MacroDirectiveKind, FnLike, Attr, Derive, WrittenAttr, WrittenCall, WrittenDerive}
 
 -- What is told
 
@@ -23,8 +30,10 @@ pub data Turn : Type 0 where
   Stays : Turn
   -- it leaves: it is given a call, whose expansion is to be walked
   GivesCall : MacroCallId → Turn
-  -- it leaves: its item is walked without this attribute
-  WalksItem : WrittenAttr → Turn
+  -- it leaves: it is a derive that has its call, whose expansion is to be walked
+  GivesDerive : MacroCallId → Turn
+  -- it leaves: these derives are tried, and its item is walked without this attribute
+  WalksItem : List WrittenDerive → WrittenAttr → Turn
 
 -- what was told: the state after it, and what becomes of the macro
 pub record Told : Type 0 where
@@ -50,11 +59,20 @@ abbrev pub call_told : State → MacroDirective → Result CallAnswer Unresolved
 call_told s directive (Ok answer) = record { state = with_invocations s directive.scope answer.inner; turn = given_turn answer.value }
 call_told s directive (Err unresolved) = record { state = s; turn = Stays }
 
+-- a list of derives is recorded with the attribute's call, and its paths are to be tried
+abbrev pub recorded_told : State → MacroDirective → WrittenAttr → MacroCallId → List (ModPath × SyntaxContext) → Told
+recorded_told s directive written call paths =
+    record { state = with_map s (with_list s.map directive written.id call paths); turn = WalksItem (derives_from written.id call 0 paths) written }
+
+-- the paths of a derive attribute are to be tried, and one whose paths can't be read is reported
+abbrev pub list_told : Oracle → State → MacroDirective → WrittenAttr → MacroDefId → Result (List (ModPath × SyntaxContext)) DefDiagnosticKind → Told
+list_told oracle s directive written found (Ok paths) = recorded_told (activated s directive.position written.id) directive written (oracle.make_attr_call (attr_query s directive written found)) paths
+list_told oracle s directive written found (Err kind) = record { state = directive_reported s directive kind; turn = WalksItem [] written }
+
 -- an attribute is told by what its macro does
 abbrev pub use_told : Oracle → State → MacroDirective → WrittenAttr → MacroDefId → AttrUse → Told
-use_told oracle s directive written found PassesOver = record { state = s; turn = WalksItem written }
-use_told oracle s directive written found ReadsDerives =
-    record { state = derives_state s directive written (may_derive (node_at oracle written.tree written.item)) (is_some written.attr.paths); turn = WalksItem written }
+use_told oracle s directive written found PassesOver = record { state = s; turn = WalksItem [] written }
+use_told oracle s directive written found ReadsDerives = list_told oracle s directive written found (derive_paths written (may_derive (node_at oracle written.tree written.item)))
 use_told oracle s directive written found ReplacesItem =
     record { state = activated s directive.position written.id; turn = GivesCall (oracle.make_attr_call (attr_query s directive written found)) }
 
@@ -65,13 +83,23 @@ attr_told oracle s directive written (Some found) = use_told oracle s directive 
 
 -- a helper of a derive is no macro
 abbrev pub item_told : Oracle → State → MacroDirective → WrittenAttr → Bool → Told
-item_told oracle s directive written true = record { state = s; turn = WalksItem written }
+item_told oracle s directive written true = record { state = s; turn = WalksItem [] written }
 item_told oracle s directive written false = attr_told oracle s directive written (attr_macro (world oracle s) directive.scope written.attr)
+
+-- a derive whose macro is found is given its call
+abbrev pub given_told : Oracle → State → MacroDirective → WrittenDerive → MacroDefId → MacroCallId → Told
+given_told oracle s directive written found call = record { state = derived oracle s directive written found call; turn = GivesDerive call }
+
+-- one whose macro is not found stays
+abbrev pub derive_told : Oracle → State → MacroDirective → WrittenDerive → Option MacroDefId → Told
+derive_told oracle s directive written None = record { state = s; turn = Stays }
+derive_told oracle s directive written (Some found) = given_told oracle s directive written found (derive_call oracle s directive written found)
 
 -- what a macro that waits is told, by its kind
 abbrev pub told_by : Oracle → State → MacroDirective → MacroDirectiveKind → Told
 told_by oracle s directive (FnLike written) = call_told s directive (call_answer oracle s directive written)
 told_by oracle s directive (Attr written) = item_told oracle s directive written (is_helper s directive.position written.attr)
+told_by oracle s directive (Derive written) = derive_told oracle s directive written (derive_macro (world oracle s) directive.scope written)
 
 -- what it is told now
 abbrev pub told : Oracle → State → MacroDirective → Told
@@ -79,27 +107,46 @@ told oracle s directive = told_by oracle s directive directive.kind
 
 -- What it does
 
+-- the item in whose place the expansion of what waited stands: one whose attribute is called
+abbrev pub replaced_item : MacroDirective → MacroDirectiveKind → Option (InFile FileAstId)
+replaced_item directive (FnLike written) = None
+replaced_item directive (Attr written) = Some directive.position
+replaced_item directive (Derive written) = None
+
 -- the expansion of what waited
 abbrev pub expansion_of : MacroDirective → MacroCallId → Expansion
-expansion_of directive call = record { scope = directive.scope; container = directive.container; depth = directive.depth; call = call }
+expansion_of directive call =
+    record { scope = directive.scope; container = directive.container; depth = directive.depth; call = call; replaces = replaced_item directive directive.kind }
+
+-- these wait on, and the expansion of what was given a call is to be walked
+abbrev pub expanding : State → List MacroDirective → MacroDirective → MacroCallId → State
+expanding s others directive call = record s { macros = others; expansions = s.expansions ++ expansion_of directive call ∷ [] }
 
 -- those before and behind what was given a call wait on: the call is recorded, and its expansion is to be walked
 abbrev pub given_state : State → List MacroDirective → MacroDirective → List MacroDirective → MacroCallId → State
-given_state s before directive behind call =
-    record (with_invocations s directive.scope ((directive.position, call) ∷ [])) {
-      macros = before ++ behind;
-      expansions = s.expansions ++ expansion_of directive call ∷ [];
-    }
+given_state s before directive behind call = expanding (with_invocations s directive.scope ((directive.position, call) ∷ [])) (before ++ behind) directive call
 
 -- those before and behind what leaves wait on, and the attribute counts no longer
 abbrev pub walked_state : State → List MacroDirective → MacroDirective → List MacroDirective → WrittenAttr → State
 walked_state s before directive behind written = record (passed_over s directive.position.file written) { macros = before ++ behind }
 
+-- each of these derives of an attribute is tried
+abbrev pub tries : MacroDirective → List WrittenDerive → List Task
+tries directive derives = map (λ written. TryDerive directive written) derives
+
 -- what a turn does in the state that was told
 abbrev pub turn_effect : State → List MacroDirective → MacroDirective → List MacroDirective → Turn → Effect
 turn_effect s before directive behind Stays = only s
 turn_effect s before directive behind (GivesCall call) = only (given_state s before directive behind call)
-turn_effect s before directive behind (WalksItem written) = followed_by (walked_state s before directive behind written) (Visit (item_site s directive written) written.item ∷ [])
+turn_effect s before directive behind (GivesDerive call) = only (expanding s (before ++ behind) directive call)
+turn_effect s before directive behind (WalksItem derives written) =
+    followed_by (walked_state s before directive behind written) (tries directive derives ++ Visit (item_site s directive written) written.item ∷ [])
+
+-- a derive of an attribute is tried: with a call its expansion is to be walked, else it waits
+abbrev pub tried_effect : Oracle → State → MacroDirective → WrittenDerive → Option MacroDefId → Effect
+tried_effect oracle s directive written None = only (record s { macros = s.macros ++ derive_directive directive written ∷ [] })
+tried_effect oracle s directive written (Some found) =
+    only (expanding (derived oracle s directive written found (derive_call oracle s directive written found)) s.macros (derive_directive directive written) (derive_call oracle s directive written found))
 
 -- a macro that waits has its turn
 pub record MacroStep (oracle : Oracle) (s : State) (effect : Effect) : Type 0 where

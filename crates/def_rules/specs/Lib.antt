@@ -1,4 +1,5 @@
 pub mod Headline
+pub mod Waiting
 pub mod State
 pub mod Steps
 pub mod Items
@@ -6,6 +7,7 @@ pub mod Modules
 pub mod Macros
 pub mod Calls
 pub mod Attributes
+pub mod Derives
 pub mod Directives
 pub mod ExternCrates
 pub mod Rules

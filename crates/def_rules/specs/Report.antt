@@ -27,12 +27,13 @@ use Rattle.def_rules.specs.declared.outcome.Edge.{Edge}
 use Rattle.def_rules.specs.declared.outcome.LeftImport.{LeftImport}
 use Rattle.def_rules.specs.declared.outcome.LeftMacro.{LeftMacro}
 use Rattle.def_rules.specs.declared.outcome.LeftMacroKind.{LeftMacroKind}
-use Rattle.def_rules.specs.declared.outcome.LeftMacroKind.TheVariants.{Fn, Attr as LeftAttr}
+use Rattle.def_rules.specs.declared.outcome.LeftMacroKind.TheVariants.{Fn, Attr as LeftAttr, Derive as LeftDerive}
 use Rattle.def_rules.specs.declared.outcome.Outcome.{Outcome}
 use Rattle.def_rules.specs.Directives.{call_answer}
 use Rattle.def_rules.specs.Imports.{bound_name, unresolved_imports}
 use Rattle.def_rules.specs.Globs.{Targets}
-use Rattle.def_rules.specs.State.{State, Import, MacroDirective, MacroDirectiveKind, FnLike, Attr}
+use Rattle.def_rules.specs.State.{State, Import}
+use Rattle.def_rules.specs.Waiting.{MacroDirective, MacroDirectiveKind, FnLike, Attr, Derive}
 
 -- all that a run answers
 pub record Answer : Type 0 where
@@ -69,6 +70,7 @@ left_import p = record { «module» = p.scope; ast_id = p.position; idx = p.writ
 abbrev pub left_kind : MacroDirectiveKind → LeftMacroKind × ModPath
 left_kind (FnLike written) = (Fn, written.path)
 left_kind (Attr written) = (LeftAttr written.id, written.attr.path)
+left_kind (Derive written) = (LeftDerive written.id written.pos, written.path)
 
 -- what waits for a macro, as it is left over
 abbrev pub left_macro : MacroDirective → LeftMacro
@@ -135,10 +137,11 @@ abbrev pub answer_report : MacroDirective → Result CallAnswer UnresolvedMacro 
 answer_report d (Ok answer) = []
 answer_report d (Err unresolved) = unresolved_macro d unresolved.path ∷ []
 
--- what is reported of what is left over, by its kind: of an item that waits nothing
+-- what is reported of what is left over, by its kind: of an item that waits nothing, of a derive that its macro is not found
 abbrev pub kind_report : Oracle → State → MacroDirective → MacroDirectiveKind → List DefDiagnostic
 kind_report oracle end d (FnLike written) = answer_report d (call_answer oracle end d written)
 kind_report oracle end d (Attr written) = []
+kind_report oracle end d (Derive written) = unresolved_macro d written.path ∷ []
 
 -- what is reported of what waits for a macro and is left over
 abbrev pub macro_report : Oracle → State → MacroDirective → List DefDiagnostic

@@ -24,7 +24,8 @@ use Rattle.def_bindings.specs.declared.bindings.Namespace.TheVariants.{Types, Va
 use Rattle.def_modules.specs.Scopes.{with_extern_block, with_extern_crate, with_impl, with_unnamed_const}
 use Rattle.def_oracle.specs.Oracle.{Oracle}
 use Rattle.def_rules.specs.declared.diagnostics.DefDiagnosticKind.TheVariants.{UnconfiguredCode}
-use Rattle.def_rules.specs.State.{State, Effect, only, followed_by, reported, Site, WrittenCall}
+use Rattle.def_rules.specs.State.{State, Effect, only, followed_by, reported, Site}
+use Rattle.def_rules.specs.Waiting.{WrittenCall}
 use Rattle.def_rules.specs.Items.{IsNumber, ctor_vis, declared_effect, diagnostic, node_at, noted_in, new_imports, struct_effect, walk, written_vis}
 use Rattle.def_rules.specs.Macros.{IsBuiltinName, item_effect, item_expander, item_flags, macro_loc, macros_brought, rules_effect, rules_expander, rules_flags}
 use Rattle.def_rules.specs.Attributes.{awaited_attr, awaiting}

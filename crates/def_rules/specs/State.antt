@@ -1,18 +1,13 @@
 -- The state of a run, and what a run is given.
 use Rattle.std.specs.Prelude.{◌≡◌, ℕ, Bool, true, List, [], ◌∷◌, ◌++◌, map, Option, None, Some, unwrap_or, IsPermutation}
-use Rattle.item_tree.specs.declared.attrs.Attr as attrs
 use Rattle.item_tree.specs.declared.ids.AttrId.{AttrId}
 use Rattle.item_tree.specs.declared.ids.FileAstId.{FileAstId}
 use Rattle.item_tree.specs.declared.ids.HirFileId.{HirFileId}
 use Rattle.item_tree.specs.declared.ids.InFile.{InFile}
-use Rattle.item_tree.specs.declared.ids.MacroCallId.{MacroCallId}
 use Rattle.item_tree.specs.declared.ids.ModItemId.{ModItemId}
 use Rattle.item_tree.specs.declared.ids.TreeId.{TreeId}
-use Rattle.item_tree.specs.declared.ids.SyntaxContext.{SyntaxContext}
-use Rattle.item_tree.specs.declared.items.ExpandTo.{ExpandTo}
 use Rattle.item_tree.specs.declared.items.RawVisibility.{RawVisibility}
 use Rattle.item_tree.specs.declared.items.UseImport.{UseImport}
-use Rattle.item_tree.specs.declared.mod_path.ModPath.{ModPath}
 use Rattle.item_tree.specs.declared.name.Name.{Name}
 use Rattle.def_ids.specs.declared.ids.ItemContainerId.{ItemContainerId}
 use Rattle.def_ids.specs.declared.ids.ItemContainerId.TheVariants.{Module}
@@ -37,6 +32,7 @@ use Rattle.def_modules.specs.Updates.{set_where}
 use Rattle.def_parts.specs.Directories.{Directory}
 use Rattle.def_rules.specs.declared.diagnostics.DefDiagnostic.{DefDiagnostic}
 use Rattle.def_rules.specs.Globs.{Targets}
+use Rattle.def_rules.specs.Waiting.{Expansion, MacroDirective, WrittenDerive}
 
 -- what a run is given: the oracle, the seeded map, the tree, and for a block the names of crates that its crate knows
 pub record Setting : Type 0 where
@@ -55,45 +51,6 @@ pub record Import : Type 0 where
   pub vis : RawVisibility
   -- whether the item has `#[prelude_import]`
   pub is_prelude : Bool
-
--- a macro call as it is written
-pub record WrittenCall : Type 0 where
-  pub path : ModPath
-  -- what its expansion is read as
-  pub expand_to : ExpandTo
-  pub ctxt : SyntaxContext
-
--- an attribute as it is written, and the item that has it
-pub record WrittenAttr : Type 0 where
-  pub tree : TreeId
-  pub item : ModItemId
-  -- its number among the item's attributes
-  pub id : AttrId
-  pub attr : attrs.Attr
-
--- what waits for a macro
-pub data MacroDirectiveKind : Type 0 where
-  -- a call
-  FnLike : WrittenCall → MacroDirectiveKind
-  -- an item, for the macro of one of its attributes
-  Attr : WrittenAttr → MacroDirectiveKind
-
--- what waits for a macro, and where the items of its expansion are to stand
-pub record MacroDirective : Type 0 where
-  pub scope : ModuleId
-  pub container : ItemContainerId
-  pub position : InFile FileAstId
-  -- how deep in expansions its own lies
-  pub depth : ℕ
-  pub kind : MacroDirectiveKind
-
--- an expansion that is to be walked: its call, and where its items are to stand
-pub record Expansion : Type 0 where
-  pub scope : ModuleId
-  pub container : ItemContainerId
-  -- how deep in expansions they lie
-  pub depth : ℕ
-  pub call : MacroCallId
 
 -- a set of namespaces
 pub record NsSet : Type 0 where
@@ -131,7 +88,7 @@ pub record State : Type 0 where
   pub skipped : HirFileId → ModItemId → Option AttrId
   -- of the item at each position, the attributes that expansions are not to see
   pub active : InFile FileAstId → List AttrId
-  -- the macro calls and items that wait for their macros
+  -- the macro calls, items and derives that wait for their macros
   pub macros : List MacroDirective
   -- the expansions that are to be walked, of what waited
   pub expansions : List Expansion
@@ -156,6 +113,8 @@ pub data Task : Type 0 where
   Enter : ModuleId → Directory → Task
   -- an item is visited
   Visit : Site → ModItemId → Task
+  -- a derive of an attribute that waited is tried before it waits itself
+  TryDerive : MacroDirective → WrittenDerive → Task
   -- an entry is put into a module
   Put : ModuleId → Entry Visibility → Task
   -- the last textual macro of each name of a module is defined in another

@@ -15,8 +15,9 @@ use Rattle.def_modules.specs.Scopes.{brought}
 use Rattle.def_oracle.specs.Oracle.{Oracle}
 use Rattle.def_globs.specs.Globs.{with_recorded}
 use Rattle.def_globs.specs.Raised.{KeepsDef}
-use Rattle.def_rules.specs.State.{State, Effect, Task, Enter, Visit, Put, AddEdge, Bring, Event, PutExplicit, Moment, after, entered, only, with_state, with_content, order, Rearranges}
-use Rattle.def_rules.specs.Directives.{ExpansionStep, MacroStep}
+use Rattle.def_rules.specs.State.{State, Effect, Task, Enter, Visit, TryDerive, Put, AddEdge, Bring, Event, PutExplicit, Moment, after, entered, only, with_state, with_content, order, Rearranges, world}
+use Rattle.def_rules.specs.Derives.{derive_macro}
+use Rattle.def_rules.specs.Directives.{ExpansionStep, MacroStep, tried_effect}
 use Rattle.def_rules.specs.Items.{noted_in}
 use Rattle.def_rules.specs.Recording.{ImportStep}
 use Rattle.def_rules.specs.Rules.{Visits}
@@ -38,6 +39,7 @@ put_effect s at entry = record { state = with_content s (put_entry (order s) at 
 abbrev pub Does : Oracle → State → Task → Effect → Type 0
 Does oracle s (Enter at directory) effect = effect ≡ only (entered s at directory)
 Does oracle s (Visit site id) effect = Visits oracle s site id effect
+Does oracle s (TryDerive directive written) effect = effect ≡ tried_effect oracle s directive written (derive_macro (world oracle s) directive.scope written)
 Does oracle s (Put at entry) effect = effect ≡ put_effect s at entry
 Does oracle s (Bring from into) effect = effect ≡ only (noted_in s into (brought (textual_at s.map from.index)))
 Does oracle s (AddEdge source edge) effect = effect ≡ only (with_content s (with_recorded (order s) s.content source edge))

@@ -16,7 +16,8 @@ use Rattle.def_rules.specs.Directives.{Stays, told}
 use Rattle.def_rules.specs.Headline.{Answers}
 use Rattle.def_rules.specs.Report.{Answer, IsOutcome}
 use Rattle.def_rules.specs.Start.{start}
-use Rattle.def_rules.specs.State.{Setting, Attr, MacroDirective, Moment, PutExplicit}
+use Rattle.def_rules.specs.State.{Setting, Moment, PutExplicit}
+use Rattle.def_rules.specs.Waiting.{Attr, Expansion, MacroDirective}
 use Rattle.def_rules.specs.Steps.{Reaches, join, one, performs}
 use Rattle.def_runs.proofs.Called.{declared, expansion, foo, s, t}
 use Rattle.def_runs.proofs.Exported.{marked_with}
@@ -25,7 +26,7 @@ use Rattle.def_runs.proofs.Rows.{crate_of, knowing, module_at, no_session, posit
 use Rattle.def_runs.proofs.Textual.{foo_loc}
 use Rattle.def_runs.proofs.Trees.{items, node, root_file, tree_with, unit_struct}
 use Rattle.def_runs.proofs.Vectors.{nothing_left}
-use Rattle.def_runs.proofs.Waiting.{numbers, pending, the_call}
+use Rattle.def_runs.proofs.Waiting.{numbers, pending as beside, the_call}
 
 -- `#[foo] struct T;`
 abbrev with_attribute : ItemNode
@@ -99,6 +100,10 @@ asked = (_, macro_asked setting.oracle walked_to waiting [] refl refl)
 
 abbrev asked_to : Moment
 asked_to = asked.0
+
+-- what is to be walked in its place
+abbrev pending : Expansion
+pending = record beside { replaces = Some (position 1) }
 
 -- it waits no more, the expansion is to be walked in its place, and is not to see the attribute
 it_is_given : (asked_to.state.macros ≡ []) × (asked_to.state.expansions ≡ pending ∷ []) × (asked_to.state.active (position 1) ≡ record { 0 = 0 } ∷ [])

@@ -17,15 +17,17 @@ use Rattle.def_bindings.specs.Order.{Order}
 use Rattle.def_bindings.specs.Puts.{IsExplicit, answer as made_of_copy, copied, held, written, glob_of}
 use Rattle.def_oracle.specs.Oracle.{Oracle}
 use Rattle.def_laws.proofs.FootprintLaws.{visits_footprint}
+use Rattle.def_laws.proofs.TurnsLaws.{tries_footprint}
 use Rattle.def_laws.proofs.StaysLaws.{explicit_stays_along}
 use Rattle.def_rules.specs.declared.diagnostics.DefDiagnostic.{DefDiagnostic}
 use Rattle.def_rules.specs.declared.outcome.LeftImport.{LeftImport}
-use Rattle.def_rules.specs.Directives.{ExpansionStep, GivesCall, WalksItem, told}
+use Rattle.def_rules.specs.Directives.{ExpansionStep, GivesCall, GivesDerive, WalksItem, told}
 use Rattle.def_rules.specs.Headline.{Answers, Run}
 use Rattle.def_rules.specs.Imports.{answer_now, is_ready, no_namespaces, unresolved_imports}
 use Rattle.def_rules.specs.Recording.{ImportStep}
 use Rattle.def_rules.specs.Report.{Answer, import_report, left_import, may_name_crate, report, unresolved, with_macro_reports}
-use Rattle.def_rules.specs.State.{Setting, State, Effect, Task, Enter, Visit, Put, Bring, AddEdge, Moment, Import, ImportDirective, MacroDirective, Recorded, WrittenAttr}
+use Rattle.def_rules.specs.State.{Setting, State, Effect, Task, Enter, Visit, Put, Bring, AddEdge, Moment, Import, ImportDirective, Recorded, TryDerive}
+use Rattle.def_rules.specs.Waiting.{MacroDirective, WrittenAttr, WrittenDerive}
 use Rattle.def_rules.specs.Steps.{Does, Reaches, Step, asks, copies, event_of, expands, performs, rearranges, records}
 use Rattle.def_runs.proofs.Plain as plain
 use Rattle.def_runs.proofs.RowLemmas.{none_recorded_unready, none_taken}
@@ -60,10 +62,15 @@ no_macro_is_left_that_is_given_a_call : (w : Setting) (before after : Session) (
     → Contains answers.run.end.state.macros directive → (told w.oracle answers.run.end.state directive).turn ≡ GivesCall call → ⊥
 no_macro_is_left_that_is_given_a_call w before after answer answers directive call left given = let stays = answers.settled.macros.stay directive left in cc
 
+-- nor a derive over whose macro is found
+no_derive_is_left_that_is_given_a_call : (w : Setting) (before after : Session) (answer : Answer) (answers : Answers w before after answer) (directive : MacroDirective) (call : MacroCallId)
+    → Contains answers.run.end.state.macros directive → (told w.oracle answers.run.end.state directive).turn ≡ GivesDerive call → ⊥
+no_derive_is_left_that_is_given_a_call w before after answer answers directive call left given = let stays = answers.settled.macros.stay directive left in cc
+
 -- nor an item over that is walked without an attribute
-no_item_is_left_that_is_walked : (w : Setting) (before after : Session) (answer : Answer) (answers : Answers w before after answer) (directive : MacroDirective) (written : WrittenAttr)
-    → Contains answers.run.end.state.macros directive → (told w.oracle answers.run.end.state directive).turn ≡ WalksItem written → ⊥
-no_item_is_left_that_is_walked w before after answer answers directive written left walks = let stays = answers.settled.macros.stay directive left in cc
+no_item_is_left_that_is_walked : (w : Setting) (before after : Session) (answer : Answer) (answers : Answers w before after answer) (directive : MacroDirective) (derives : List WrittenDerive) (written : WrittenAttr)
+    → Contains answers.run.end.state.macros directive → (told w.oracle answers.run.end.state directive).turn ≡ WalksItem derives written → ⊥
+no_item_is_left_that_is_walked w before after answer answers directive derives written left walks = let stays = answers.settled.macros.stay directive left in cc
 
 -- nor an expansion that is still to be walked or dropped
 no_expansion_is_left : (w : Setting) (before after : Session) (answer : Answer) (answers : Answers w before after answer) (effect : Effect) → ExpansionStep w.oracle answers.run.end.state effect → ⊥
@@ -146,6 +153,7 @@ task_records_nothing : (oracle : Oracle) (s : State) (task : Task) (effect : Eff
 task_records_nothing oracle s (Enter at directory) effect p foreign does h = let none = ap (λ (e : Effect). e.events) does in cc
 task_records_nothing oracle s (Visit site id) effect p foreign does h = let none = (visits_footprint oracle s site id effect does).events in cc
 task_records_nothing oracle s (Put at entry) effect p foreign does h = no_recording at entry (glob_of entry.origin) entry.name p foreign (sym (ap (λ (e : Effect). e.events) does) ∙ h)
+task_records_nothing oracle s (TryDerive directive written) effect p foreign does h = let none = ((tries_footprint oracle s directive written effect does).foot 0).events in cc
 task_records_nothing oracle s (Bring from into) effect p foreign does h = let none = ap (λ (e : Effect). e.events) does in cc
 task_records_nothing oracle s (AddEdge source edge) effect p foreign does h = let none = ap (λ (e : Effect). e.events) does in cc
 

@@ -21,4 +21,5 @@ pub mod Excused
 pub mod Called
 pub mod Waiting
 pub mod Attribute
+pub mod Derived
 pub mod Unresolved

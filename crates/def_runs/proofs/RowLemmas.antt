@@ -20,13 +20,14 @@ use Rattle.def_laws.proofs.EveryNamespaceLaws.{every_namespace_along}
 use Rattle.def_laws.proofs.StaysLaws.{explicit_stays_along}
 use Rattle.def_rules.specs.declared.outcome.Outcome.{Outcome}
 use Rattle.def_rules.specs.Calls.{expansion_effect}
-use Rattle.def_rules.specs.Directives.{AllStay, ExpansionStep, GivesCall, MacroStep, Stays, Turn, WalksItem, told, turn_effect}
+use Rattle.def_rules.specs.Directives.{AllStay, ExpansionStep, GivesCall, GivesDerive, MacroStep, Stays, Turn, WalksItem, told, turn_effect}
 use Rattle.def_rules.specs.Headline.{Answers}
 use Rattle.def_rules.specs.Imports.{answer_now, is_ready, unresolved_imports}
 use Rattle.def_rules.specs.Recording.{ImportStep, NoneReady, import_effect}
 use Rattle.def_rules.specs.Report.{Answer, AreTargets, IsOutcome, marked, report}
 use Rattle.def_rules.specs.Start.{start}
-use Rattle.def_rules.specs.State.{Setting, State, Effect, Expansion, MacroDirective, Moment, ImportDirective, Rearranges, after, order, with_content, with_state}
+use Rattle.def_rules.specs.State.{Setting, State, Effect, Moment, ImportDirective, Rearranges, after, order, with_content, with_state}
+use Rattle.def_rules.specs.Waiting.{Expansion, MacroDirective}
 use Rattle.def_rules.specs.Steps.{Reaches, one, asks, copies, expands, records}
 use Rattle.def_rules.specs.Targets.{leaves_out, target_of}
 use Rattle.def_runs.proofs.TableLemmas.{is_false}
@@ -101,7 +102,8 @@ settled_by_test oracle s passes =
 abbrev pub stays : Turn → Bool
 stays Stays = true
 stays (GivesCall call) = false
-stays (WalksItem written) = false
+stays (GivesDerive call) = false
+stays (WalksItem derives written) = false
 
 -- whether each macro that waits stays, as a test that computes
 abbrev pub each_stays : Oracle → State → Bool
@@ -110,7 +112,8 @@ each_stays oracle s = list_all (λ directive. stays (told oracle s directive).tu
 stays_is : (turn : Turn) → stays turn ≡ true → turn ≡ Stays
 stays_is Stays h = refl
 stays_is (GivesCall call) h = cc
-stays_is (WalksItem written) h = cc
+stays_is (GivesDerive call) h = cc
+stays_is (WalksItem derives written) h = cc
 
 -- each macro that waits stays where the test says so
 pub all_stay_by_test : (oracle : Oracle) (s : State) → each_stays oracle s ≡ true → AllStay oracle s

@@ -14,7 +14,8 @@ use Rattle.def_rules.specs.Directives.{Stays, told}
 use Rattle.def_rules.specs.Headline.{Answers}
 use Rattle.def_rules.specs.Report.{Answer, IsOutcome, report}
 use Rattle.def_rules.specs.Start.{start}
-use Rattle.def_rules.specs.State.{Setting, FnLike, MacroDirective, Moment}
+use Rattle.def_rules.specs.State.{Setting, Moment}
+use Rattle.def_rules.specs.Waiting.{FnLike, MacroDirective}
 use Rattle.def_rules.specs.Steps.{Reaches, join, one, performs}
 use Rattle.def_runs.proofs.Called.{answer_to, of_foo}
 use Rattle.def_runs.proofs.RowLemmas.{answer_of, answers_without, macro_asked, no_targets}

@@ -13,7 +13,8 @@ use Rattle.def_rules.specs.Directives.{Stays, told}
 use Rattle.def_rules.specs.Headline.{Answers}
 use Rattle.def_rules.specs.Report.{Answer, IsOutcome}
 use Rattle.def_rules.specs.Start.{start}
-use Rattle.def_rules.specs.State.{Setting, Expansion, FnLike, MacroDirective, Moment, PutExplicit}
+use Rattle.def_rules.specs.State.{Setting, Moment, PutExplicit}
+use Rattle.def_rules.specs.Waiting.{Expansion, FnLike, MacroDirective}
 use Rattle.def_rules.specs.Steps.{Reaches, join, one, performs}
 use Rattle.def_runs.proofs.Called.{answer_to, declared, expansion, foo, in_expansion, of_foo, s}
 use Rattle.def_runs.proofs.RowLemmas.{answer_of, answers_without, expansion_taken, macro_asked, no_targets}
@@ -85,7 +86,7 @@ asked_to = asked.0
 
 -- it waits no more, and its expansion is to be walked where it stood, one level deep
 abbrev pub pending : Expansion
-pending = record { scope = module_at 0; container = Module (module_at 0); depth = 1; call = the_call }
+pending = record { scope = module_at 0; container = Module (module_at 0); depth = 1; call = the_call; replaces = None }
 
 it_is_given : (asked_to.state.macros ≡ []) × (asked_to.state.expansions ≡ pending ∷ [])
 it_is_given = (refl, refl)

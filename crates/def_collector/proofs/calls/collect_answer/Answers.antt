@@ -1,4 +1,4 @@
-use Rattle.std.proofs.Common.{◌≡◌, ap, sym, ◌∙◌}
+use Rattle.std.proofs.Common.{◌≡◌, None, ap, sym, ◌∙◌}
 use Rattle.def_calls.specs.Shown.{written_of}
 use Rattle.def_collector.specs.Collector.{state_of}
 use Rattle.def_collector.specs.Walk.{inner_of}
@@ -43,6 +43,6 @@ returns-clause-done g c = if_ok c.open_expansion.result c.open_expansion.ensures
     c.in_ok-add_macro_invoc.ensures
     ∙ ap (λ p. with_module (map_state c.record_calls.new.def_map) at (with_invocation p call)) c.position-position.ensures
     ∙ ap (λ m. with_module m at (with_invocation item call)) made in
-    answered_opens oracle before _ (site_of c.args.site) c.args.node.now (written_of c.args.written) c.args.answer.now call (inner_of oracle opened) c.in_default.is c.in-Some-value.is
+    answered_opens oracle before _ (site_of c.args.site) c.args.node.now (written_of c.args.written) c.args.answer.now call (inner_of oracle opened) _ c.in_default.is c.in-Some-value.is
     (λ i. record before { map = called i })
-    (ap (λ depth. expansion_effect oracle (record before { map = map_state c.add_macro_invoc.new.self }) (record { scope = c.args.site.module_id; container = c.args.site.container; depth = depth; call = call })) (sym c.deeper.ensures) ∙ done session))
+    (ap (λ depth. expansion_effect oracle (record before { map = map_state c.add_macro_invoc.new.self }) (record { scope = c.args.site.module_id; container = c.args.site.container; depth = depth; call = call; replaces = None })) (sym c.deeper.ensures) ∙ done session))

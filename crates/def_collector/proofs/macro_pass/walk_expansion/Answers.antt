@@ -7,9 +7,10 @@ use Rattle.def_collector.proofs.macro_pass.walk_expansion.Goals as goal
 
 pub returns-in-None-clause-walked : goal.returns-in-None-clause-walked
 returns-in-None-clause-walked g c =
-    let s : State = state_of c.args.collector.now c.args.session.now in
+    let begun : State = state_of c.open_expansion.new.collector c.args.session.now in
     record {
       inner = [];
-      opened = c.in_ok-list.ensures.opened c.args.session.now ∙ ap (λ o. followed_by s (inner_of (g.D.SourceDatabase.oracle c.args.db.now) o)) c.in-None.is;
-      leads = leads_refl [] s;
+      begun = begun;
+      opened = c.in_ok-list.ensures.opened c.args.session.now ∙ ap (λ o. followed_by begun (inner_of (g.D.SourceDatabase.oracle c.args.db.now) o)) c.in-None.is;
+      leads = leads_refl [] begun;
     }

@@ -43,3 +43,17 @@ returns-in_ok-answer-in-FnLike-clause-told g c =
     told (written_of c.in-FnLike.written) kind
     ∙ ap (λ l. said ++ l) (call_report oracle s (world_lent g.D.SourceDatabase.oracle bound_by c.world-world.result) d (written_of c.in-FnLike.written) c.in_ok-answer-in-FnLike.answer kind c.world-world.ensures c.in_ok-answer-in-FnLike.ensures)
     ∙ ap (λ e. said ++ option_map_or (λ x. macro_report oracle s (macro_directive_of x)) e []) some)
+
+pub returns-in-Derive-clause-told : goal.returns-in-Derive-clause-told
+returns-in-Derive-clause-told g c =
+    let oracle = g.D.SourceDatabase.oracle c.args.db.now in
+    let entries = c.args.collector.now.unresolved_macros.items in
+    let said = c.args.collector.now.diagnostics.items in
+    let s : State = state_of c.args.collector.now c.args.session.now in
+    let d = macro_directive_of c.in-Some.directive in
+    let kind = ap kind_of c.in-Derive.is in
+    on_ok c.report_left_derive.result c.report_left_derive.ensures (λ told entry here.
+    let some : Some c.in-Some.directive ≡ entry = one_at (slice_get entries c.args.i) (Some c.in-Some.directive) entry (read_at entries c.args.i c.index.result.now (Some c.in-Some.directive) c.requires c.index.ensures c.in-Some.is) here in
+    told kind
+    ∙ ap (λ k. said ++ kind_report oracle s d k) (sym kind)
+    ∙ ap (λ e. said ++ option_map_or (λ x. macro_report oracle s (macro_directive_of x)) e []) some)

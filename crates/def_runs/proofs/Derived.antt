@@ -1,0 +1,189 @@
+-- `#[rustc_builtin_macro] macro derive {} macro_rules! foo {} #[derive(foo)] struct T;`, where foo may be called by derives: T waits; once all is walked foo is called by the list, T declared, and the call's expansion walked.
+use Rattle.std.proofs.Common.{◌≡◌, ℕ, zero, true, Option, Some, None, [], ◌∷◌, Contains, refl, subst, map, lit<}
+use Rattle.either.specs.declared.Either.TheVariants.{Left}
+use Rattle.item_tree.specs.declared.attrs.Attr.{Attr as AttrNode}
+use Rattle.item_tree.specs.declared.attrs.AttrsOrCfg.TheVariants.{Enabled}
+use Rattle.item_tree.specs.declared.ids.HirFileId.{HirFileId}
+use Rattle.item_tree.specs.declared.ids.HirFileId.TheVariants.{File, Macro as MacroFile}
+use Rattle.item_tree.specs.declared.ids.MacroCallId.{MacroCallId}
+use Rattle.item_tree.specs.declared.items.ItemNode.{ItemNode}
+use Rattle.item_tree.specs.declared.items.ModItemKind.TheVariants.{MacroRules as RulesItem, Macro2 as MacroItem}
+use Rattle.item_tree.specs.declared.items.RawVisibility.TheVariants.{PubSelf}
+use Rattle.item_tree.specs.declared.name.Name.{Name}
+use Rattle.item_tree.specs.declared.tree.ItemTree.{ItemTree}
+use Rattle.item_tree.specs.KnownNames.{rustc_builtin_macro_name}
+use Rattle.def_ids.specs.declared.ids.ItemContainerId.TheVariants.{Module}
+use Rattle.def_ids.specs.declared.ids.MacroId.{MacroId}
+use Rattle.def_ids.specs.declared.ids.MacroId.TheVariants.{MacroRules, Macro2, ProcMacro}
+use Rattle.def_locs.specs.declared.expander.BuiltinAttr.TheVariants.{Derive as BuiltinDerive}
+use Rattle.def_interner.specs.declared.macro_def.MacroDefKind.TheVariants.{Declarative, BuiltInAttr}
+use Rattle.def_interner.specs.Session.{Session, AddsLocations, ItemKind, ItemLoc, MacroLoc, StructItem}
+use Rattle.def_rules.specs.Directives.{Stays, told}
+use Rattle.def_rules.specs.Headline.{Answers}
+use Rattle.def_rules.specs.Report.{Answer, IsOutcome}
+use Rattle.def_rules.specs.Start.{start}
+use Rattle.def_rules.specs.State.{Setting, Moment}
+use Rattle.def_rules.specs.Waiting.{Attr, Expansion, MacroDirective}
+use Rattle.def_rules.specs.Steps.{Reaches, join, one, performs}
+use Rattle.def_runs.proofs.Called.{foo, of_foo, t}
+use Rattle.def_runs.proofs.Exported.{marked_with}
+use Rattle.def_runs.proofs.RowLemmas.{answer_of, answers_without, expansion_taken, macro_asked, no_targets}
+use Rattle.def_runs.proofs.Rows.{crate_of, knowing, loc, module_at, no_session, position, session_with, unchanged}
+use Rattle.def_runs.proofs.Textual.{foo_loc}
+use Rattle.def_runs.proofs.Trees.{items, named, node, root_file, tree_with, unit_struct}
+use Rattle.def_runs.proofs.Vectors.{nothing_left}
+
+abbrev derive : Name
+derive = named 50
+
+-- `#[derive(foo)]`
+abbrev list : AttrNode
+list = record (marked_with derive) { paths = Some ((of_foo, record { 0 = 0 }) ∷ []) }
+
+abbrev builtin : ItemNode
+builtin = record (node 0 (MacroItem derive PubSelf)) { attrs = Some (Enabled (record { list = marked_with rustc_builtin_macro_name ∷ [] })) }
+
+abbrev with_list : ItemNode
+with_list = record (node 2 (unit_struct t)) { attrs = Some (Enabled (record { list = list ∷ [] })) }
+
+abbrev tree : ItemTree
+tree = tree_with (builtin ∷ node 1 (RulesItem foo) ∷ with_list ∷ []) (items (0 ∷ 1 ∷ 2 ∷ [])) refl
+
+-- no expansion has items
+abbrev tree_of : HirFileId → Option ItemTree
+tree_of (File file) = Some tree
+tree_of (MacroFile call) = None
+
+-- the call of a derive
+abbrev derived : MacroCallId
+derived = record { 0 = 1 }
+
+-- each builtin attribute is `derive`, each macro by rules may be called by derives alone, and the call of an attribute is number 0
+abbrev setting : Setting
+setting =
+    record (crate_of tree) {
+      oracle = record (knowing tree) { item_tree = λ id. tree_of id.file; rule_styles = λ file krate. record { 0 = 4 }; find_builtin_attr = λ name. Some BuiltinDerive; make_derive_call = λ query. derived };
+    }
+
+-- T is number 0 among structs
+abbrev numbers : ItemKind → ℕ → Option ItemLoc
+numbers StructItem zero = Some (loc 0 2)
+numbers _ _ = None
+
+-- foo is number 0 among macros by rules, and `derive` among `macro` items
+abbrev by_rules : ℕ → Option MacroLoc
+by_rules zero = Some (record foo_loc { position = position 1; kind = Declarative (record { 0 = 4 }) })
+by_rules _ = None
+
+abbrev by_items : ℕ → Option MacroLoc
+by_items zero = Some (record foo_loc { kind = BuiltInAttr BuiltinDerive })
+by_items _ = None
+
+abbrev macros : MacroId → Option MacroLoc
+macros (MacroRules id) = by_rules id.0
+macros (Macro2 id) = by_items id.0
+macros (ProcMacro id) = None
+
+abbrev session : Session
+session = record (session_with numbers) { macro_at = macros }
+
+more : AddsLocations no_session session
+more = record { text = refl; grows = record { text = λ n t h. cc; item = λ k i at h. cc; macro_at = λ m at h. cc; derive_impl = λ i at h. cc } }
+
+-- the walk: both macros are defined, and T waits
+abbrev walked : (m : Moment) × Reaches setting.oracle (start setting no_session) m
+walked = (
+  _,
+  join (one (performs _ _ _ refl refl refl))
+      (join (one (performs _ _ _ refl (session, more, (0, refl, refl)) refl))
+      (join (one (performs _ _ _ refl refl refl))
+      (join (one (performs _ _ _ refl (session, unchanged session, (0, Some foo, refl, refl, refl)) refl))
+      (one (performs _ _ _ refl refl refl))))),
+)
+
+abbrev walked_to : Moment
+walked_to = walked.0
+
+-- nothing is left to do but what waits
+idle : walked_to.tasks ≡ []
+idle = refl
+
+-- T as it waits
+abbrev waiting : MacroDirective
+waiting =
+    record {
+      scope = module_at 0;
+      container = Module (module_at 0);
+      position = position 2;
+      depth = 1;
+      kind = Attr (record { tree = root_file; item = record { 0 = 2 }; id = record { 0 = 0 }; attr = list });
+    }
+
+it_waits : walked_to.state.macros ≡ waiting ∷ []
+it_waits = refl
+
+-- it has its turn: `derive` is found
+abbrev asked : (m : Moment) × Reaches setting.oracle walked_to m
+asked = (_, macro_asked setting.oracle walked_to waiting [] refl refl)
+
+abbrev asked_to : Moment
+asked_to = asked.0
+
+-- its list is tried, and T declared
+abbrev tried : (m : Moment) × Reaches setting.oracle asked_to m
+tried = (
+  _,
+  join (one (performs _ _ _ refl refl refl))
+      (join (one (performs _ _ _ refl (session, unchanged session, (0, refl, refl)) refl))
+      (join (one (performs _ _ _ refl refl refl))
+      (one (performs _ _ _ refl refl refl)))),
+)
+
+abbrev tried_to : Moment
+tried_to = tried.0
+
+-- foo's expansion is to be walked beside T, one level deeper than one of the attribute
+abbrev pending : Expansion
+pending = record { scope = module_at 0; container = Module (module_at 0); depth = 2; call = derived; replaces = None }
+
+it_is_given : (tried_to.state.macros ≡ []) × (tried_to.state.expansions ≡ pending ∷ []) × (tried_to.state.active (position 2) ≡ record { 0 = 0 } ∷ [])
+it_is_given = (refl, refl, refl)
+
+-- it is walked
+abbrev expanded : (m : Moment) × Reaches setting.oracle tried_to m
+expanded = (_, join (expansion_taken setting.oracle tried_to pending [] refl refl) (one (performs _ _ _ refl refl refl)))
+
+abbrev last : Moment
+last = expanded.0
+
+ran : Reaches setting.oracle (start setting no_session) last
+ran = join walked.1 (join asked.1 (join tried.1 expanded.1))
+
+shown : IsOutcome last.state nothing_left
+shown = record { imports = refl; macros = refl; edges = λ source. refl; targets = no_targets; limit = refl }
+
+abbrev answered : Answer
+answered = answer_of setting.oracle last.state nothing_left
+
+-- what is answered of this crate
+derived_answers : Answers setting no_session session answered
+derived_answers = answers_without setting no_session last nothing_left ran refl refl refl refl shown (λ source. refl) refl
+
+-- both names are bound, and nothing else is
+names_of_root : answered.content.names (module_at 0) ≡ derive ∷ t ∷ []
+names_of_root = refl
+
+-- the list is recorded at the item, with the attribute's call and the derive's
+recorded : map (λ m. m.derives (position 2) (record { 0 = 0 })) answered.map.modules ≡ Some (record { call = record { 0 = 0 }; calls = Some (Left derived) ∷ [] }) ∷ []
+recorded = refl
+
+nothing_is_reported : answered.diagnostics ≡ []
+nothing_is_reported = refl
+
+-- stopping where T still waits is no answer
+stopping_at_the_walk_is_no_answer : (after : Session) (answer : Answer) (answers : Answers setting no_session after answer) → answers.run.end ≡ walked_to → ⊥
+stopping_at_the_walk_is_no_answer after answer answers early =
+    let at_end : (told setting.oracle walked_to.state waiting).turn ≡ Stays =
+    subst (λ (m : Moment). Contains m.state.macros waiting → (told setting.oracle m.state waiting).turn ≡ Stays) early
+    (λ left. answers.settled.macros.stay waiting left) (0, lit< tt, refl) in
+    cc
