@@ -4,6 +4,7 @@ mod answers;
 mod attributes;
 mod attrs;
 mod calls;
+mod derives;
 mod examples;
 mod expansions;
 mod extern_crates;
