@@ -3,7 +3,10 @@ use Rattle.std.specs.Prelude.{false, List, [], ◌∷◌, Option, Some, None, Re
 use Rattle.item_tree.specs.declared.ids.HirFileId.{HirFileId}
 use Rattle.item_tree.specs.declared.ids.HirFileId.TheVariants.{File, Macro}
 use Rattle.item_tree.specs.declared.tree.ItemTree.{ItemTree}
+use Rattle.item_tree.specs.KnownNames.{rustc_builtin_macro_name}
+use Rattle.def_locs.specs.declared.expander.BuiltinAttr.TheVariants.{Derive}
 use Rattle.def_interner.specs.declared.macro_def.MacroDefId.{MacroDefId}
+use Rattle.def_bindings.specs.Content.{is_name}
 use Rattle.def_map.specs.Oracle.{Oracle}
 use Rattle.def_map.specs.Queries.{PlainCall}
 use Rattle.def_oracle.specs.declared.source_database.CallAnswer.{CallAnswer}
@@ -35,17 +38,17 @@ answers_of one =
       asked_paths = λ query. query.path ∷ [];
       macro_call = call_answer;
       make_attr_call = λ query. record { 0 = 0 };
-      make_derive_call = λ query. record { 0 = 0 };
+      make_derive_call = λ query. record { 0 = query.position.value.0 };
       is_include = λ call. false;
       enum_variants = λ loc. None;
       assoc_items = λ owner. None;
-      rule_styles = λ position krate. record { 0 = 1 };
+      rule_styles = λ position krate. record { 0 = 5 };
       proc_macros = λ krate. [];
       find_builtin_macro = λ name. None;
       find_builtin_derive = λ name. None;
-      find_builtin_attr = λ name. None;
+      find_builtin_attr = λ name. Some Derive;
       builtin_type = λ name. None;
-      is_builtin_attr = λ name. false;
+      is_builtin_attr = λ name. is_name name rustc_builtin_macro_name;
       has_builtin_derive_impl = λ derive. false;
       derive_traits = λ derive. [];
       cfg_flag = λ krate name. false;

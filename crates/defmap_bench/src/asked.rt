@@ -24,7 +24,7 @@ pub struct Asked {
 }
 
 /// What each word asks for.
-static WORDS: [(&str, Subject); 13] = [
+static WORDS: [(&str, Subject); 14] = [
     ("all", Subject::All),
     ("items", Subject::One(Shape::Items)),
     ("imports", Subject::One(Shape::Imports)),
@@ -35,6 +35,7 @@ static WORDS: [(&str, Subject); 13] = [
     ("calls", Subject::One(Shape::Calls)),
     ("call-chain", Subject::One(Shape::CallChain)),
     ("queued", Subject::One(Shape::QueuedCalls)),
+    ("derives", Subject::One(Shape::Derives)),
     ("trees", Subject::Trees),
     ("tables", Subject::Tables),
     ("globs", Subject::Globs),

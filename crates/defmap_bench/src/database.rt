@@ -1,6 +1,7 @@
 //! A database that answers from fields, so that no time goes into its answers.
 ghost use Rattle.defmap_bench.specs.Database.{answers_of};
 
+use bitflags::Flags;
 use def_locs::{BuiltinAttr, EnumLoc};
 use def_map::{
     AssocItemsOwner, AssocList, AttrCallQuery, CallAnswer, CallQuery, CrateData, DefMap,
@@ -9,12 +10,13 @@ use def_map::{
 use either::Either;
 use item_tree::{
     BlockId, Crate, FileAstId, FileId, HirFileId, InFile, ItemTree, MacroCallId, MacroCallStyles,
-    Name, Seq, TreeId,
+    Name, Seq, TreeId, sym,
 };
 use std::alloc::{AllocError, Global};
 
 /// One crate in one file. Each question about a file or a crate is about these. The number of a
-/// macro call is that of its item, so calls stand in the file alone.
+/// call or of a derive is that of its item, so both stand in the file alone. Each builtin attribute
+/// macro reads derives.
 #[derive(Drop)]
 pub struct OneFile {
     pub tree: ItemTree,
@@ -83,8 +85,8 @@ impl SourceDatabase for OneFile {
         MacroCallId(0)
     }
 
-    fn make_derive_call(&self, _query: DeriveCallQuery) -> MacroCallId {
-        MacroCallId(0)
+    fn make_derive_call(&self, query: DeriveCallQuery) -> MacroCallId {
+        MacroCallId(query.position.value.0)
     }
 
     fn is_include(&self, _call: MacroCallId) -> bool {
@@ -100,7 +102,7 @@ impl SourceDatabase for OneFile {
     }
 
     fn rule_styles(&self, _position: InFile<FileAstId>, _krate: Crate) -> MacroCallStyles {
-        MacroCallStyles::FN_LIKE
+        MacroCallStyles::FN_LIKE.union(MacroCallStyles::DERIVE)
     }
 
     fn proc_macros(&self, _krate: Crate) -> &[(Name, u32, bool)] {
@@ -116,15 +118,15 @@ impl SourceDatabase for OneFile {
     }
 
     fn find_builtin_attr(&self, _name: Name) -> Option<BuiltinAttr> {
-        None
+        Some(BuiltinAttr::Derive)
     }
 
     fn builtin_type(&self, _name: Name) -> Option<u32> {
         None
     }
 
-    fn is_builtin_attr(&self, _name: Name) -> bool {
-        false
+    fn is_builtin_attr(&self, name: Name) -> bool {
+        name == sym::RUSTC_BUILTIN_MACRO
     }
 
     fn has_builtin_derive_impl(&self, _derive: u32) -> bool {

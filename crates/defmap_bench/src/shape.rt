@@ -28,6 +28,9 @@ pub enum Shape {
     CallChain,
     /// Calls of a macro that is defined behind them, each of which gives a struct.
     QueuedCalls,
+    /// Structs with three derives each, whose macros are found at once. A derive's call is named by
+    /// its struct alone, so the three share one expansion, an impl, which is walked three times.
+    Derives,
     /// Modules in one another with structs around them, always the same, and no imports: a text
     /// for trees alone.
     Nested,
@@ -105,6 +108,7 @@ impl Shape {
             Shape::Calls => "calls of one macro, each of which gives a struct",
             Shape::CallChain => "a chain of calls: each gives the macro of the next one",
             Shape::QueuedCalls => "calls before their macro: one pass expands them all",
+            Shape::Derives => "structs with three derives each",
             Shape::Nested => "modules in one another with structs around them",
         }
     }
@@ -135,6 +139,7 @@ fn length(plan: Plan) -> usize {
         Shape::Imports => half + 1 + half / USER_LINES * USER_LINES,
         Shape::RealCode => plan.size / REAL_LINES * REAL_LINES,
         Shape::Calls | Shape::CallChain | Shape::QueuedCalls => plan.size.saturating_add(1),
+        Shape::Derives => plan.size.saturating_add(2),
         _ => half.saturating_mul(2).saturating_add(SOURCE_LINES),
     }
 }
@@ -175,16 +180,21 @@ fn nested_line(random: &mut Random, open: usize, number: usize) -> Line {
     Line { depth, item }
 }
 
+/// A plain item that all see.
+fn public_item(number: usize, kind: Kind) -> Item {
+    Item::Plain {
+        number,
+        kind,
+        seen: Seen::Everywhere,
+    }
+}
+
 /// A line of a nested text. A module stands where the next line is deeper.
 fn pattern_line(number: usize) -> Line {
     let place = number % DEPTHS.len();
     let item = match place {
         0 | 2 | 4 => Item::Module(number),
-        _ => Item::Plain {
-            number,
-            kind: Kind::Struct,
-            seen: Seen::Everywhere,
-        },
+        _ => public_item(number, Kind::Struct),
     };
     Line {
         depth: DEPTHS[place],
@@ -335,15 +345,25 @@ fn queued_line(calls: usize, place: usize) -> Line {
     }
 }
 
-/// What the call on the line at a place gives. Where no calls are written, there is nothing.
+/// The builtin macro of all attributes, the macro of all derives, and structs that derive it.
+fn deriving_line(place: usize) -> Line {
+    match place {
+        0 => root_line(Item::Builtin(0)),
+        1 => root_line(Item::Macro(1)),
+        _ => root_line(Item::Deriving {
+            number: place,
+            attribute: 0,
+            derived: 1,
+        }),
+    }
+}
+
+/// What the calls on the line at a place give. Where no calls are written, there is nothing.
 fn given_at(shape: Shape, place: usize) -> Option<Item> {
     match shape {
-        Shape::Calls | Shape::QueuedCalls => Some(Item::Plain {
-            number: place,
-            kind: Kind::Struct,
-            seen: Seen::Everywhere,
-        }),
+        Shape::Calls | Shape::QueuedCalls => Some(public_item(place, Kind::Struct)),
         Shape::CallChain => Some(Item::Macro(place)),
+        Shape::Derives => Some(public_item(place, Kind::Impl)),
         _ => None,
     }
 }
@@ -360,6 +380,7 @@ fn line_at(plan: Plan, random: &mut Random, open: usize, place: usize) -> Line {
         Shape::Calls => call_line(place, 0),
         Shape::CallChain => call_line(place, place.saturating_sub(1)),
         Shape::QueuedCalls => queued_line(plan.size, place),
+        Shape::Derives => deriving_line(place),
         Shape::Nested => pattern_line(place),
     }
 }

@@ -51,8 +51,16 @@ pub enum Item {
         taken: Taken,
         seen: Seen,
     },
+    /// A struct with three derives: its attribute lists one macro three times.
+    Deriving {
+        number: usize,
+        attribute: usize,
+        derived: usize,
+    },
     /// A `macro_rules!`.
     Macro(usize),
+    /// A `macro` item that is marked as builtin.
+    Builtin(usize),
     /// A call of the macro of this number.
     Call(usize),
 }

@@ -3,12 +3,15 @@
 use crate::text::{Item, Kind, Line, Seen, Taken};
 use def_interner::Interner;
 use item_tree::{
-    Attrs, AttrsOrCfg, CtorVisibility, ExpandTo, FileAstId, ImportKind, ItemNode, ItemTree,
+    Attr, Attrs, AttrsOrCfg, CtorVisibility, ExpandTo, FileAstId, ImportKind, ItemNode, ItemTree,
     ModContents, ModItemId, ModItemKind, ModPath, Name, PathKind, RawVisibility, Seq,
-    SyntaxContext, UseImport,
+    SyntaxContext, UseImport, sym,
 };
 use std::alloc::{AllocError, Global};
 use std::io;
+
+/// How many derives the attribute of a struct lists.
+const DERIVES: usize = 3;
 
 /// What a tree is made of: items by number, the numbers of those that stand in no other, and the
 /// attributes of the file.
@@ -20,11 +23,13 @@ pub struct Nodes {
 }
 
 /// The names on a line: that of the item, of the macro that is called, or of the module that
-/// something is taken of, and of the item that is taken.
+/// something is taken of, that of the item that is taken, or of the macro that is derived, and that
+/// of the item's attribute.
 #[derive(Clone, Copy)]
 struct Names {
     own: Name,
     taken: Option<Name>,
+    attribute: Option<Name>,
 }
 
 /// The name of a number, under a letter that tells modules and macros from other items.
@@ -41,32 +46,52 @@ fn name_of(
 /// The first name on a line.
 fn own_name(alloc: Global, session: &mut Interner, item: Item) -> Result<Name, AllocError> {
     match item {
-        Item::Plain { number, .. } => name_of(alloc, session, "i", number),
+        Item::Plain { number, .. } | Item::Deriving { number, .. } => {
+            name_of(alloc, session, "i", number)
+        }
         Item::Module(number)
         | Item::Import { module: number, .. }
         | Item::Macro(number)
+        | Item::Builtin(number)
         | Item::Call(number) => name_of(alloc, session, "m", number),
     }
 }
 
-/// The number of the item that a line imports.
-fn imported(item: Item) -> Option<usize> {
+/// The name of the item that a line imports, or of the macro that it derives.
+fn taken_name(
+    alloc: Global,
+    session: &mut Interner,
+    item: Item,
+) -> Result<Option<Name>, AllocError> {
     match item {
         Item::Import {
             taken: Taken::Item(number),
             ..
-        } => Some(number),
-        _ => None,
+        } => Ok(Some(name_of(alloc, session, "i", number)?)),
+        Item::Deriving { derived, .. } => Ok(Some(name_of(alloc, session, "m", derived)?)),
+        _ => Ok(None),
+    }
+}
+
+/// The name of the attribute on a line.
+fn attribute_name(
+    alloc: Global,
+    session: &mut Interner,
+    item: Item,
+) -> Result<Option<Name>, AllocError> {
+    match item {
+        Item::Builtin(_) => Ok(Some(sym::RUSTC_BUILTIN_MACRO)),
+        Item::Deriving { attribute, .. } => Ok(Some(name_of(alloc, session, "m", attribute)?)),
+        _ => Ok(None),
     }
 }
 
 fn names_of(alloc: Global, session: &mut Interner, item: Item) -> Result<Names, AllocError> {
-    let own = own_name(alloc, session, item)?;
-    let taken = match imported(item) {
-        Some(number) => Some(name_of(alloc, session, "i", number)?),
-        None => None,
-    };
-    Ok(Names { own, taken })
+    Ok(Names {
+        own: own_name(alloc, session, item)?,
+        taken: taken_name(alloc, session, item)?,
+        attribute: attribute_name(alloc, session, item)?,
+    })
 }
 
 /// The visibility that shows an item so far.
@@ -153,6 +178,49 @@ fn path_of(alloc: Global, kind: PathKind, names: Names) -> Result<ModPath, Alloc
     Ok(ModPath { kind, segments })
 }
 
+/// The path of a name that stands alone.
+fn path_to(alloc: Global, name: Name) -> Result<ModPath, AllocError> {
+    let mut segments = Seq::from_vec(Vec::new(alloc));
+    segments.push(name)?;
+    Ok(ModPath {
+        kind: PathKind::Plain,
+        segments,
+    })
+}
+
+/// The list of an attribute, all of whose paths name one macro.
+fn listed_paths(alloc: Global, derived: Name) -> Result<Seq<(ModPath, SyntaxContext)>, AllocError> {
+    let mut paths = Seq::from_vec(Vec::new(alloc));
+    for _ in 0..DERIVES {
+        paths.push((path_to(alloc, derived)?, SyntaxContext(0)))?;
+    }
+    Ok(paths)
+}
+
+/// An attribute of a name, with a list where a macro is derived.
+fn attribute(alloc: Global, name: Name, derived: Option<Name>) -> Result<Attr, AllocError> {
+    let paths = match derived {
+        Some(derived) => Some(listed_paths(alloc, derived)?),
+        None => None,
+    };
+    Ok(Attr {
+        path: path_to(alloc, name)?,
+        input: None,
+        ctxt: SyntaxContext(0),
+        paths,
+    })
+}
+
+/// The attributes of an item, if it has one.
+fn attributes_of(alloc: Global, names: Names) -> Result<Option<AttrsOrCfg>, AllocError> {
+    let Some(name) = names.attribute else {
+        return Ok(None);
+    };
+    let mut list = Seq::from_vec(Vec::new(alloc));
+    list.push(attribute(alloc, name, names.taken)?)?;
+    Ok(Some(AttrsOrCfg::Enabled(Attrs { list })))
+}
+
 /// The kind of an import: a glob has no name but the module's.
 fn import_kind(names: Names) -> ImportKind {
     match names.taken {
@@ -192,7 +260,12 @@ fn kind_of(
             imports: one_import(alloc, names)?,
             visibility: visibility(seen),
         }),
+        Item::Deriving { .. } => { Ok(plain_kind(Kind::Struct, names.own, RawVisibility::Public)) }
         Item::Macro(_) => Ok(ModItemKind::MacroRules { name: names.own }),
+        Item::Builtin(_) => Ok(ModItemKind::Macro2 {
+            name: names.own,
+            visibility: RawVisibility::Public,
+        }),
         Item::Call(_) => Ok(ModItemKind::MacroCall {
             path: path_of(alloc, PathKind::Plain, names)?,
             expand_to: ExpandTo::Items,
@@ -213,7 +286,7 @@ fn add_item(
     let kind = kind_of(alloc, lines, number, line, names)?;
     items.push(ItemNode {
         ast_id: FileAstId(number),
-        attrs: None,
+        attrs: attributes_of(alloc, names)?,
         kind,
     })?;
     Ok(())
@@ -240,6 +313,7 @@ fn numbered_items(alloc: Global, lines: &[Line]) -> Result<Vec<ItemNode>, AllocE
         let names = Names {
             own: Name(items.len()),
             taken: None,
+            attribute: None,
         };
         add_item(alloc, &mut items, lines, *line, names)?;
     }
