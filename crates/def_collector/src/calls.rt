@@ -115,7 +115,13 @@ pub(crate) fn open_expansion<'a, D: SourceDatabase>(
     };
     let tree = db.item_tree(tree_id);
     if let Some(position) = replaces {
-        hand_on(collector.alloc, &mut collector.def_map, db, position, tree_id)?;
+        hand_on(
+            collector.alloc,
+            &mut collector.def_map,
+            db,
+            position,
+            tree_id,
+        )?;
     }
     let dir = expansion_dir(collector.alloc, db, &collector.mod_dirs, module_id, call)?;
     Ok(Some(ItemList {

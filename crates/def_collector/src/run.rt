@@ -28,9 +28,7 @@ use crate::imports::resolve_imports;
 use crate::macro_pass::resolve_macros;
 use crate::seeding::seed;
 use crate::stack::walk;
-use def_calls::{
-    ItemAttrs, MacroDirectiveKind, call_answer, report_left_call, report_left_derive,
-};
+use def_calls::{ItemAttrs, MacroDirectiveKind, call_answer, report_left_call, report_left_derive};
 use def_crates::{MissingCrates, deps_by_name, is_proc_macro_crate, top_attrs};
 use def_ids::{ItemContainerId, MapId, ModuleId};
 use def_interner::Interner;
