@@ -2,4 +2,5 @@ pub mod ScopesLemmas
 pub mod MapsLemmas
 pub mod CrateLemmas
 pub mod LegacyLemmas
+pub mod HelpersLemmas
 mod WritesFacts

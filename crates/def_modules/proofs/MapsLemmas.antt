@@ -12,7 +12,7 @@ use Rattle.def_modules.specs.Maps.{map_state, with_module}
 use Rattle.def_modules.specs.Updates.{update_at}
 
 -- the shown list after one element is set
-shown-set : {X Y : Type 0} (shown : X → Y) (xs : List X) (i : ℕ) (was new : X) (f : Y → Y) → i < length xs → was ≡ get_or xs i was → shown new ≡ f (shown was)
+pub shown-set : {X Y : Type 0} (shown : X → Y) (xs : List X) (i : ℕ) (was new : X) (f : Y → Y) → i < length xs → was ≡ get_or xs i was → shown new ≡ f (shown was)
     → map shown (set xs i new) ≡ update_at (map shown xs) i f
 shown-set shown [] i was new f within at is = absurd (omega arith)
 shown-set shown (x ∷ xs) zero was new f within at is = ap (λ y. y ∷ map shown xs) (is ∙ ap (λ y. f (shown y)) at)

@@ -12,7 +12,7 @@ use Rattle.def_modules.specs.declared.module_data.ModuleOrigin.TheVariants.{Crat
 use Rattle.def_modules.specs.Locals.{with_extern}
 use Rattle.def_modules.specs.MapState.{CrateState, DeriveCall, DeriveState, MapState, ModuleState, Position, ShownHelper}
 use Rattle.def_modules.specs.MapView.{empty_local}
-use Rattle.def_modules.specs.Maps.{with_feature, with_tool, with_exported, paired, with_macro_at, with_macro_use, with_helper}
+use Rattle.def_modules.specs.Maps.{with_feature, with_tool, with_exported, paired, with_macro_at, with_macro_use, with_helper, with_renamed_helpers}
 use Rattle.def_modules.specs.Scopes.{empty_module, with_extern_crate, with_extern_block, with_unnamed_const, with_impl, with_derive_impl, with_derive, with_invocation, called_at, with_textual_of, brought}
 
 abbrev name : ℕ → Name
@@ -99,6 +99,21 @@ helper n = record { name = name n; macro_id = rules 1; by = Left (record { 0 = 8
 
 helpers : (with_helper (with_helper (with_helper bare (item 4) (helper 5)) (item 3) (helper 6)) (item 4) (helper 7)).helpers (item 4) ≡ helper 5 ∷ helper 7 ∷ []
 helpers = refl
+
+-- a helper that another call gave
+abbrev other_helper : ℕ → ShownHelper
+other_helper n = record { name = name n; macro_id = rules 1; by = Left (record { 0 = 9 }) }
+
+-- a helper that a builtin impl gave
+abbrev builtin_helper : ℕ → ShownHelper
+builtin_helper n = record { name = name n; macro_id = rules 1; by = Right (record { 0 = 3 }) }
+
+-- of an item's helpers those that this call gave name the impl in its place, and those of another item stay
+abbrev renamed : MapState
+renamed = with_renamed_helpers (with_helper (with_helper (with_helper bare (item 4) (helper 5)) (item 4) (other_helper 6)) (item 3) (helper 7)) (item 4) (record { 0 = 8 }) (record { 0 = 3 })
+
+helpers_renamed : (renamed.helpers (item 4) ≡ builtin_helper 5 ∷ other_helper 6 ∷ []) × (renamed.helpers (item 3) ≡ helper 7 ∷ [])
+helpers_renamed = (refl, refl)
 
 -- impls stand in order, each with whether it is one of a trait
 impls : (with_impl (record { 0 = 2 }) true (with_impl (record { 0 = 1 }) false root)).impls ≡ (record { 0 = 1 }, false) ∷ (record { 0 = 2 }, true) ∷ []

@@ -1,15 +1,17 @@
 //! What the collector writes of a crate, and beside the modules into a map, where the write touches
 //! a map or a list. Where memory is refused nothing but safety is promised.
-ghost use Rattle.std.specs.Prelude.{◌≡◌, OnOk};
-ghost use Rattle.def_modules.specs.Maps.{crate_state, map_state, helper_state, with_feature, with_tool, with_exported, paired, with_macro_at, with_macro_use, with_helper};
+ghost use Rattle.std.specs.Prelude.{◌≡◌, map, OnOk};
+ghost use Rattle.def_modules.specs.Maps.{crate_state, map_state, helper_state, with_feature, with_tool, with_exported, paired, with_macro_at, with_macro_use, with_helper, renamed_helper, with_renamed_helpers};
 
 use crate::crate_data::DefMapCrateData;
-use crate::keyed_lists::push_under;
+use crate::keyed_lists::{no_items, push_under};
 use crate::map::{DeriveHelper, MapData};
 use crate::module_data::Position;
-use def_ids::{FunctionId, MacroId, ProcMacroId};
-use item_tree::{Name, Seq};
-use std::alloc::AllocError;
+use def_ids::{BuiltinDeriveImplId, FunctionId, MacroId, ProcMacroId};
+use either::Either;
+use item_tree::{MacroCallId, Name, Seq};
+use std::alloc::{AllocError, Global};
+use std::mem;
 
 impl DefMapCrateData {
     /// Enables a feature.
@@ -50,6 +52,33 @@ impl DefMapCrateData {
     }
 }
 
+impl DeriveHelper {
+    /// Puts a builtin impl in the place of a call, where this call gave the helper.
+    fn rename(&mut self, call: MacroCallId, id: BuiltinDeriveImplId)
+        ensures { helper_state self.new ≡ renamed_helper call id (helper_state self.old) }
+    {
+        if self.by == Either::Left(call) {
+            self.by = Either::Right(id);
+        }
+    }
+}
+
+/// Puts a builtin impl in the place of a call, in each helper that this call gave.
+fn rename_all(
+    helpers: &mut Seq<DeriveHelper>,
+    alloc: Global,
+    call: MacroCallId,
+    id: BuiltinDeriveImplId,
+)
+    ensures { map helper_state helpers.new ≡ map (renamed_helper call id) (map helper_state helpers.old) }
+{
+    let mut items = mem::replace(helpers, no_items(alloc)).into_vec();
+    for helper in items.iter_mut() {
+        helper.rename(call, id);
+    }
+    *helpers = Seq::from_vec(items);
+}
+
 impl MapData {
     /// Leads a position to its macro.
     pub fn set_macro_at(&mut self, position: Position, id: MacroId) -> Result<(), AllocError>
@@ -77,5 +106,21 @@ impl MapData {
     {
         push_under(&mut self.derive_helpers, position, helper)?;
         Ok(())
+    }
+
+    /// Lets the helpers that a call gave at a position name a builtin impl in its place, as
+    /// rust-analyzer does with the derive helpers in `consider_deferred_derives`.
+    pub fn rename_derive_helpers(
+        &mut self,
+        position: Position,
+        call: MacroCallId,
+        id: BuiltinDeriveImplId,
+    )
+        ensures { map_state self.new ≡ with_renamed_helpers (map_state self.old) position call id }
+    {
+        let alloc = *self.derive_helpers.allocator();
+        if let Some(helpers) = self.derive_helpers.get_mut(&position) {
+            rename_all(helpers, alloc, call, id);
+        }
     }
 }
