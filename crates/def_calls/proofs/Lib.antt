@@ -2,3 +2,4 @@ pub mod CallsLemmas
 pub mod WaitingLemmas
 pub mod AttrsLemmas
 pub mod DerivesLemmas
+pub mod ImplsLemmas

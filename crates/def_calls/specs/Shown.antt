@@ -3,6 +3,7 @@ use Rattle.std.specs.Prelude.{◌≡◌, Bool, true, false, List, ◌∷◌, ◌
 use Rattle.def_calls.specs.declared.attrs.AttrUse.{AttrUse}
 use Rattle.def_calls.specs.declared.attrs.AttrUse.TheVariants.{PassesOver, ReadsDerives, ReplacesItem}
 use Rattle.def_calls.specs.declared.attrs.WrittenAttr.{WrittenAttr}
+use Rattle.def_calls.specs.declared.deferred.DeferredDerives.{DeferredDerives}
 use Rattle.def_calls.specs.declared.derives.DeriveList.{DeriveList}
 use Rattle.def_calls.specs.declared.derives.WrittenDerive.{WrittenDerive}
 use Rattle.def_calls.specs.declared.directives.Expansion.{Expansion}
@@ -14,7 +15,7 @@ use Rattle.def_modules.specs.declared.map.MapData.{MapData}
 use Rattle.def_modules.specs.Maps.{map_state}
 use Rattle.def_rules.specs.Attributes as attributes
 use Rattle.def_rules.specs.Derives.{derives_from}
-use Rattle.def_rules.specs.Directives.{Told, Turn, Stays, GivesCall, GivesDerive, WalksItem, turn_effect}
+use Rattle.def_rules.specs.Directives.{Told, Turn, Stays, GivesCall, GivesDerive, Replaces, WalksItem, turn_effect}
 use Rattle.def_steps.specs.ImportLists.{present}
 use Rattle.def_rules.specs.State as rules
 use Rattle.def_rules.specs.Waiting as waits
@@ -53,6 +54,10 @@ macros_in entries = map macro_directive_of (present entries)
 abbrev pub expansion_shown : Expansion → waits.Expansion
 expansion_shown e = record { scope = e.module_id; container = e.container; depth = e.depth; call = e.call; replaces = e.replaces }
 
+-- the derives that are deferred
+abbrev pub deferrals_of : DeferredDerives → waits.Deferrals
+deferrals_of deferred = deferred.by_item.entries
+
 -- the state with this map, and in which these wait
 abbrev pub with_waiting : rules.State → MapData → List (Option MacroDirective) → List Expansion → rules.State
 with_waiting s m directives expansions = record s { map = map_state m; macros = macros_in directives; expansions = map expansion_shown expansions }
@@ -62,6 +67,7 @@ abbrev pub leaves : Turn → Bool
 leaves Stays = false
 leaves (GivesCall call) = true
 leaves (GivesDerive call) = true
+leaves (Replaces call) = true
 leaves (WalksItem derives written) = true
 
 -- what waits for a macro had its turn, in which this was told

@@ -147,8 +147,8 @@ pub fn derive_macro<D: SourceDatabase>(
     if found.is_derive() { Some(found) } else { None }
 }
 
-/// Calls the macro of a derive, and records the call at the derive's place and the helpers that the
-/// macro's crate shows of it. On `Err` nothing but safety is promised.
+/// Calls the macro of a derive, and records the helpers that the macro's crate shows of it and the call
+/// at the derive's place. On `Err` nothing but safety is promised.
 pub fn give_derive<D: SourceDatabase>(
     def_map: &mut MapData,
     db: &D,
@@ -159,6 +159,27 @@ pub fn give_derive<D: SourceDatabase>(
     ensures { IfOk result (λ call. let d = macro_directive_of directive.now in let w = written_derive_of written.entry in
         (call ≡ (D.oracle db.now).make_derive_call (rules.derive_query (map_state def_map.old).id.krate d w found))
         × (map_state def_map.new ≡ rules.derived_map (D.oracle db.now) (map_state def_map.old) d w found call)) }
+{
+    let call = call_derive(def_map, db, directive, written, found)?;
+    let module = directive.module_id.index;
+    let position = directive.position;
+    let made = Either::Left(call);
+    def_map.set_derive_call(module, position, written.attr_id, written.pos, made);
+    Ok(call)
+}
+
+/// Calls the macro of a derive, and records the helpers that the macro's crate shows of it. On `Err`
+/// nothing but safety is promised.
+pub fn call_derive<D: SourceDatabase>(
+    def_map: &mut MapData,
+    db: &D,
+    directive: &MacroDirective<'_>,
+    written: WrittenDerive<'_>,
+    found: MacroDefId,
+) -> Result<MacroCallId, AllocError>
+    ensures { IfOk result (λ call. let d = macro_directive_of directive.now in let w = written_derive_of written.entry in
+        (call ≡ (D.oracle db.now).make_derive_call (rules.derive_query (map_state def_map.old).id.krate d w found))
+        × (map_state def_map.new ≡ rules.with_shown_helpers (D.oracle db.now) (map_state def_map.old) d found call)) }
 {
     let krate = def_map.tree.map.krate;
     let position = directive.position;
@@ -172,9 +193,6 @@ pub fn give_derive<D: SourceDatabase>(
         derive_call: written.call,
         depth: directive.depth,
     });
-    let module = directive.module_id.index;
-    let made = Either::Left(call);
-    def_map.set_derive_call(module, position, written.attr_id, written.pos, made);
     let names = helper_names(db, krate, found);
     add_names(def_map, position, found, call, names)?;
     Ok(call)

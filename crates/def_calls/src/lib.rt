@@ -4,9 +4,11 @@
 #![tactic(auto)]
 
 mod attrs;
+mod deferred;
 mod derives;
 mod directives;
 mod early_resolver;
+mod impls;
 mod item_attrs;
 mod path_resolver;
 mod queries;
@@ -15,14 +17,17 @@ pub use attrs::{
     AttrUse, WrittenAttr, attr_call, attr_macro, attr_use, awaited_attr,
     is_builtin_or_registered_attr, is_helper,
 };
+pub use deferred::{DeferredDerives, deferred_derive, expand_deferred};
 pub use derives::{
-    DeriveList, WrittenDerive, derive_macro, derive_paths, give_derive, hand_on, record_list,
+    DeriveList, WrittenDerive, call_derive, derive_macro, derive_paths, give_derive, hand_on,
+    record_list,
 };
 pub use directives::{
     Expansion, MacroDirective, MacroDirectiveKind, WrittenCall, give_call, leave, left_macros,
     queue_macro, record_calls, report_left_call, report_left_derive, settle_call,
 };
 pub use early_resolver::EarlyResolver;
+pub use impls::{DerivedItem, give_impls};
 pub use item_attrs::ItemAttrs;
 pub use path_resolver::PathResolver;
 pub use queries::{

@@ -55,15 +55,15 @@ no_imports unresolved indeterminate none nor =
     ∙ ap directives_in nor
     ∙ ap (map directive_of) (present-nil ImportDirective)
 
-module _ (w : Setting) (before : Session) (m : MapState) (content : Content Visibility) (targets : Targets) (local : LocalView) (procs : Bool) (deps : LocalView) (missing : Name → Bool) (directories : ModuleId → Option Directory) (imports : List rules.ImportDirective) (skipped : HirFileId → ModItemId → Option AttrId) (active : InFile FileAstId → List AttrId) (macros : List waits.MacroDirective) (expansions : List waits.Expansion) (diagnostics : List DefDiagnostic) where
+module _ (w : Setting) (before : Session) (m : MapState) (content : Content Visibility) (targets : Targets) (local : LocalView) (procs : Bool) (deps : LocalView) (missing : Name → Bool) (directories : ModuleId → Option Directory) (imports : List rules.ImportDirective) (skipped : HirFileId → ModItemId → Option AttrId) (active : InFile FileAstId → List AttrId) (deferred : waits.Deferrals) (macros : List waits.MacroDirective) (expansions : List waits.Expansion) (diagnostics : List DefDiagnostic) where
   -- the state that the code begins with
   abbrev begun : State
-  begun = record { session = before; map = m; content = content; targets = targets; local = local; outer = w.crate_local; is_proc_macro = procs; deps = deps; missing_crates = missing; directories = directories; imports = imports; skipped = skipped; active = active; macros = macros; expansions = expansions; diagnostics = diagnostics }
+  begun = record { session = before; map = m; content = content; targets = targets; local = local; outer = w.crate_local; is_proc_macro = procs; deps = deps; missing_crates = missing; directories = directories; imports = imports; skipped = skipped; active = active; deferred = deferred; macros = macros; expansions = expansions; diagnostics = diagnostics }
 
   pub begins : m ≡ w.seeded → content ≡ empty → targets ≡ (λ glob. None) → local ≡ empty_local → procs ≡ is_proc_macro_crate w.oracle w.seeded.id.krate → deps ≡ deps_by_name w.oracle w.seeded.id.krate
-      → missing ≡ (λ name. false) → directories ≡ (λ at. None) → imports ≡ [] → skipped ≡ (λ file id. None) → active ≡ (λ at. []) → macros ≡ [] → expansions ≡ [] → diagnostics ≡ [] → begun ≡ seeded_state w before
-  begins same bound none known marked by_name found bare unresolved none_skipped none_active none_waits none_expands said =
-      λ i. record { session = before; map = same i; content = bound i; targets = none i; local = known i; outer = w.crate_local; is_proc_macro = marked i; deps = by_name i; missing_crates = found i; directories = bare i; imports = unresolved i; skipped = none_skipped i; active = none_active i; macros = none_waits i; expansions = none_expands i; diagnostics = said i }
+      → missing ≡ (λ name. false) → directories ≡ (λ at. None) → imports ≡ [] → skipped ≡ (λ file id. None) → active ≡ (λ at. []) → deferred ≡ [] → macros ≡ [] → expansions ≡ [] → diagnostics ≡ [] → begun ≡ seeded_state w before
+  begins same bound none known marked by_name found bare unresolved none_skipped none_active none_deferred none_waits none_expands said =
+      λ i. record { session = before; map = same i; content = bound i; targets = none i; local = known i; outer = w.crate_local; is_proc_macro = marked i; deps = by_name i; missing_crates = found i; directories = bare i; imports = unresolved i; skipped = none_skipped i; active = none_active i; deferred = none_deferred i; macros = none_waits i; expansions = none_expands i; diagnostics = said i }
 
 module _ (w : Setting) (before : Session) (s : State) (same : s ≡ seeded_state w before) (given : Content Visibility) (fresh : IsFresh w.seeded given) where
   -- what a run begins with is sound

@@ -8,3 +8,4 @@ mod CallLemmas
 mod MacroPassLemmas
 mod TurnLemmas
 mod DeriveLemmas
+pub mod GivenLemmas

@@ -12,13 +12,13 @@ use Rattle.def_paths.specs.Sources.{World}
 use Rattle.def_rules.specs.Attributes.{AttrUse, attr_macro, attr_use, is_helper, item_site}
 use Rattle.def_rules.specs.Calls.{deepest}
 use Rattle.def_rules.specs.Derives.{derive_call, derive_macro, derived}
-use Rattle.def_rules.specs.Directives.{GivesCall, GivesDerive, Stays, Told, Turn, WalksItem, answer_in, attr_told, call_told, derive_told, expanding, given_told, given_turn, item_told, told, told_by, turn_effect, use_told, walked_state}
+use Rattle.def_rules.specs.Directives.{GivesCall, GivesDerive, Replaces, Stays, Told, Turn, WalksItem, answer_in, attr_told, call_told, derive_told, expanding, given_told, given_turn, item_told, told, told_by, turn_effect, use_told, walked_state}
 use Rattle.def_rules.specs.State.{State, Task, Visit, world}
 use Rattle.def_rules.specs.Waiting.{Attr, Derive, FnLike, MacroDirective, WrittenAttr, WrittenCall, WrittenDerive}
 use Rattle.def_laws.specs.Depths.{OnlyInvokes, waiting_work}
 use Rattle.def_laws.specs.Performs.{Tried}
 use Rattle.def_laws.specs.Runs.{Collects, Leads}
-use Rattle.def_laws.proofs.PassLaws.{collects_derived, collects_given, collects_stays, collects_walked, derived_lighter, given_lighter, invokes_refl, invokes_trans, only_invokes, walked_lighter, work_same}
+use Rattle.def_laws.proofs.PassLaws.{collects_derived, collects_given, collects_replaced, collects_stays, collects_walked, derived_lighter, given_lighter, replaced_lighter, invokes_refl, invokes_trans, only_invokes, walked_lighter, work_same}
 use Rattle.def_laws.proofs.StepsLaws.{collects_refl, collects_trans}
 
 -- Turns
@@ -54,6 +54,7 @@ pub stays_of : (turn : Turn) → leaves turn ≡ false → turn ≡ Stays
 stays_of Stays none = refl
 stays_of (GivesCall call) none = absurd (cc none)
 stays_of (GivesDerive call) none = absurd (cc none)
+stays_of (Replaces call) none = absurd (cc none)
 stays_of (WalksItem derives written) none = absurd (cc none)
 
 -- One that is asked
@@ -84,6 +85,14 @@ module _ (oracle : Oracle) (s s' t : State) (d : MacroDirective) (given : Told) 
   had_call call which = record {
     run = subst (λ u. Collects oracle [] s [] u) (sym (now (GivesCall call) which)) (collects_given oracle s turned.before d turned.behind stands call (was (GivesCall call) which));
     fewer = λ yes. subst (λ u. waiting_work u < waiting_work s) (sym (now (GivesCall call) which)) (given_lighter oracle s turned.before d turned.behind stands call);
+    still = λ yes. absurd (true≢false yes);
+  }
+
+  -- its attribute is given one
+  pub had_replaced : (call : MacroCallId) → given.turn ≡ Replaces call → HadTurns oracle s true t
+  had_replaced call which = record {
+    run = subst (λ u. Collects oracle [] s [] u) (sym (now (Replaces call) which)) (collects_replaced oracle s turned.before d turned.behind stands call (was (Replaces call) which));
+    fewer = λ yes. subst (λ u. waiting_work u < waiting_work s) (sym (now (Replaces call) which)) (replaced_lighter oracle s turned.before d turned.behind stands call);
     still = λ yes. absurd (true≢false yes);
   }
 

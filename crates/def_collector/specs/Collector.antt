@@ -4,7 +4,7 @@ use Rattle.def_interner.specs.declared.interner.Interner.{Interner}
 use Rattle.def_ids.specs.Equality.{glob_eq}
 use Rattle.def_interner.specs.Session.{session_of}
 use Rattle.def_calls.specs.ItemAttrs.{active_of, skipped_of}
-use Rattle.def_calls.specs.Shown.{expansion_shown, macros_in}
+use Rattle.def_calls.specs.Shown.{deferrals_of, expansion_shown, macros_in}
 use Rattle.def_crates.specs.Missing.{missing_in}
 use Rattle.def_items.specs.Parts.{directories_of}
 use Rattle.def_modules.specs.Locals.{local_view}
@@ -32,6 +32,7 @@ state_of c session =
       imports = directives_in c.unresolved_imports.items ++ directives_in c.indeterminate_imports.items;
       skipped = skipped_of c.item_attrs;
       active = active_of c.item_attrs;
+      deferred = deferrals_of c.deferred_builtin_derives;
       macros = macros_in c.unresolved_macros.items;
       expansions = map expansion_shown c.expansions.items;
       diagnostics = c.diagnostics.items;

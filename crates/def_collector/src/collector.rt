@@ -10,7 +10,7 @@ mod visibility;
 
 pub use crates::WrittenCrate;
 pub use declarations::WrittenStruct;
-use def_calls::{Expansion, ItemAttrs, MacroDirective};
+use def_calls::{DeferredDerives, Expansion, ItemAttrs, MacroDirective};
 use def_crates::MissingCrates;
 use def_ids::{Def, GlobId};
 use def_items::ModDirs;
@@ -47,6 +47,8 @@ pub struct DefCollector<'a> {
     /// came here. One that left leaves `None`.
     pub indeterminate_imports: Vec<Option<ImportDirective<'a>>>,
     pub item_attrs: ItemAttrs,
+    /// Builtin derives that are not expanded, until their items are handled or replaced.
+    pub deferred_builtin_derives: DeferredDerives,
     /// What waits for its macro. What left leaves `None`.
     pub unresolved_macros: Vec<Option<MacroDirective<'a>>>,
     /// The expansions of what was given a call, until they are walked.
@@ -70,6 +72,7 @@ impl Drop for DefCollector<'_> {
             unresolved_imports: _,
             indeterminate_imports: _,
             item_attrs: _,
+            deferred_builtin_derives: _,
             unresolved_macros: _,
             expansions: _,
             diagnostics: _,

@@ -5,22 +5,54 @@ ghost use Rattle.def_interner.specs.Session.{AddsLocations, session_of};
 ghost use Rattle.def_items.specs.Parts.{site_of};
 ghost use Rattle.def_collector.specs.Collector.{state_of};
 ghost use Rattle.def_collector.specs.Walk.{AreKnown, inner_of, is_known, opens_list};
-ghost use Rattle.def_laws.specs.Performs.{Handled};
+ghost use Rattle.def_laws.specs.Performs.{GaveImpls, Handled};
 
 use crate::calls::collect_macro_call;
 use crate::collector::{DefCollector, WrittenCrate, WrittenStruct};
 use crate::macros::{WrittenMacro, collect_macro, collect_macro_rules};
 use crate::modules::{ModuleItem, collect_module};
-use def_calls::WrittenCall;
+use def_calls::{DerivedItem, WrittenCall, give_impls};
 use def_ids::ItemContainerId;
 use def_interner::{Interner, Location};
-use def_items::{ItemList, Site, define_impl};
+use def_items::{ItemList, Site, define_impl, number_adt};
 use def_locs::ExternBlockLoc;
 use def_map::SourceDatabase;
 use item_tree::{ItemNode, ModItemId, ModItemKind, Seq};
 use std::alloc::AllocError;
 
-/// Handles an item. Answers the list of items that are to be walked next, if it opens one. On
+/// Lets the derives that are deferred for an item give their impls, where it is a struct, a union or an
+/// enum. On `Err` nothing but safety is promised.
+pub(crate) fn give_deferred<'a, D: SourceDatabase>(
+    collector: &mut DefCollector<'a>,
+    db: &D,
+    session: &mut Interner,
+    site: Site<'_>,
+    node: &ItemNode,
+) -> Result<(), AllocError>
+    ensures gave { OnOk result (
+        GaveImpls (D.oracle db.now) (state_of collector.old session.old) (site_of site.entry) node.now (state_of collector.new session.new)) }
+    ensures session { AddsLocations (session_of session.old) (session_of session.new) }
+{
+    if collector.deferred_builtin_derives.is_empty() {
+        return Ok(());
+    }
+    let Some(adt) = number_adt(session, site, node)? else {
+        return Ok(());
+    };
+    let position = site.position(node);
+    let Some(derives) = collector.deferred_builtin_derives.take(position) else {
+        return Ok(());
+    };
+    let item = DerivedItem {
+        adt,
+        module_id: site.module_id,
+        position,
+    };
+    let def_map = &mut collector.def_map;
+    give_impls(def_map, db, session, item, derives.as_slice())
+}
+
+/// Handles an item by its kind. Answers the list of items that are to be walked next, if it opens one. On
 /// `Err` nothing but safety is promised.
 pub(crate) fn collect_item<'a, D: SourceDatabase>(
     collector: &mut DefCollector<'a>,

@@ -21,8 +21,9 @@ use crate::collector::DefCollector;
 use crate::stack::{item_in, walk, walk_item};
 use def_calls::{
     AttrUse, DeriveList, Expansion, MacroDirective, MacroDirectiveKind, WrittenAttr, WrittenCall,
-    WrittenDerive, attr_call, attr_macro, attr_use, call_answer, derive_macro, derive_paths,
-    give_call, give_derive, is_helper, leave, record_list, settle_call, stored_dir,
+    WrittenDerive, attr_call, attr_macro, attr_use, call_answer, call_derive, deferred_derive,
+    derive_macro, derive_paths, expand_deferred, give_call, give_derive, is_helper, leave,
+    record_list, settle_call, stored_dir,
 };
 use def_interner::{Interner, MacroDefId};
 use def_items::ItemList;
@@ -280,7 +281,8 @@ fn read_derives<'a, D: SourceDatabase>(
 }
 
 /// Calls the macro of an attribute: the item leaves, and the macro's expansion is to stand in its
-/// place. On `Err` nothing but safety is promised.
+/// place, behind those of the derives that were deferred for it. On `Err` nothing but safety is
+/// promised.
 fn replace_item<'a, D: SourceDatabase>(
     collector: &mut DefCollector<'a>,
     db: &D,
@@ -294,7 +296,10 @@ fn replace_item<'a, D: SourceDatabase>(
         IsTurned (activated s d.position written.entry.attr_id) d (use_told (D.oracle db.now) s d (written_attr_of written.entry) found ReplacesItem) (state_of collector.new session)) }
 {
     let id = written.attr_id;
-    collector.item_attrs.activate(directive.position, id)?;
+    let position = directive.position;
+    let deferred = &mut collector.deferred_builtin_derives;
+    expand_deferred(deferred, &mut collector.expansions, position)?;
+    collector.item_attrs.activate(position, id)?;
     let krate = collector.def_map.tree.map.krate;
     let item_attrs = &collector.item_attrs;
     let call = attr_call(db, krate, item_attrs, &directive, written, found);
@@ -372,8 +377,8 @@ fn try_derives<'a, D: SourceDatabase>(
     Ok(())
 }
 
-/// Tries a derive of an attribute: with a call its expansion is to be walked, else it waits. On `Err`
-/// nothing but safety is promised.
+/// Tries a derive of an attribute: where its macro is found it is called, and deferred or its expansion
+/// is to be walked, else it waits. On `Err` nothing but safety is promised.
 fn try_derive<'a, D: SourceDatabase>(
     collector: &mut DefCollector<'a>,
     db: &D,
@@ -394,9 +399,19 @@ fn try_derive<'a, D: SourceDatabase>(
         return Ok(());
     };
     let def_map = &mut collector.def_map;
-    let call = give_derive(def_map, db, &directive, written, found)?;
-    collector.expansions.push_back(waiting.expansion(call))?;
-    Ok(())
+    match deferred_derive(db, found) {
+        Some(derive) => {
+            let call = call_derive(def_map, db, &directive, written, found)?;
+            let deferral = directive.deferral(written, call, derive);
+            let deferred = &mut collector.deferred_builtin_derives;
+            deferred.defer(directive.position, deferral)
+        }
+        None => {
+            let call = give_derive(def_map, db, &directive, written, found)?;
+            collector.expansions.push_back(waiting.expansion(call))?;
+            Ok(())
+        }
+    }
 }
 
 /// Walks the expansions of what was given a call, in order. On `Err` nothing but safety is promised.

@@ -28,7 +28,10 @@ use crate::imports::resolve_imports;
 use crate::macro_pass::resolve_macros;
 use crate::seeding::seed;
 use crate::stack::walk;
-use def_calls::{ItemAttrs, MacroDirectiveKind, call_answer, report_left_call, report_left_derive};
+use def_calls::{
+    DeferredDerives, ItemAttrs, MacroDirectiveKind, call_answer, report_left_call,
+    report_left_derive,
+};
 use def_crates::{MissingCrates, deps_by_name, is_proc_macro_crate, top_attrs};
 use def_ids::{ItemContainerId, MapId, ModuleId};
 use def_interner::Interner;
@@ -104,6 +107,7 @@ fn begin<'a, D: SourceDatabase>(
         unresolved_imports: Vec::new(alloc),
         indeterminate_imports: Vec::new(alloc),
         item_attrs: ItemAttrs::new(alloc),
+        deferred_builtin_derives: DeferredDerives::new(alloc),
         unresolved_macros: Vec::new(alloc),
         expansions: VecDeque::new(alloc),
         diagnostics: Vec::new(alloc),

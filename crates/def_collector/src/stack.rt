@@ -15,7 +15,7 @@ ghost use Rattle.def_rules.specs.State.{Task, Visit};
 ghost use Rattle.def_laws.specs.Runs.{Leads};
 
 use crate::collector::DefCollector;
-use crate::items::collect_item;
+use crate::items::{collect_item, give_deferred};
 use def_calls::{MacroDirectiveKind, WrittenAttr, awaited_attr, queue_macro};
 use def_interner::Interner;
 use def_items::{
@@ -141,6 +141,7 @@ fn visit<'a, D: SourceDatabase>(
     if queue_awaited(collector, db, site, id, node)? {
         return Ok(None);
     }
+    give_deferred(collector, db, session, site, node)?;
     collect_item(collector, db, session, site, node)
 }
 

@@ -1,14 +1,19 @@
 //! Items that declare one name: each gets its number, and with it a definition.
-ghost use Rattle.std.specs.Prelude.{◌≡◌, false, IfOk, OnOk};
+ghost use Rattle.std.specs.Prelude.{◌≡◌, false, IfNone, IfOk, IfSome, OnOk};
 ghost use Rattle.def_interner.specs.Session.{AddsLocations, session_of};
 ghost use Rattle.def_items.specs.Numbered.{IsDeclared, is_declaring, is_type};
 ghost use Rattle.def_items.specs.Parts.{site_of};
+ghost use Rattle.def_rules.specs.Deferred.{IsAdt};
+ghost use Rattle.def_rules.specs.Derives.{derives_kind};
+ghost use Rattle.def_rules.specs.State.{State};
 
 use crate::lists::Site;
 use def_bindings::Namespace;
-use def_ids::{ConstId, Def};
+use def_ids::{Adt, ConstId, Def};
 use def_interner::{Interner, Location};
-use def_locs::{ConstLoc, EnumLoc, FunctionLoc, StaticLoc, TraitLoc, TypeAliasLoc, UnionLoc};
+use def_locs::{
+    ConstLoc, EnumLoc, FunctionLoc, StaticLoc, StructLoc, TraitLoc, TypeAliasLoc, UnionLoc,
+};
 use item_tree::{ItemNode, ModItemKind, Name, RawVisibility};
 use std::alloc::AllocError;
 
@@ -101,6 +106,48 @@ pub fn number_item<'a>(
             Ok(Declared::Name(declaration))
         }
         _ => number_value(session, site, node),
+    }
+}
+
+/// Numbers a struct, a union or an enum, as what gives the impls of its derives.
+pub fn number_adt(
+    session: &mut Interner,
+    site: Site<'_>,
+    node: &ItemNode,
+) -> Result<Option<Adt>, AllocError>
+    ensures numbered { IfOk result (λ found. IfSome found (λ adt. (s : State) →
+        IsAdt (record s { session = session_of session.new }) (site_of site.entry) node.now node.now.kind adt)) }
+    ensures other { IfOk result (λ found. IfNone found (derives_kind node.now.kind ≡ false)) }
+    ensures session { AddsLocations (session_of session.old) (session_of session.new) }
+{
+    let container = site.module_id;
+    let position = site.position(node);
+    match &node.kind {
+        ModItemKind::Struct { .. } => {
+            let id = StructLoc {
+                container,
+                position,
+            }
+            .intern(session)?;
+            Ok(Some(Adt::Struct(id)))
+        }
+        ModItemKind::Union { .. } => {
+            let id = UnionLoc {
+                container,
+                position,
+            }
+            .intern(session)?;
+            Ok(Some(Adt::Union(id)))
+        }
+        ModItemKind::Enum { .. } => {
+            let id = EnumLoc {
+                container,
+                position,
+            }
+            .intern(session)?;
+            Ok(Some(Adt::Enum(id)))
+        }
+        _ => Ok(None),
     }
 }
 

@@ -81,7 +81,7 @@ begins_sound w before content fresh =
       stands = record {
         state = own_empty m (λ glob. None) (record { one = one; even = root.even; lower = root.lower });
         tasks = walk_own w.oracle m (λ glob. None) (first_site w.oracle w.seeded w.tree) (top_items w.oracle (first_tree w.oracle w.seeded.id w.tree)) (tree_cfg w.oracle (first_tree w.oracle w.seeded.id w.tree)) (refl, omega arith);
-        waiting = λ at waits. elim waits [ inl macro ↦ absurd (none_in macro.0 macro.1) | inr expansion ↦ absurd (none_in expansion.0 expansion.1) ];
+        waiting = λ at waits. elim waits [ inl macro ↦ absurd (none_in macro.0 macro.1) | inr later ↦ elim later [ inl expansion ↦ absurd (none_in expansion.0 expansion.1) | inr deferred ↦ absurd (none_in deferred.0 deferred.2) ] ];
       };
       sound = sound_empty _ m (λ glob. None);
     }

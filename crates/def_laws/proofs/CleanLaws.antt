@@ -1,6 +1,7 @@
 -- No name fails where a module is added or changed.
-use Rattle.std.proofs.Common.{◌≡◌, ℕ, zero, suc, Bool, true, false, List, [], ◌∷◌, map, length, All, Option, Some, None, refl}
+use Rattle.std.proofs.Common.{◌≡◌, ℕ, zero, suc, Bool, true, false, List, [], ◌∷◌, map, length, All, Option, Some, None, refl, sym, subst}
 use Rattle.std.proofs.lemmas.List.Elements.{All-cons, All-head, All-tail, All-push}
+use Rattle.either.specs.declared.Either.TheVariants.{Right}
 use Rattle.item_tree.specs.declared.ids.FileAstId.{FileAstId}
 use Rattle.item_tree.specs.declared.ids.InFile.{InFile}
 use Rattle.item_tree.specs.declared.ids.MacroCallId.{MacroCallId}
@@ -8,23 +9,28 @@ use Rattle.item_tree.specs.declared.ids.ModItemId.{ModItemId}
 use Rattle.item_tree.specs.declared.ids.TreeId.{TreeId}
 use Rattle.item_tree.specs.declared.items.ItemNode.{ItemNode}
 use Rattle.item_tree.specs.declared.name.Name.{Name}
+use Rattle.def_ids.specs.declared.ids.Adt.{Adt}
+use Rattle.def_ids.specs.declared.ids.BuiltinDeriveImplId.{BuiltinDeriveImplId}
 use Rattle.def_ids.specs.declared.ids.MacroId.{MacroId}
 use Rattle.def_ids.specs.declared.ids.ModuleId.{ModuleId}
 use Rattle.def_ids.specs.declared.ids.Def.{Def}
 use Rattle.def_bindings.specs.declared.visibility.Visibility.{Visibility}
 use Rattle.def_interner.specs.declared.macro_def.MacroDefId.{MacroDefId}
+use Rattle.def_interner.specs.Session.{Session}
 use Rattle.def_oracle.specs.Oracle.{Oracle}
 use Rattle.def_modules.specs.declared.module_data.ModuleOrigin.{ModuleOrigin}
 use Rattle.def_modules.specs.Maps.{pushed, with_helper, with_macro_use, with_module}
 use Rattle.def_modules.specs.MapState.{MapState, ModuleState, ShownHelper}
-use Rattle.def_modules.specs.Scopes.{declared_in, with_child, with_invocation}
+use Rattle.def_modules.specs.Scopes.{called_at, with_derive_impl, declared_in, with_child, with_invocation}
 use Rattle.def_modules.specs.Updates.{update_at}
 use Rattle.def_rules.specs.Calls.{each_helped, expansion_tree, helped, invoking, replaced_by, with_helpers}
-use Rattle.def_rules.specs.Derives.{derived_map, helper_names, helper_of, with_derive_call}
+use Rattle.def_rules.specs.Derives.{derived_map, helper_names, helper_of, with_derive_call, with_shown_helpers}
 use Rattle.def_rules.specs.Items.{node_at, top_items}
 use Rattle.def_rules.specs.Macros.{showing_helpers, taking}
 use Rattle.def_rules.specs.Modules.{add_module, fresh_module}
 use Rattle.def_parts.specs.ProcMacros.{NameAndHelpers}
+use Rattle.def_rules.specs.declared.deferred.DeferredDerive.{DeferredDerive}
+use Rattle.def_rules.specs.Deferred.{AreGiven, giving_impls, last_of, naming_impl, with_impls}
 use Rattle.def_rules.specs.State.{State}
 use Rattle.def_rules.specs.Waiting.{MacroDirective, WrittenDerive}
 use Rattle.def_laws.specs.Finished.{NoneFailed}
@@ -80,10 +86,26 @@ pub none_failed-replaced : (oracle : Oracle) (call : MacroCallId) (replaces : Op
 none_failed-replaced oracle call None m none = none
 none_failed-replaced oracle call (Some position) m none = none_failed-each oracle (expansion_tree call) (m.helpers position) (top_items oracle (expansion_tree call)) m none
 
+pub none_failed-shown : (oracle : Oracle) (m : MapState) (d : MacroDirective) (found : MacroDefId) (call : MacroCallId) → NoneFailed m → NoneFailed (with_shown_helpers oracle m d found call)
+none_failed-shown oracle m d found call none = none_failed-helpers d.position (map (helper_of found call) (helper_names oracle m.id.krate found)) m none
+
 pub none_failed-derived : (oracle : Oracle) (m : MapState) (d : MacroDirective) (written : WrittenDerive) (found : MacroDefId) (call : MacroCallId) → NoneFailed m → NoneFailed (derived_map oracle m d written found call)
 none_failed-derived oracle m d written found call none =
-    let placed : ModuleState → ModuleState = with_derive_call d written call in
-    none_failed-helpers d.position (map (helper_of found call) (helper_names oracle m.id.krate found)) (with_module m d.scope.index placed) (none_failed-with_module m d.scope.index placed (λ e h. h) none)
+    none_failed-with_module (with_shown_helpers oracle m d found call) d.scope.index (with_derive_call d written call) (λ e h. h) (none_failed-shown oracle m d found call none)
+
+none_failed-impls : (at : ModuleId) (ids : List BuiltinDeriveImplId) (m : MapState) → NoneFailed m → NoneFailed (with_impls m at ids)
+none_failed-impls at [] m none = none
+none_failed-impls at (id ∷ ids) m none = none_failed-impls at ids (with_module m at.index (with_derive_impl id)) (none_failed-with_module m at.index (with_derive_impl id) (λ e h. h) none)
+
+none_failed-naming : (at : ModuleId) (position : InFile FileAstId) (derive : DeferredDerive) (last : Option BuiltinDeriveImplId) (m : MapState) → NoneFailed m → NoneFailed (naming_impl m at position derive last)
+none_failed-naming at position derive None m none = none
+none_failed-naming at position derive (Some id) m none = none_failed-with_module m at.index (called_at position derive.attr_id derive.pos (Right id)) (λ e h. h) none
+
+pub none_failed-given : (oracle : Oracle) (session : Session) (at : ModuleId) (position : InFile FileAstId) (adt : Adt) (derives : List DeferredDerive) (m new : MapState) → AreGiven oracle session at position adt derives m new → NoneFailed m → NoneFailed new
+none_failed-given oracle session at position adt [] m new same none = subst NoneFailed (sym same) none
+none_failed-given oracle session at position adt (derive ∷ derives) m new (ids, are, rest) none =
+    none_failed-given oracle session at position adt derives (giving_impls m at position derive ids) new rest
+    (none_failed-naming at position derive (last_of None ids) (with_impls m at ids) (none_failed-impls at ids m none))
 
 pub none_failed-add_module : (s : State) (at : ModuleId) (name : Name) (vis : Visibility) (o : ModuleOrigin) → NoneFailed s.map → NoneFailed (add_module s at name vis o).map
 none_failed-add_module s at name vis o none =

@@ -177,7 +177,7 @@ DeclaresAt m = Declares m.events m.state.content
 declares-move : {oracle : Oracle} (a b : Moment) → Move oracle a b → DeclaresAt a → DeclaresAt b
 declares-move a b (putting place entry rest first is) all = subst DeclaresAt (sym is) (declares-put (order a.state) place entry a.events a.state.content all)
 declares-move a b (linking source edge rest first is) all = subst DeclaresAt (sym is) (declares-edge a.events (order a.state) source edge a.state.content all)
-declares-move a b (doing gone rest scope depth macros expansions effect first still own fewer foot is) all = subst DeclaresAt (sym is) (declares-same a.events effect.events a.state.content effect.state.content foot.events foot.content all)
+declares-move a b (doing gone rest scope depth macros expansions deferred effect first still own fewer foot is) all = subst DeclaresAt (sym is) (declares-same a.events effect.events a.state.content effect.state.content foot.events foot.content all)
 declares-move a b (copying content copy is) all = subst DeclaresAt (sym is) (declares-copied a.state a.events content copy all)
 declares-move a b (sorting state same is) all = subst DeclaresAt (sym is) (subst (λ (s : State). Declares a.events s.content) (sym same.rest) all)
 declares-move {oracle} a b (recording effect idle step is) all = subst DeclaresAt (sym is) (declares-import oracle a.events a.state effect step all)

@@ -102,7 +102,7 @@ covers-import oracle s effect events step all =
 covers-move : {oracle : Oracle} (a b : Moment) → Move oracle a b → CoversAt a → CoversAt b
 covers-move a b (putting place entry rest first is) all = subst CoversAt (sym is) (covers-put a.state place entry rest a.events (covers-tasks a _ first all))
 covers-move a b (linking source edge rest first is) all = subst CoversAt (sym is) (covers-edge a.state source edge rest a.events (covers-tasks a _ first all))
-covers-move a b (doing gone rest scope depth macros expansions effect first still own fewer foot is) all = subst CoversAt (sym is) (covers-footprint (waiting_with a.state macros expansions) gone rest scope depth effect a.events still foot (covers-tasks a _ first all))
+covers-move a b (doing gone rest scope depth macros expansions deferred effect first still own fewer foot is) all = subst CoversAt (sym is) (covers-footprint (waiting_with a.state macros expansions deferred) gone rest scope depth effect a.events still foot (covers-tasks a _ first all))
 covers-move a b (copying content copy is) all = subst CoversAt (sym is) (covers-copied a.state content a.tasks a.events copy all)
 covers-move a b (sorting state same is) all = subst CoversAt (sym is) (covers-rearranged a.state state a.tasks a.events same all)
 covers-move {oracle} a b (recording effect idle step is) all = subst CoversAt (sym is) (covers-import oracle a.state effect a.events step (covers-tasks a [] idle all))

@@ -14,7 +14,7 @@ IsUnmarked m = NoneFailed m.state.map
 move_unmarked : {oracle : Oracle} (a b : Moment) → Move oracle a b → IsUnmarked a → IsUnmarked b
 move_unmarked a b (putting at entry rest first is) none = subst IsUnmarked (sym is) none
 move_unmarked a b (linking source edge rest first is) none = subst IsUnmarked (sym is) none
-move_unmarked a b (doing gone rest scope depth macros expansions effect first still own fewer foot is) none = subst IsUnmarked (sym is) (foot.none_failed none)
+move_unmarked a b (doing gone rest scope depth macros expansions deferred effect first still own fewer foot is) none = subst IsUnmarked (sym is) (foot.none_failed none)
 move_unmarked a b (copying content copy is) none = subst IsUnmarked (sym is) none
 move_unmarked a b (sorting state same is) none = subst IsUnmarked (sym is) (subst (λ (s : State). NoneFailed s.map) (sym same.rest) none)
 move_unmarked a b (recording effect idle step is) none = subst IsUnmarked (sym is) (subst (λ (e : Effect). NoneFailed e.state.map) (sym step.is) none)

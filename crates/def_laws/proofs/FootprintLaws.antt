@@ -46,7 +46,7 @@ use Rattle.def_parts.specs.ProcMacros.{NameAndHelpers}
 use Rattle.def_globs.proofs.ListLaws.{none_in, in_cases, only_in}
 use Rattle.def_rules.specs.declared.diagnostics.DefDiagnostic.{DefDiagnostic}
 use Rattle.def_rules.specs.declared.diagnostics.DefDiagnosticKind.TheVariants.{UnconfiguredCode, UnimplementedBuiltinMacro, UnresolvedExternCrate, UnresolvedModule}
-use Rattle.def_laws.specs.Depths.{AreVisitsBelow, depth_rank, kind_rank, macro_rank, visit_rank}
+use Rattle.def_laws.specs.Depths.{AreVisitsBelow, DefersIn, WaitsAlike, deferred_work, depth_rank, kind_rank, macro_rank, visit_rank}
 use Rattle.def_laws.specs.Finished.{NoneFailed}
 use Rattle.def_laws.specs.Own.{AreOwnTasks, IsOwn, IsRecorded}
 use Rattle.def_rules.specs.Attributes.{awaited_attr, awaiting, first_unknown}
@@ -57,26 +57,31 @@ use Rattle.def_rules.specs.Items.{ctor_task, declare, declared_effect, diagnosti
 use Rattle.def_rules.specs.Macros.{export_effect, showing_helpers, item_expander, item_state, listed_helpers, macros_brought, rules_expander, taking_macros, textual_state, unimplemented_reported}
 use Rattle.def_rules.specs.Modules.{add_module, bring_if, file_tree, inline_contents, inner_site, is_macro_use, module_item, name_text, next_module, outline_found, outline_item}
 use Rattle.def_rules.specs.ExternCrates.{crate_effect, crate_entry, crate_name, named_crate, naming_crate}
-use Rattle.def_rules.specs.Rules.{HandlesInSession, Visits, VisitsAt, VisitsEnabled, VisitsNode, Rule, Follows, rule_of, declares, declares_struct, opens_module, opens_block, queues, binds_crate, notes_impl, notes_const, defines_rules, defines_macro, calls_macro}
+use Rattle.def_rules.specs.Rules.{HandlesByKind, HandlesInSession, Visits, VisitsAt, VisitsEnabled, VisitsNode, Rule, Follows, rule_of, declares, declares_struct, opens_module, opens_block, queues, binds_crate, notes_impl, notes_const, defines_rules, defines_macro, calls_macro}
 use Rattle.def_rules.specs.Imports.{no_namespaces}
 use Rattle.def_rules.specs.State.{State, Effect, entered, followed_by, only, ImportDirective, Site, Task, Put, reported, root, with_map, with_missing}
-use Rattle.def_rules.specs.Waiting.{Expansion, FnLike, MacroDirective, MacroDirectiveKind, WrittenCall}
+use Rattle.def_rules.specs.Deferred.{GiveImpls, deferred_at}
+use Rattle.def_rules.specs.Derives.{derives_kind}
+use Rattle.def_rules.specs.declared.deferred.DeferredDerive.{DeferredDerive}
+use Rattle.def_rules.specs.Waiting.{Deferrals, Expansion, FnLike, MacroDirective, MacroDirectiveKind, WrittenCall}
 use Rattle.def_laws.proofs.DepthsLaws.{attr_ranks, call_ranks, deeper_ranks, lie_both, walk_lies}
 use Rattle.def_laws.proofs.SoundLaws.{IsLarger}
 use Rattle.def_laws.proofs.AddedLaws.{AddsNew, added_new, none_added}
-use Rattle.def_laws.proofs.CleanLaws.{IsClean, none_failed-add_module, none_failed-invoking, none_failed-replaced, none_failed-showing_helpers, none_failed-taking, none_failed-with_module}
-use Rattle.def_laws.proofs.LargerLaws.{larger_add_module, larger_invoking, larger_replaced, larger_showing, larger_refl, larger_same, larger_taking, larger_trans, larger_with_module, own_next, own_root}
+use Rattle.def_laws.proofs.CleanLaws.{IsClean, none_failed-add_module, none_failed-given, none_failed-invoking, none_failed-replaced, none_failed-showing_helpers, none_failed-taking, none_failed-with_module}
+use Rattle.def_laws.proofs.DeferredLaws.{none_in_more, none_work}
+use Rattle.def_laws.proofs.LargerLaws.{larger_add_module, larger_given, larger_invoking, larger_replaced, larger_showing, larger_refl, larger_same, larger_taking, larger_trans, larger_with_module, own_next, own_root}
 use Rattle.def_laws.proofs.OwnLaws.{own_both}
 use Rattle.def_laws.proofs.PlainLaws.{ArePlain, own_walk, plain_both, plain_walk, explicit_by}
 
 -- Footprints
 
--- what is queued in a module, where something of this depth is done, is of that module and ranks lower; no expansion comes or goes
+-- what is queued in a module, where something of this depth is done, is of that module and ranks lower; no expansion comes or goes, and nothing that is deferred
 pub record QueuesAt (scope : ModuleId) (depth : ℕ) (s t : State) : Type 0 where
   pub more : List MacroDirective
   pub macros : t.macros ≡ s.macros ++ more
   pub at : (d : MacroDirective) → Contains more d → (d.scope ≡ scope) × (macro_rank d < visit_rank depth)
   pub expansions : t.expansions ≡ s.expansions
+  pub deferred : t.deferred ≡ s.deferred
 
 -- what may be done in a module, by something of this depth, and leaves the table as it is: what globs were recorded with and what happened stay too, the map stays or grows,
 -- imports may join of which nothing is recorded, and calls that wait, and what is to be done next is of the map, for no glob, and not less deep
@@ -93,9 +98,14 @@ pub record Footprint (s : State) (scope : ModuleId) (depth : ℕ) (effect : Effe
   pub plain : ArePlain effect.tasks
   pub deep : (rank : ℕ) → visit_rank depth ≤ rank → AreVisitsBelow rank effect.tasks
 
+-- what waits is the same
+pub waits_alike : {s t : State} → t.macros ≡ s.macros → t.expansions ≡ s.expansions → t.deferred ≡ s.deferred → WaitsAlike s t
+waits_alike macros expansions deferred = record { macros = macros; expansions = expansions; deferred = deferred }
+
 -- nothing is queued
-none_queued : (scope : ModuleId) (depth : ℕ) (s t : State) → t.macros ≡ s.macros → t.expansions ≡ s.expansions → QueuesAt scope depth s t
-none_queued scope depth s t macros expansions = record { more = []; macros = macros ∙ sym (append-nil s.macros); at = λ d h. absurd (none_in d h); expansions = expansions }
+none_queued : (scope : ModuleId) (depth : ℕ) (s t : State) → WaitsAlike s t → QueuesAt scope depth s t
+none_queued scope depth s t alike =
+    record { more = []; macros = alike.macros ∙ sym (append-nil s.macros); at = λ d h. absurd (none_in d h); expansions = alike.expansions; deferred = alike.deferred }
 
 known_footprint : (s : State) (scope : ModuleId) (depth : ℕ) (effect known : Effect) → effect ≡ known → Footprint s scope depth known → Footprint s scope depth effect
 known_footprint s scope depth effect known same of_known = subst (λ x. Footprint s scope depth x) (sym same) of_known
@@ -111,15 +121,15 @@ still_footprint s scope depth =
       none_failed = λ none. none;
       imports = none_added s.imports;
       at = λ d h. inl h;
-      queued = none_queued scope depth s s refl refl;
+      queued = none_queued scope depth s s (waits_alike refl refl refl);
       tasks = λ targets even own. tt;
       plain = tt;
       deep = λ rank low. tt;
     }
 
 -- what changes nothing that a footprint speaks of
-noted_still : (s t : State) (scope : ModuleId) (depth : ℕ) → t.content ≡ s.content → t.targets ≡ s.targets → t.map ≡ s.map → t.imports ≡ s.imports → t.macros ≡ s.macros → t.expansions ≡ s.expansions → Footprint s scope depth (only t)
-noted_still s t scope depth content targets map imports macros expansions =
+noted_still : (s t : State) (scope : ModuleId) (depth : ℕ) → t.content ≡ s.content → t.targets ≡ s.targets → t.map ≡ s.map → t.imports ≡ s.imports → WaitsAlike s t → Footprint s scope depth (only t)
+noted_still s t scope depth content targets map imports alike =
     record {
       content = content;
       targets = targets;
@@ -128,7 +138,7 @@ noted_still s t scope depth content targets map imports macros expansions =
       none_failed = λ none. subst NoneFailed (sym map) none;
       imports = subst (λ q. AddsNew s.imports q) (sym imports) (none_added s.imports);
       at = λ d h. inl (subst (λ q. Contains q d) imports h);
-      queued = none_queued scope depth s t macros expansions;
+      queued = none_queued scope depth s t alike;
       tasks = λ targets even own. tt;
       plain = tt;
       deep = λ rank low. tt;
@@ -136,7 +146,7 @@ noted_still s t scope depth content targets map imports macros expansions =
 
 -- a directory is stored
 pub enter_footprint : (s : State) (at : ModuleId) (directory : Directory) → Footprint s at 0 (only (entered s at directory))
-enter_footprint s at directory = noted_still s (entered s at directory) at 0 refl refl refl refl refl refl
+enter_footprint s at directory = noted_still s (entered s at directory) at 0 refl refl refl refl (waits_alike refl refl refl)
 
 -- what an explicit entry is put with
 put_own : (m : MapState) (scope : ModuleId) (targets : Targets) (origin : Origin) → IsExplicit origin → IsOwn m scope → IsOwn m scope × ((g : GlobId) → origin ≡ Some (Glob g) → IsRecorded targets g)
@@ -166,23 +176,23 @@ module _ (s : State) (scope : ModuleId) (depth : ℕ) where
       }
 
   -- the same, where no call is queued
-  pub map_footprint : (t : State) (tasks : List Task) → t.content ≡ s.content → t.targets ≡ s.targets → t.imports ≡ s.imports → t.macros ≡ s.macros → t.expansions ≡ s.expansions → IsLarger s.map t.map → (NoneFailed s.map → NoneFailed t.map)
+  pub map_footprint : (t : State) (tasks : List Task) → t.content ≡ s.content → t.targets ≡ s.targets → t.imports ≡ s.imports → WaitsAlike s t → IsLarger s.map t.map → (NoneFailed s.map → NoneFailed t.map)
       → ((targets : Targets) → IsOwn t.map scope → AreOwnTasks t.map targets tasks) → ArePlain tasks → Lie tasks → Footprint s scope depth (followed_by t tasks)
-  map_footprint t tasks content targets imports macros expansions larger clean own plain deep =
-      queue_footprint t tasks content targets imports (none_queued scope depth s t macros expansions) larger clean own plain deep
+  map_footprint t tasks content targets imports alike larger clean own plain deep =
+      queue_footprint t tasks content targets imports (none_queued scope depth s t alike) larger clean own plain deep
 
   -- a module's data change, its failed names do not, and these tasks follow
   noted_footprint : (f : ModuleState → ModuleState) → ((d : ModuleState) → IsClean d → IsClean (f d)) → (tasks : List Task)
       → ((targets : Targets) → IsOwn (noted_in s scope f).map scope → AreOwnTasks (noted_in s scope f).map targets tasks) → ArePlain tasks → Lie tasks → Footprint s scope depth (followed_by (noted_in s scope f) tasks)
   noted_footprint f clean tasks own plain deep =
-      map_footprint (noted_in s scope f) tasks refl refl refl refl refl (larger_with_module s.map scope.index f) (λ none. none_failed-with_module s.map scope.index f clean none) own plain deep
+      map_footprint (noted_in s scope f) tasks refl refl refl (waits_alike refl refl refl) (larger_with_module s.map scope.index f) (λ none. none_failed-with_module s.map scope.index f clean none) own plain deep
 
   -- a module is added, in a state with the same map
-  added_footprint : (r : State) (name : Name) (vis : Visibility) (o : ModuleOrigin) (contents : List Task) → r.content ≡ s.content → r.targets ≡ s.targets → r.imports ≡ s.imports → r.macros ≡ s.macros → r.expansions ≡ s.expansions → r.map ≡ s.map
+  added_footprint : (r : State) (name : Name) (vis : Visibility) (o : ModuleOrigin) (contents : List Task) → r.content ≡ s.content → r.targets ≡ s.targets → r.imports ≡ s.imports → WaitsAlike s r → r.map ≡ s.map
       → ((targets : Targets) → IsOwn (add_module r scope name vis o).map scope → IsOwn (add_module r scope name vis o).map (next_module r) → AreOwnTasks (add_module r scope name vis o).map targets contents)
       → ArePlain contents → Lie contents
       → Footprint s scope depth (followed_by (add_module r scope name vis o) (put_declared scope name Types (def.Module (next_module r)) vis ∷ contents))
-  added_footprint r name vis o contents content targets imports macros expansions map own plain deep =
+  added_footprint r name vis o contents content targets imports alike map own plain deep =
       record {
         content = content;
         targets = targets;
@@ -191,7 +201,7 @@ module _ (s : State) (scope : ModuleId) (depth : ℕ) where
         none_failed = λ none. none_failed-add_module r scope name vis o (subst NoneFailed (sym map) none);
         imports = subst (λ q. AddsNew s.imports q) (sym imports) (none_added s.imports);
         at = λ d h. inl (subst (λ q. Contains q d) imports h);
-        queued = none_queued scope depth s (add_module r scope name vis o) macros expansions;
+        queued = none_queued scope depth s (add_module r scope name vis o) (waits_alike alike.macros alike.expansions alike.deferred);
         tasks = λ targets even at. (put_own (add_module r scope name vis o).map scope targets None refl at, own targets at (own_next r scope name vis o (subst (λ (m : MapState). length m.parents ≡ length m.modules) (sym map) even)));
         plain = (refl, plain);
         deep = λ rank low. (tt, deep rank low);
@@ -217,7 +227,7 @@ bring_lies rank false from into = tt
 -- Rules
 
 found_footprint : (oracle : Oracle) (s : State) (site : Site) (item : ItemNode) (name : Name) (vis : Visibility) (found : FoundFile) (cfg : Option CfgExpr) → Footprint s site.scope site.depth (outline_found oracle s site item name vis found cfg)
-found_footprint oracle s site item name vis found (Some cfg) = noted_still s (reported s (diagnostic site item (UnconfiguredCode cfg))) site.scope site.depth refl refl refl refl refl refl
+found_footprint oracle s site item name vis found (Some cfg) = noted_still s (reported s (diagnostic site item (UnconfiguredCode cfg))) site.scope site.depth refl refl refl refl (waits_alike refl refl refl)
 found_footprint oracle s site item name vis found None =
     let o : ModuleOrigin = origin.File item.ast_id site.tree found.0 found.1 in
     let inner : Site = inner_site s site (file_tree found) found.2 in
@@ -225,7 +235,7 @@ found_footprint oracle s site item name vis found None =
     let brings : Bool = is_macro_use (attrs_of item.attrs) || is_macro_use (tree_attrs oracle (file_tree found)) in
     let last : List Task = bring_if brings (next_module s) site.scope in
     let m : MapState = (add_module s site.scope name vis o).map in
-    added_footprint s site.scope site.depth s name vis o (first ++ last) refl refl refl refl refl refl
+    added_footprint s site.scope site.depth s name vis o (first ++ last) refl refl refl (waits_alike refl refl refl) refl
     (λ targets at own. own_both m targets first last (own_walk oracle m targets inner (top_items oracle (file_tree found)) own) (bring_own m targets brings (next_module s) site.scope at))
     (plain_both first last (plain_walk oracle inner (top_items oracle (file_tree found))) (bring_plain brings (next_module s) site.scope))
     (λ rank low. lie_both rank first last (walk_lies oracle rank inner (top_items oracle (file_tree found)) low) (bring_lies rank brings (next_module s) site.scope))
@@ -233,7 +243,7 @@ found_footprint oracle s site item name vis found None =
 outline_footprint : (oracle : Oracle) (s : State) (site : Site) (item : ItemNode) (name : Name) (vis : Visibility) (found : Result FoundFile (List (List ℕ))) → Footprint s site.scope site.depth (outline_item oracle s site item name vis found)
 outline_footprint oracle s site item name vis (Ok found) = found_footprint oracle s site item name vis found (tree_cfg oracle (file_tree found))
 outline_footprint oracle s site item name vis (Err files) =
-    added_footprint s site.scope site.depth (reported s (diagnostic site item (UnresolvedModule files))) name vis _ [] refl refl refl refl refl refl (λ targets at own. tt) tt (λ rank low. tt)
+    added_footprint s site.scope site.depth (reported s (diagnostic site item (UnresolvedModule files))) name vis _ [] refl refl refl (waits_alike refl refl refl) refl (λ targets at own. tt) tt (λ rank low. tt)
 
 -- what waits where it stands, also in a state with another map
 one_queued : (s : State) (site : Site) (item : ItemNode) (kind : MacroDirectiveKind) (m : MapState) → depth_rank (deeper site.depth) + kind_rank kind < visit_rank site.depth → QueuesAt site.scope site.depth s (queued (with_map s m) site item kind)
@@ -242,17 +252,18 @@ one_queued s site item kind m low = record {
   macros = refl;
   at = λ d h. let is = only_in (waiting site item kind) d h in (ap (λ (x : MacroDirective). x.scope) is, let ranks = ap macro_rank is in omega (arith, ranks, low));
   expansions = refl;
+  deferred = refl;
 }
 
 call_low : (site : Site) (written : WrittenCall) → depth_rank (deeper site.depth) + kind_rank (FnLike written) < visit_rank site.depth
 call_low site written = let low = call_ranks site.depth in omega (arith, low)
 
 -- an expansion is walked, or dropped
-pub expanded_footprint : (oracle : Oracle) (s : State) (scope : ModuleId) (depth : ℕ) (t : State) (e : Expansion) → e.scope ≡ scope → t.content ≡ s.content → t.targets ≡ s.targets → t.imports ≡ s.imports → t.macros ≡ s.macros → t.expansions ≡ s.expansions
+pub expanded_footprint : (oracle : Oracle) (s : State) (scope : ModuleId) (depth : ℕ) (t : State) (e : Expansion) → e.scope ≡ scope → t.content ≡ s.content → t.targets ≡ s.targets → t.imports ≡ s.imports → WaitsAlike s t
     → IsLarger s.map t.map → (NoneFailed s.map → NoneFailed t.map)
     → visit_rank e.depth ≤ visit_rank depth
     → Footprint s scope depth (expansion_effect oracle t e)
-expanded_footprint oracle s scope depth t e here content targets imports macros expansions larger clean lies = by (nat_lt (limit_of t.map.krate) e.depth) (nat_eq e.depth deepest) refl
+expanded_footprint oracle s scope depth t e here content targets imports alike larger clean lies = by (nat_lt (limit_of t.map.krate) e.depth) (nat_eq e.depth deepest) refl
   where
     inner : Site
     inner = expansion_site oracle t e
@@ -264,10 +275,10 @@ expanded_footprint oracle s scope depth t e here content targets imports macros 
     u = with_replaced oracle t e
 
     by : (over last : Bool) → nat_eq e.depth deepest ≡ last → Footprint s scope depth (cond (over || last) (only t) (followed_by u (walk oracle inner ids)))
-    by true last is = map_footprint s scope depth t [] content targets imports macros expansions larger clean (λ targets own. tt) tt (λ rank low. tt)
-    by false true is = map_footprint s scope depth t [] content targets imports macros expansions larger clean (λ targets own. tt) tt (λ rank low. tt)
+    by true last is = map_footprint s scope depth t [] content targets imports alike larger clean (λ targets own. tt) tt (λ rank low. tt)
+    by false true is = map_footprint s scope depth t [] content targets imports alike larger clean (λ targets own. tt) tt (λ rank low. tt)
     by false false is =
-        map_footprint s scope depth u (walk oracle inner ids) content targets imports macros expansions
+        map_footprint s scope depth u (walk oracle inner ids) content targets imports (waits_alike alike.macros alike.expansions alike.deferred)
         (larger_trans s.map t.map u.map larger (larger_replaced oracle e.call e.replaces t.map)) (λ none. none_failed-replaced oracle e.call e.replaces t.map (clean none))
         (λ targets own. own_walk oracle u.map targets inner ids (subst (λ at. IsOwn u.map at) (sym here) own)) (plain_walk oracle inner ids)
         (λ rank low. walk_lies oracle rank inner ids (omega (arith, low, lies)))
@@ -295,7 +306,7 @@ module _ (oracle : Oracle) (s : State) (site : Site) where
         let o : ModuleOrigin = origin.Inline item.ast_id site.tree in
         let below : Option Directory = descend site.directory (name_text s.session name) (path_attr item.attrs) in
         let brings : Bool = is_macro_use (attrs_of item.attrs) in
-        added_footprint s site.scope site.depth s name vis o (inline_contents oracle s site brings children below) refl refl refl refl refl refl
+        added_footprint s site.scope site.depth s name vis o (inline_contents oracle s site brings children below) refl refl refl (waits_alike refl refl refl) refl
         (λ targets at own. inline_own (add_module s site.scope name vis o).map brings children below targets at own) (inline_plain brings children below) (inline_lies brings children below)
     contents_footprint name vis Outline = outline_footprint oracle s site item name vis _
 
@@ -333,8 +344,8 @@ module _ (oracle : Oracle) (s : State) (site : Site) where
         clean none = none_failed-with_module s.map site.scope.index (with_extern_crate id) (λ d h. h) none
 
         unknown : (n : Option Name) → Footprint s site.scope site.depth (crate_effect t site item id n vis taken None)
-        unknown None = map_footprint s site.scope site.depth (reported (with_missing None t) (diagnostic site item UnresolvedExternCrate)) [] refl refl refl refl refl larger clean (λ targets own. tt) tt (λ rank low. tt)
-        unknown (Some n) = map_footprint s site.scope site.depth (reported (with_missing (Some n) t) (diagnostic site item UnresolvedExternCrate)) [] refl refl refl refl refl larger clean (λ targets own. tt) tt (λ rank low. tt)
+        unknown None = map_footprint s site.scope site.depth (reported (with_missing None t) (diagnostic site item UnresolvedExternCrate)) [] refl refl refl (waits_alike refl refl refl) larger clean (λ targets own. tt) tt (λ rank low. tt)
+        unknown (Some n) = map_footprint s site.scope site.depth (reported (with_missing (Some n) t) (diagnostic site item UnresolvedExternCrate)) [] refl refl refl (waits_alike refl refl refl) larger clean (λ targets own. tt) tt (λ rank low. tt)
     crate_footprint id name vis taken (Some root) = named (is_crate_root site.scope)
       where
         t : State
@@ -350,7 +361,7 @@ module _ (oracle : Oracle) (s : State) (site : Site) where
         named false = f
         named true =
             let u : State = taking_macros true taken (naming_crate true name (record { root = root; by = Some id }) t) in
-            map_footprint s site.scope site.depth u put refl refl refl refl refl (larger_trans s.map t.map u.map f.larger (larger_taking taken t.map)) (λ none. none_failed-taking taken t.map (f.none_failed none))
+            map_footprint s site.scope site.depth u put refl refl refl (waits_alike refl refl refl) (larger_trans s.map t.map u.map f.larger (larger_taking taken t.map)) (λ none. none_failed-taking taken t.map (f.none_failed none))
             (λ targets own. (put_own u.map site.scope targets (Some (ByCrate id)) refl own, tt)) (refl, tt) (λ rank low. (tt, tt))
 
     -- a macro that is no builtin after all is reported
@@ -380,10 +391,10 @@ module _ (oracle : Oracle) (s : State) (site : Site) where
           clean none = none_failed-with_module s.map site.scope.index (with_textual name id) (λ d h. h) none
 
           by : (is : Bool) → Footprint s site.scope site.depth (export_effect t is name id)
-          by false = map_footprint s site.scope site.depth t [] refl refl refl refl refl larger clean (λ targets own. tt) tt (λ rank low. tt)
+          by false = map_footprint s site.scope site.depth t [] refl refl refl (waits_alike refl refl refl) larger clean (λ targets own. tt) tt (λ rank low. tt)
           by true =
               let u : State = declare t (root t.map) (def.Macro id) in
-              map_footprint s site.scope site.depth u (put_declared (root t.map) name Macros (def.Macro id) Public ∷ []) refl refl refl refl refl
+              map_footprint s site.scope site.depth u (put_declared (root t.map) name Macros (def.Macro id) Public ∷ []) refl refl refl (waits_alike refl refl refl)
               (larger_trans s.map t.map u.map larger (larger_with_module t.map 0 (declared_in (def.Macro id)))) (λ none. none_failed-with_module t.map 0 (declared_in (def.Macro id)) (λ d h. h) (clean none))
               (λ targets own. (put_own u.map (root t.map) targets None refl (own_root u.map site.scope own), tt)) (refl, tt) (λ rank low. (tt, tt))
 
@@ -396,7 +407,7 @@ module _ (oracle : Oracle) (s : State) (site : Site) where
           let shown : MapState = showing_helpers in_block id read s.map in
           let t : State = item_state (record s { diagnostics = told }) site item expander id in
           let u : State = declare t site.scope (def.Macro id) in
-          map_footprint s site.scope site.depth u (put_declared site.scope name Macros (def.Macro id) vis ∷ []) refl refl refl refl refl
+          map_footprint s site.scope site.depth u (put_declared site.scope name Macros (def.Macro id) vis ∷ []) refl refl refl (waits_alike refl refl refl)
           (larger_trans s.map t.map u.map (larger_trans s.map shown t.map (larger_showing in_block id read s.map) (larger_same shown t.map refl refl refl refl)) (larger_with_module t.map site.scope.index (declared_in (def.Macro id))))
           (λ none. none_failed-with_module t.map site.scope.index (declared_in (def.Macro id)) (λ d h. h) (none_failed-showing_helpers in_block id read s.map none))
           (λ targets own. (put_own u.map site.scope targets None refl own, tt)) (refl, tt) (λ rank low. (tt, tt))
@@ -416,11 +427,11 @@ module _ (oracle : Oracle) (s : State) (site : Site) where
 
         by : (value : Option MacroCallId) (error : Option ℕ) → Footprint s site.scope site.depth (told_effect oracle t site item written value error)
         by value (Some error) = queue_footprint s site.scope site.depth (queued t site item (FnLike written)) [] refl refl refl (one_queued s site item (FnLike written) t.map (call_low site written)) larger clean (λ targets own. tt) tt (λ rank low. tt)
-        by None None = map_footprint s site.scope site.depth t [] refl refl refl refl refl larger clean (λ targets own. tt) tt (λ rank low. tt)
+        by None None = map_footprint s site.scope site.depth t [] refl refl refl (waits_alike refl refl refl) larger clean (λ targets own. tt) tt (λ rank low. tt)
         by (Some call) None =
             let made : List (InFile FileAstId × MacroCallId) = (position_of site item, call) ∷ [] in
             let u : State = with_invocations t site.scope made in
-            expanded_footprint oracle s site.scope site.depth u (expansion_at site call) refl refl refl refl refl refl
+            expanded_footprint oracle s site.scope site.depth u (expansion_at site call) refl refl refl refl (waits_alike refl refl refl)
             (larger_trans s.map t.map u.map larger (larger_invoking site.scope.index made t.map)) (λ none. none_failed-invoking site.scope.index made t.map (clean none))
             (deeper_ranks site.depth)
 
@@ -461,7 +472,7 @@ module _ (oracle : Oracle) (s : State) (site : Site) where
           none_failed = f.none_failed;
           imports = added_new s.imports site item id raw imports;
           at = λ p h. elim (Contains-append_cases s.imports (new_imports site item id raw imports) p h) [ inl old ↦ inl old | inr new ↦ inr (new_at id raw imports p new) ];
-          queued = none_queued site.scope site.depth s (record s { imports = s.imports ++ new_imports site item id raw imports }) refl refl;
+          queued = none_queued site.scope site.depth s (record s { imports = s.imports ++ new_imports site item id raw imports }) (waits_alike refl refl refl);
           tasks = f.tasks;
           plain = f.plain;
           deep = f.deep;
@@ -487,8 +498,8 @@ module _ (oracle : Oracle) (s : State) (site : Site) where
         (subst (λ t. Footprint s site.scope site.depth (declared_effect (item_state t site item expander defined) site.scope name Macros (def.Macro defined) vis)) (sym told.1) (item_footprint defined name vis expander told.0))
     follows_footprint (calls_macro written) effect does = known_footprint s site.scope site.depth effect _ does (answered_footprint written _)
 
-handled_footprint : (oracle : Oracle) (s : State) (site : Site) (item : ItemNode) (effect : Effect) → HandlesInSession oracle s site item effect → Footprint s site.scope site.depth effect
-handled_footprint oracle s site item effect does =
+kind_footprint : (oracle : Oracle) (s : State) (site : Site) (item : ItemNode) (effect : Effect) → HandlesByKind oracle s site item effect → Footprint s site.scope site.depth effect
+kind_footprint oracle s site item effect does =
     let f = follows_footprint oracle (record s { session = does.0 }) site item (rule_of item.kind) effect does.2 in
     record {
       content = f.content;
@@ -498,10 +509,85 @@ handled_footprint oracle s site item effect does =
       none_failed = f.none_failed;
       imports = f.imports;
       at = f.at;
-      queued = record { more = f.queued.more; macros = f.queued.macros; at = f.queued.at; expansions = f.queued.expansions };
+      queued = record { more = f.queued.more; macros = f.queued.macros; at = f.queued.at; expansions = f.queued.expansions; deferred = f.queued.deferred };
       tasks = f.tasks;
       plain = f.plain;
       deep = f.deep;
+    }
+
+-- Visits
+
+-- the state in which these are deferred
+abbrev pub deferred_with : State → Deferrals → State
+deferred_with s deferred = record s { deferred = deferred }
+
+-- what a visit does: of what is deferred some may go, and then something is done where the item stands
+pub record VisitFootprint (s : State) (site : Site) (effect : Effect) : Type 0 where
+  pub deferred : Deferrals
+  pub fewer : (at : ModuleId) → DefersIn deferred at → DefersIn s.deferred at
+  pub lighter : deferred_work deferred ≤ deferred_work s.deferred
+  pub foot : Footprint (deferred_with s deferred) site.scope site.depth effect
+
+-- none goes
+foot_visit : (s : State) (site : Site) (effect : Effect) → Footprint s site.scope site.depth effect → VisitFootprint s site effect
+foot_visit s site effect foot = record { deferred = s.deferred; fewer = λ at h. h; lighter = omega arith; foot = foot }
+
+-- the derives that are deferred for an item change the map, and go
+record GivenFootprint (s t : State) : Type 0 where
+  is : t ≡ with_map (deferred_with s t.deferred) t.map
+  fewer : (at : ModuleId) → DefersIn t.deferred at → DefersIn s.deferred at
+  lighter : deferred_work t.deferred ≤ deferred_work s.deferred
+  larger : IsLarger s.map t.map
+  clean : NoneFailed s.map → NoneFailed t.map
+
+given_none : (s t : State) → t ≡ s → GivenFootprint s t
+given_none s t is = subst (GivenFootprint s) (sym is) (record { is = refl; fewer = λ at h. h; lighter = omega arith; larger = larger_refl s.map; clean = λ none. none })
+
+given_footprint : (oracle : Oracle) (s : State) (site : Site) (item : ItemNode) (may : Bool) (derives : List DeferredDerive) → derives ≡ deferred_at s (position_of site item) → (t : State) → GiveImpls oracle s site item may derives t → GivenFootprint s t
+given_footprint oracle s site item false derives is t gives = given_none s t gives
+given_footprint oracle s site item true [] is t gives =
+    let work = none_work s (position_of site item) in
+    subst (GivenFootprint s) (sym gives) (record { is = refl; fewer = none_in_more s (position_of site item); lighter = omega (arith, work); larger = larger_refl s.map; clean = λ none. none })
+given_footprint oracle s site item true (derive ∷ derives) is t (adt, of_item, m, given, same) =
+    let position : InFile FileAstId = position_of site item in
+    let work = none_work s position in
+    subst (GivenFootprint s) (sym same) (record {
+      is = refl;
+      fewer = none_in_more s position;
+      lighter = omega (arith, work);
+      larger = larger_given oracle s.session site.scope position adt (derive ∷ derives) s.map m given;
+      clean = none_failed-given oracle s.session site.scope position adt (derive ∷ derives) s.map m given;
+    })
+
+handled_footprint : (oracle : Oracle) (s : State) (site : Site) (item : ItemNode) (effect : Effect) → HandlesInSession oracle s site item effect → VisitFootprint s site effect
+handled_footprint oracle s site item effect (session, adds, t, gives, handles) =
+    let in_session : State = record s { session = session } in
+    let given : GivenFootprint in_session t = given_footprint oracle in_session site item (derives_kind item.kind) (deferred_at in_session (position_of site item)) refl t gives in
+    let f : Footprint t site.scope site.depth effect = kind_footprint oracle t site item effect handles in
+    let back : t ≡ with_map (deferred_with in_session t.deferred) t.map = given.is in
+    record {
+      deferred = t.deferred;
+      fewer = given.fewer;
+      lighter = given.lighter;
+      foot = record {
+        content = f.content ∙ ap (λ (x : State). x.content) back;
+        targets = f.targets ∙ ap (λ (x : State). x.targets) back;
+        events = f.events;
+        larger = larger_trans s.map t.map effect.state.map given.larger f.larger;
+        none_failed = λ none. f.none_failed (given.clean none);
+        imports = subst (λ q. AddsNew q effect.state.imports) (ap (λ (x : State). x.imports) back) f.imports;
+        at = λ d h. elim (f.at d h) [ inl old ↦ inl (subst (λ q. Contains q d) (ap (λ (x : State). x.imports) back) old) | inr new ↦ inr new ];
+        queued = record {
+          more = f.queued.more;
+          macros = f.queued.macros ∙ ap (λ ds. ds ++ f.queued.more) (ap (λ (x : State). x.macros) back);
+          at = f.queued.at;
+          expansions = f.queued.expansions ∙ ap (λ (x : State). x.expansions) back;
+          deferred = f.queued.deferred;
+        };
+        tasks = λ targets even own. f.tasks targets (given.larger.even even) own;
+        plain = f.plain;
+        deep = f.deep;
+      };
     }
 
 -- an item waits for an attribute only above the greatest depth
@@ -518,19 +604,19 @@ waits_footprint s site id item attr high =
     queue_footprint s site.scope site.depth (queued s site item (awaiting site id attr)) [] refl refl refl (one_queued s site item (awaiting site id attr) s.map (attr_ranks site.depth high)) (larger_refl s.map) (λ none. none) (λ targets own. tt) tt (λ rank low. tt)
 
 enabled_footprint : (oracle : Oracle) (s : State) (site : Site) (id : ModItemId) (item : ItemNode) (awaited : Option (AttrId × Attr)) → awaited_attr oracle s site id item ≡ awaited → (effect : Effect) → VisitsEnabled oracle s site id item awaited effect
-    → Footprint s site.scope site.depth effect
-enabled_footprint oracle s site id item (Some attr) is effect does = known_footprint s site.scope site.depth effect _ does (waits_footprint s site id item attr (awaited_high oracle s site id item attr is))
+    → VisitFootprint s site effect
+enabled_footprint oracle s site id item (Some attr) is effect does = foot_visit s site effect (known_footprint s site.scope site.depth effect _ does (waits_footprint s site id item attr (awaited_high oracle s site id item attr is)))
 enabled_footprint oracle s site id item None is effect does = handled_footprint oracle s site item effect does
 
-node_footprint : (oracle : Oracle) (s : State) (site : Site) (id : ModItemId) (item : ItemNode) (cfg : Option CfgExpr) (effect : Effect) → VisitsNode oracle s site id item cfg effect → Footprint s site.scope site.depth effect
+node_footprint : (oracle : Oracle) (s : State) (site : Site) (id : ModItemId) (item : ItemNode) (cfg : Option CfgExpr) (effect : Effect) → VisitsNode oracle s site id item cfg effect → VisitFootprint s site effect
 node_footprint oracle s site id item (Some cfg) effect does =
-    known_footprint s site.scope site.depth effect _ does (noted_still s (reported s (diagnostic site item (UnconfiguredCode cfg))) site.scope site.depth refl refl refl refl refl refl)
+    foot_visit s site effect (known_footprint s site.scope site.depth effect _ does (noted_still s (reported s (diagnostic site item (UnconfiguredCode cfg))) site.scope site.depth refl refl refl refl (waits_alike refl refl refl)))
 node_footprint oracle s site id item None effect does = enabled_footprint oracle s site id item (awaited_attr oracle s site id item) refl effect does
 
-at_footprint : (oracle : Oracle) (s : State) (site : Site) (id : ModItemId) (item : Option ItemNode) (effect : Effect) → VisitsAt oracle s site id item effect → Footprint s site.scope site.depth effect
-at_footprint oracle s site id None effect does = known_footprint s site.scope site.depth effect _ does (still_footprint s site.scope site.depth)
+at_footprint : (oracle : Oracle) (s : State) (site : Site) (id : ModItemId) (item : Option ItemNode) (effect : Effect) → VisitsAt oracle s site id item effect → VisitFootprint s site effect
+at_footprint oracle s site id None effect does = foot_visit s site effect (known_footprint s site.scope site.depth effect _ does (still_footprint s site.scope site.depth))
 at_footprint oracle s site id (Some item) effect does = node_footprint oracle s site id item (disabled_by item.attrs) effect does
 
 -- what a visit does
-pub visits_footprint : (oracle : Oracle) (s : State) (site : Site) (id : ModItemId) (effect : Effect) → Visits oracle s site id effect → Footprint s site.scope site.depth effect
+pub visits_footprint : (oracle : Oracle) (s : State) (site : Site) (id : ModItemId) (effect : Effect) → Visits oracle s site id effect → VisitFootprint s site effect
 visits_footprint oracle s site id effect does = at_footprint oracle s site id (node_at oracle site.tree id) effect does

@@ -62,7 +62,7 @@ module _ (oracle : Oracle) (s t u : State) (glob : EdgeTo Visibility) (source : 
         runs = λ rest. runs_trans (runs_wave glob.importer Brought s t.content brought.travels (AddEdge source glob ∷ []) rest) (runs_task (AddEdge source glob) rest wave (only (with_content wave (with_recorded (order wave) wave.content source glob))) refl);
         keeps = λ followed stands sound. glob_sound oracle s wave glob source Brought now own refl stands sound followed;
         raised = λ rest stands sound before importer slot kept. glob_raised oracle s wave glob source Brought now own refl stands sound rest before importer slot kept.0;
-        waits = record { macros = refl; expansions = refl };
+        waits = record { macros = refl; expansions = refl; deferred = refl };
       }
 
 module _ (oracle : Oracle) (s t : State) (p : Import) (answer : ResolvePathResult) where

@@ -3,6 +3,7 @@ use Rattle.std.proofs.Common.{◌≡◌, ◌⊎◌, ◌<◌, ◌+◌, ℕ, zero,
 use Rattle.std.specs.Prelude.{nat_lt}
 use Rattle.std.specs.Option.{option_and_then}
 use Rattle.std.proofs.lemmas.Bool.{ltb-true}
+use Rattle.either.specs.declared.Either.TheVariants.{Right}
 use Rattle.item_tree.specs.declared.ids.FileAstId.{FileAstId}
 use Rattle.item_tree.specs.declared.ids.InFile.{InFile}
 use Rattle.item_tree.specs.declared.ids.MacroCallId.{MacroCallId}
@@ -10,25 +11,30 @@ use Rattle.item_tree.specs.declared.ids.ModItemId.{ModItemId}
 use Rattle.item_tree.specs.declared.ids.TreeId.{TreeId}
 use Rattle.item_tree.specs.declared.items.ItemNode.{ItemNode}
 use Rattle.item_tree.specs.declared.name.Name.{Name}
+use Rattle.def_ids.specs.declared.ids.Adt.{Adt}
+use Rattle.def_ids.specs.declared.ids.BuiltinDeriveImplId.{BuiltinDeriveImplId}
 use Rattle.def_ids.specs.declared.ids.MacroId.{MacroId}
 use Rattle.def_ids.specs.declared.ids.ModuleId.{ModuleId}
 use Rattle.def_interner.specs.declared.macro_def.MacroDefId.{MacroDefId}
+use Rattle.def_interner.specs.Session.{Session}
 use Rattle.def_bindings.specs.declared.visibility.Visibility.{Visibility}
 use Rattle.def_bindings.specs.Tree.{AreParentsLower}
 use Rattle.def_modules.specs.declared.module_data.ModuleOrigin.{ModuleOrigin}
 use Rattle.def_modules.specs.MapState.{MapState, ModuleState, ShownHelper}
-use Rattle.def_modules.specs.Maps.{known_parent, pushed, with_helper, with_macro_use, with_module}
-use Rattle.def_modules.specs.Scopes.{with_invocation}
+use Rattle.def_modules.specs.Maps.{known_parent, pushed, with_helper, with_macro_use, with_module, with_renamed_helpers}
+use Rattle.def_modules.specs.Scopes.{called_at, with_derive_impl, with_invocation}
 use Rattle.def_modules.specs.Updates.{update_at}
 use Rattle.def_oracle.specs.Oracle.{Oracle}
 use Rattle.def_parts.specs.ProcMacros.{NameAndHelpers}
 use Rattle.def_laws.specs.Own.{IsOwn}
 use Rattle.def_rules.specs.Calls.{each_helped, expansion_tree, helped, invoking, replaced_by, with_helpers}
-use Rattle.def_rules.specs.Derives.{derived_map, helper_names, helper_of, with_derive_call}
+use Rattle.def_rules.specs.Derives.{derived_map, helper_names, helper_of, with_derive_call, with_shown_helpers}
 use Rattle.def_rules.specs.Items.{node_at, top_items}
 use Rattle.def_rules.specs.Macros.{showing_helpers, taking}
 use Rattle.def_rules.specs.Recording.{with_new_prelude}
 use Rattle.def_rules.specs.Modules.{add_module, fresh_module, next_module}
+use Rattle.def_rules.specs.declared.deferred.DeferredDerive.{DeferredDerive}
+use Rattle.def_rules.specs.Deferred.{AreGiven, giving_impls, last_of, naming_impl, with_impls}
 use Rattle.def_rules.specs.State.{State, root}
 use Rattle.def_rules.specs.Waiting.{MacroDirective, WrittenDerive}
 use Rattle.def_laws.proofs.SoundLaws.{IsLarger}
@@ -166,12 +172,35 @@ pub larger_replaced : (oracle : Oracle) (call : MacroCallId) (replaces : Option 
 larger_replaced oracle call None m = larger_refl m
 larger_replaced oracle call (Some position) m = larger_each oracle (expansion_tree call) (m.helpers position) (top_items oracle (expansion_tree call)) m
 
+pub larger_shown : (oracle : Oracle) (m : MapState) (d : MacroDirective) (found : MacroDefId) (call : MacroCallId) → IsLarger m (with_shown_helpers oracle m d found call)
+larger_shown oracle m d found call = larger_helpers d.position (map (helper_of found call) (helper_names oracle m.id.krate found)) m
+
 pub larger_derived : (oracle : Oracle) (m : MapState) (d : MacroDirective) (written : WrittenDerive) (found : MacroDefId) (call : MacroCallId) → IsLarger m (derived_map oracle m d written found call)
 larger_derived oracle m d written found call =
     let placed : ModuleState → ModuleState = with_derive_call d written call in
-    let first : MapState = with_module m d.scope.index placed in
-    let helpers : List ShownHelper = map (helper_of found call) (helper_names oracle m.id.krate found) in
-    larger_trans m first (with_helpers first d.position helpers) (larger_with_module m d.scope.index placed) (larger_helpers d.position helpers first)
+    let first : MapState = with_shown_helpers oracle m d found call in
+    larger_trans m first (with_module first d.scope.index placed) (larger_shown oracle m d found call) (larger_with_module first d.scope.index placed)
+
+-- impls of deferred derives are recorded
+larger_impls : (at : ModuleId) (ids : List BuiltinDeriveImplId) (m : MapState) → IsLarger m (with_impls m at ids)
+larger_impls at [] m = larger_refl m
+larger_impls at (id ∷ ids) m =
+    let first : MapState = with_module m at.index (with_derive_impl id) in
+    larger_trans m first (with_impls first at ids) (larger_with_module m at.index (with_derive_impl id)) (larger_impls at ids first)
+
+larger_naming : (at : ModuleId) (position : InFile FileAstId) (derive : DeferredDerive) (last : Option BuiltinDeriveImplId) (m : MapState) → IsLarger m (naming_impl m at position derive last)
+larger_naming at position derive None m = larger_refl m
+larger_naming at position derive (Some id) m =
+    let placed : ModuleState → ModuleState = called_at position derive.attr_id derive.pos (Right id) in
+    let first : MapState = with_module m at.index placed in
+    larger_trans m first (with_renamed_helpers first position derive.call id) (larger_with_module m at.index placed) (larger_same first (with_renamed_helpers first position derive.call id) refl refl refl refl)
+
+pub larger_given : (oracle : Oracle) (session : Session) (at : ModuleId) (position : InFile FileAstId) (adt : Adt) (derives : List DeferredDerive) (m new : MapState) → AreGiven oracle session at position adt derives m new → IsLarger m new
+larger_given oracle session at position adt [] m new same = subst (IsLarger m) (sym same) (larger_refl m)
+larger_given oracle session at position adt (derive ∷ derives) m new (ids, are, rest) =
+    let first : MapState = with_impls m at ids in
+    let second : MapState = giving_impls m at position derive ids in
+    larger_trans m second new (larger_trans m first second (larger_impls at ids m) (larger_naming at position derive (last_of None ids) first)) (larger_given oracle session at position adt derives second new rest)
 
 pub own_next : (s : State) (at : ModuleId) (name : Name) (vis : Visibility) (o : ModuleOrigin) → length s.map.parents ≡ length s.map.modules → IsOwn (add_module s at name vis o).map (next_module s)
 own_next s at name vis o even =

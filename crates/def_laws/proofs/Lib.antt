@@ -5,6 +5,7 @@ pub mod LargerLaws
 pub mod CleanLaws
 pub mod PlainLaws
 pub mod DepthsLaws
+pub mod DeferredLaws
 pub mod FootprintLaws
 pub mod TurnsLaws
 pub mod MovesLaws

@@ -1,5 +1,5 @@
 -- The steps of a run, by what they do to the table of bindings.
-use Rattle.std.proofs.Common.{◌≡◌, ◌⊎◌, ℕ, true, List, [], ◌∷◌, ◌++◌, refl, ap, subst, ◌∙◌, inl}
+use Rattle.std.proofs.Common.{◌≡◌, ◌⊎◌, ℕ, true, List, [], ◌∷◌, ◌++◌, refl, ap, subst, ◌∙◌, inl, inr}
 use Rattle.def_ids.specs.declared.ids.ModuleId.{ModuleId}
 use Rattle.def_bindings.specs.declared.bindings.EdgeTo.{EdgeTo}
 use Rattle.def_bindings.specs.declared.bindings.Entry.{Entry}
@@ -9,12 +9,12 @@ use Rattle.def_oracle.specs.Oracle.{Oracle}
 use Rattle.def_globs.specs.Globs.{with_recorded}
 use Rattle.def_rules.specs.Recording.{ImportStep}
 use Rattle.def_rules.specs.State.{State, Effect, Moment, Rearranges, Task, Enter, Visit, TryDerive, Put, Bring, AddEdge, after, only, order, with_content, with_state}
-use Rattle.def_rules.specs.Waiting.{Expansion, MacroDirective}
+use Rattle.def_rules.specs.Waiting.{Deferrals, Expansion, MacroDirective}
 use Rattle.def_rules.specs.Steps.{Copies, Does, Step, performs, copies, rearranges, records, asks, expands, put_effect}
 use Rattle.def_laws.specs.Depths.{WaitsIn}
 use Rattle.def_laws.specs.Own.{IsOwn, Stands}
 use Rattle.def_laws.specs.Roles.{is_still, place_of, role_of}
-use Rattle.def_laws.proofs.FootprintLaws.{Footprint, bring_footprint, enter_footprint, visits_footprint}
+use Rattle.def_laws.proofs.FootprintLaws.{Footprint, VisitFootprint, bring_footprint, enter_footprint, visits_footprint}
 use Rattle.def_laws.proofs.TurnsLaws.{TryFootprint, TurnFootprint, asks_footprint, expands_footprint, tries_footprint, waiting_with}
 
 -- tasks that leave the table as it is
@@ -30,9 +30,9 @@ pub data Move (oracle : Oracle) (a b : Moment) : Type 0 where
   linking : (source : ModuleId) (edge : EdgeTo Visibility) (rest : List Task) → a.tasks ≡ AddEdge source edge ∷ rest
       → b ≡ after a rest (only (with_content a.state (with_recorded (order a.state) a.state.content source edge))) → Move oracle a b
   -- something else is done in a module, for which these tasks go, and of what waits some may go or join: each waits where something waited, or in that module
-  doing : (gone rest : List Task) (scope : ModuleId) (depth : ℕ) (macros : List MacroDirective) (expansions : List Expansion) (effect : Effect) → a.tasks ≡ gone ++ rest → AreStill gone
-      → (Stands a.tasks a.state → IsOwn a.state.map scope) → ((at : ModuleId) → WaitsIn (waiting_with a.state macros expansions) at → WaitsIn a.state at ⊎ (at ≡ scope))
-      → Footprint (waiting_with a.state macros expansions) scope depth effect → b ≡ after a rest effect → Move oracle a b
+  doing : (gone rest : List Task) (scope : ModuleId) (depth : ℕ) (macros : List MacroDirective) (expansions : List Expansion) (deferred : Deferrals) (effect : Effect) → a.tasks ≡ gone ++ rest → AreStill gone
+      → (Stands a.tasks a.state → IsOwn a.state.map scope) → ((at : ModuleId) → WaitsIn (waiting_with a.state macros expansions deferred) at → WaitsIn a.state at ⊎ (at ≡ scope))
+      → Footprint (waiting_with a.state macros expansions deferred) scope depth effect → b ≡ after a rest effect → Move oracle a b
   -- something is copied
   copying : (content : Content Visibility) → Copies a.state content → b ≡ with_state a (with_content a.state content) → Move oracle a b
   -- imports are put into another order
@@ -49,18 +49,20 @@ module _ {oracle : Oracle} (a b : Moment) where
   move_by (Put at entry) rest effect first does is = putting at entry rest first (is ∙ ap (after a rest) does)
   move_by (AddEdge source edge) rest effect first does is = linking source edge rest first (is ∙ ap (after a rest) does)
   move_by (Enter at directory) rest effect first does is =
-      doing (Enter at directory ∷ []) rest at 0 a.state.macros a.state.expansions _ first (refl, tt) (first_own a (Enter at directory) rest first) (λ at waits. inl waits) (enter_footprint a.state at directory) (is ∙ ap (after a rest) does)
+      doing (Enter at directory ∷ []) rest at 0 a.state.macros a.state.expansions a.state.deferred _ first (refl, tt) (first_own a (Enter at directory) rest first) (λ at waits. inl waits) (enter_footprint a.state at directory) (is ∙ ap (after a rest) does)
   move_by (Bring from into) rest effect first does is =
-      doing (Bring from into ∷ []) rest into 0 a.state.macros a.state.expansions _ first (refl, tt) (first_own a (Bring from into) rest first) (λ at waits. inl waits) (bring_footprint a.state from into) (is ∙ ap (after a rest) does)
+      doing (Bring from into ∷ []) rest into 0 a.state.macros a.state.expansions a.state.deferred _ first (refl, tt) (first_own a (Bring from into) rest first) (λ at waits. inl waits) (bring_footprint a.state from into) (is ∙ ap (after a rest) does)
   move_by (Visit site id) rest effect first does is =
-      doing (Visit site id ∷ []) rest site.scope site.depth a.state.macros a.state.expansions effect first (refl, tt) (first_own a (Visit site id) rest first) (λ at waits. inl waits) (visits_footprint oracle a.state site id effect does) is
+      let visit : VisitFootprint a.state site effect = visits_footprint oracle a.state site id effect does in
+      doing (Visit site id ∷ []) rest site.scope site.depth a.state.macros a.state.expansions visit.deferred effect first (refl, tt) (first_own a (Visit site id) rest first)
+      (λ at waits. inl (elim waits [ inl macro ↦ inl macro | inr later ↦ elim later [ inl expansion ↦ inr (inl expansion) | inr deferred ↦ inr (inr (visit.fewer at deferred)) ] ])) visit.foot is
   move_by (TryDerive directive written) rest effect first does is =
       let tried : TryFootprint a.state directive.scope effect = tries_footprint oracle a.state directive written effect does in
-      doing (TryDerive directive written ∷ []) rest directive.scope directive.depth tried.macros tried.expansions effect first (refl, tt) (first_own a (TryDerive directive written) rest first) tried.fewer (tried.foot directive.depth) is
+      doing (TryDerive directive written ∷ []) rest directive.scope directive.depth tried.macros tried.expansions tried.deferred effect first (refl, tt) (first_own a (TryDerive directive written) rest first) tried.fewer (tried.foot directive.depth) is
 
   -- a macro or an expansion has its turn
   turning : (effect : Effect) → a.tasks ≡ [] → TurnFootprint a.state effect → b ≡ after a [] effect → Move oracle a b
-  turning effect idle turn is = doing [] [] turn.scope turn.depth turn.macros turn.expansions effect idle tt (λ stands. stands.waiting turn.scope turn.waits) (λ at waits. inl (turn.fewer at waits)) turn.foot is
+  turning effect idle turn is = doing [] [] turn.scope turn.depth turn.macros turn.expansions turn.deferred effect idle tt (λ stands. stands.waiting turn.scope turn.waits) (λ at waits. inl (turn.fewer at waits)) turn.foot is
 
   -- what a step does
   pub move_of : Step oracle a b → Move oracle a b

@@ -32,19 +32,22 @@ use Rattle.def_paths.specs.Paths.{for_import, resolve, resolver}
 use Rattle.def_globs.proofs.ListLaws.{first_in, later_in}
 use Rattle.def_rules.specs.Calls.{answer_by, deeper, deepest, expansion_effect, expansion_site, expansion_tree, invoking, is_too_deep, with_invocations, with_replaced}
 use Rattle.def_rules.specs.Attributes.{AttrUse, PassesOver, ReadsDerives, ReplacesItem, attr_macro, attr_query, attr_use, is_helper, is_helper_name, item_site}
+use Rattle.def_rules.specs.Deferred.{deferral, deferred_at, deferred_derive, deferred_expansion}
 use Rattle.def_rules.specs.Derives.{derive_call, derive_directive, derive_macro, derive_paths, derive_query, derives_from, may_derive}
 use Rattle.def_rules.specs.declared.diagnostics.DefDiagnosticKind.{DefDiagnosticKind}
-use Rattle.def_rules.specs.Directives.{AllStay, ExpansionStep, GivesCall, GivesDerive, MacroStep, Stays, Told, Turn, WalksItem, answer_in, attr_told, call_answer, call_told, derive_told, expanding, expansion_of, given_state, given_turn, item_told, list_told, told, told_by, tried_effect, tries, turn_effect, use_told, walked_state}
+use Rattle.def_rules.specs.Directives.{AllStay, ExpansionStep, GivesCall, GivesDerive, MacroStep, Replaces, Stays, Told, Turn, WalksItem, answer_in, attr_told, call_answer, call_told, called_state, derive_told, expanding, expansion_of, given_state, given_turn, item_told, list_told, replaced_state, told, told_by, tried_effect, tries, turn_effect, use_told, walked_state}
 use Rattle.def_rules.specs.Imports.{is_ready}
 use Rattle.def_rules.specs.Items.{node_at, top_items, walk}
 use Rattle.def_rules.specs.Recording.{NoneReady}
 use Rattle.def_rules.specs.State.{State, Effect, Event, Site, Task, TryDerive, Visit, after, followed_by, only, with_map, world}
 use Rattle.def_rules.specs.Waiting.{Attr, Derive, Expansion, FnLike, MacroDirective, MacroDirectiveKind, WrittenAttr, WrittenCall, WrittenDerive}
 use Rattle.def_rules.specs.Steps.{Step, asks, expands, one}
-use Rattle.def_laws.specs.Depths.{AreVisitsBelow, OnlyInvokes, Queues, WaitsAlike, depth_rank, expansion_work, kind_rank, macro_rank, macro_work, visit_rank, waiting_work}
+use Rattle.def_laws.specs.Depths.{AreVisitsBelow, OnlyInvokes, Queues, WaitsAlike, deferred_work, depth_rank, expansion_work, kind_rank, macro_rank, macro_work, visit_rank, waiting_work}
 use Rattle.def_laws.specs.Own.{IsOwn, Stands}
 use Rattle.def_laws.specs.Performs.{Tried}
 use Rattle.def_laws.specs.Runs.{Collects, Leads, at}
+use Rattle.def_laws.proofs.DeferredLaws.{deferring_work, expanded_work, none_work}
+use Rattle.def_laws.proofs.FootprintLaws.{waits_alike}
 use Rattle.def_laws.proofs.DepthsLaws.{above_deepest, deeper_is, deeper_last, item_ranks, visit_rank_is, walk_lies}
 use Rattle.def_laws.specs.Work.{weight}
 use Rattle.def_laws.proofs.StepsLaws.{collects_refl, collects_trans, footprint_raised, footprint_sound}
@@ -139,7 +142,7 @@ module _ (oracle : Oracle) (s t : State) (only_calls : OnlyInvokes s t) where
     use_turn_same : (found : MacroDefId) (role : AttrUse) → (use_told oracle t d written found role).turn ≡ (use_told oracle s d written found role).turn
     use_turn_same found PassesOver = refl
     use_turn_same found ReadsDerives = list_turn_same found (derive_paths written (may_derive (node_at oracle written.tree written.item)))
-    use_turn_same found ReplacesItem = ap (λ q. GivesCall (oracle.make_attr_call q)) (query_same found)
+    use_turn_same found ReplacesItem = ap (λ q. Replaces (oracle.make_attr_call q)) (query_same found)
 
     attr_turn_same : (found : Option MacroDefId) → (attr_told oracle t d written found).turn ≡ (attr_told oracle s d written found).turn
     attr_turn_same None = refl
@@ -188,7 +191,7 @@ module _ (oracle : Oracle) (s t : State) (only_calls : OnlyInvokes s t) where
 
 module _ (oracle : Oracle) (s : State) (effect : Effect) (turn : TurnFootprint s effect) (step : (before : List Event) → Step oracle (at [] s before) (after (at [] s before) [] effect)) where
   abbrev u : State
-  u = waiting_with s turn.macros turn.expansions
+  u = waiting_with s turn.macros turn.expansions turn.deferred
 
   stands_then : Stands [] s → Stands [] u
   stands_then stands = record { state = stands.state; tasks = stands.tasks; waiting = λ place waits. stands.waiting place (turn.fewer place waits) }
@@ -260,6 +263,20 @@ module _ (oracle : Oracle) (s : State) (d : MacroDirective) (written : WrittenDe
   abbrev after_try : Option MacroDefId → State
   after_try found = (tried_effect oracle s d written found).state
 
+  -- one that was given a call at once weighs no more than an expansion of the attribute's depth
+  called_weighs : d.depth ≤ deepest → (found : MacroDefId) (call : MacroCallId) (deferred : Option ℕ) → waiting_work (called_state oracle s d written found call deferred) ≤ waiting_work s + 2 * weight (depth_rank d.depth)
+  called_weighs deep found call None =
+      let of_expansion : Expansion → ℕ = λ x. expansion_work x.depth in
+      let e : Expansion = expansion_of (derive_directive d written) call in
+      let more = sum_by-append of_expansion s.expansions (e ∷ []) in
+      let last = sum_by-cons of_expansion e [] in
+      let most = deeper_weighs d.depth deep in
+      omega (arith, more, last, most)
+  called_weighs deep found call (Some n) =
+      let more = deferring_work s d.position (deferral d written call n) in
+      let most = deeper_weighs d.depth deep in
+      omega (arith, more, most)
+
   -- it weighs no more than two expansions of the attribute's depth
   try_weighs : d.depth ≤ deepest → (found : Option MacroDefId) → waiting_work (after_try found) ≤ waiting_work s + 2 * weight (depth_rank d.depth)
   try_weighs deep None =
@@ -270,13 +287,7 @@ module _ (oracle : Oracle) (s : State) (d : MacroDirective) (written : WrittenDe
       let same = ap weight rank in
       let most = deeper_weighs d.depth deep in
       omega (arith, more, last, same, most)
-  try_weighs deep (Some found) =
-      let of_expansion : Expansion → ℕ = λ x. expansion_work x.depth in
-      let e : Expansion = expansion_of (derive_directive d written) (derive_call oracle s d written found) in
-      let more = sum_by-append of_expansion s.expansions (e ∷ []) in
-      let last = sum_by-cons of_expansion e [] in
-      let most = deeper_weighs d.depth deep in
-      omega (arith, more, last, most)
+  try_weighs deep (Some found) = called_weighs deep found (derive_call oracle s d written found) (deferred_derive oracle found)
 
   module _ (rest : List Task) (found : Option MacroDefId) (is : derive_macro (world oracle s) d.scope written ≡ found) where
     abbrev tried : Effect
@@ -286,7 +297,7 @@ module _ (oracle : Oracle) (s : State) (d : MacroDirective) (written : WrittenDe
     foot = tries_footprint oracle s d written tried (ap (tried_effect oracle s d written) (sym is))
 
     abbrev beside : State
-    beside = waiting_with s foot.macros foot.expansions
+    beside = waiting_with s foot.macros foot.expansions foot.deferred
 
     try_stands : Stands (TryDerive d written ∷ rest) s → Stands (TryDerive d written ∷ rest) beside
     try_stands stands = record {
@@ -416,11 +427,12 @@ module _ (oracle : Oracle) (s : State) (before : List MacroDirective) (d : Macro
         let of_expansion : Expansion → ℕ = λ x. expansion_work x.depth in
         let was = weighed in
         let more = sum_by-append of_expansion given.state.expansions (expansion_of d call ∷ []) in
-        let old : sum_by of_expansion given.state.expansions ≡ sum_by of_expansion s.expansions = ap (sum_by of_expansion) (told_same oracle s d).expansions in
+        let old : sum_by of_expansion given.state.expansions ≡ sum_by of_expansion s.expansions = ap (sum_by of_expansion) (told_same oracle s d).waits.expansions in
+        let put_off = ap deferred_work (told_same oracle s d).waits.deferred in
         let last = sum_by-cons of_expansion (expansion_of d call) [] in
         let grows = weight_grows (depth_rank d.depth) d.kind in
         let some = some_weight (depth_rank d.depth) in
-        omega (arith, was, more, old, last, grows, some)
+        omega (arith, was, more, old, put_off, last, grows, some)
 
     -- it was given one
     pub collects_given : given.turn ≡ GivesCall call → Collects oracle [] s [] (given_state given.state before d behind call)
@@ -435,6 +447,27 @@ module _ (oracle : Oracle) (s : State) (before : List MacroDirective) (d : Macro
 
     pub derived_lighter : waiting_work (expanding given.state (before ++ behind) d call) < waiting_work s
     derived_lighter = expanding_lighter given.state.map
+
+    -- its attribute was given one, and the derives that were deferred for its item are expansions
+    pub collects_replaced : given.turn ≡ Replaces call → Collects oracle [] s [] (replaced_state given.state before d behind call)
+    collects_replaced is = collects_by (Replaces call) is
+
+    pub replaced_lighter : waiting_work (replaced_state given.state before d behind call) < waiting_work s
+    replaced_lighter =
+        let of_expansion : Expansion → ℕ = λ x. expansion_work x.depth in
+        let t : State = given.state in
+        let freed : List Expansion = map deferred_expansion (deferred_at t d.position) in
+        let was = weighed in
+        let both = sum_by-append of_expansion (t.expansions ++ freed) (expansion_of d call ∷ []) in
+        let more = sum_by-append of_expansion t.expansions freed in
+        let old : sum_by of_expansion t.expansions ≡ sum_by of_expansion s.expansions = ap (sum_by of_expansion) (told_same oracle s d).waits.expansions in
+        let put_off = ap deferred_work (told_same oracle s d).waits.deferred in
+        let gone = none_work t d.position in
+        let same = expanded_work (deferred_at t d.position) in
+        let last = sum_by-cons of_expansion (expansion_of d call) [] in
+        let grows = weight_grows (depth_rank d.depth) d.kind in
+        let some = some_weight (depth_rank d.depth) in
+        omega (arith, was, both, more, old, put_off, gone, same, last, grows, some)
 
   module _ (derives : List WrittenDerive) (written : WrittenAttr) (is : given.turn ≡ WalksItem derives written) where
     -- the state in which its attribute was passed over
@@ -464,11 +497,13 @@ module _ (oracle : Oracle) (s : State) (before : List MacroDirective) (d : Macro
           let now : sum_by macro_work t.macros ≡ sum_by macro_work u.macros + sum_by macro_work queues.more = ap (sum_by macro_work) queues.macros ∙ sum_by-append macro_work u.macros queues.more in
           let was = weighed in
           let kept : sum_by of_expansion t.expansions ≡ sum_by of_expansion u.expansions = ap (sum_by of_expansion) leads.expansions in
-          let old : sum_by of_expansion passed.expansions ≡ sum_by of_expansion s.expansions = ap (sum_by of_expansion) (told_same oracle s d).expansions in
+          let old : sum_by of_expansion passed.expansions ≡ sum_by of_expansion s.expansions = ap (sum_by of_expansion) (told_same oracle s d).waits.expansions in
+          let put_off = ap deferred_work (told_same oracle s d).waits.deferred in
+          let fewer = leads.deferred in
           let more = tried.work in
           let some = tries_less (depth_rank d.depth) (length derives) short in
           let same : weight (macro_rank d) ≡ weight (depth_rank d.depth + 1) = ap (λ k. weight (depth_rank d.depth + k)) kind in
-          omega (arith, less, now, was, kept, old, more, some, same)
+          omega (arith, less, now, was, kept, old, put_off, fewer, more, some, same)
 
 -- An expansion is walked
 
@@ -476,8 +511,8 @@ begins_alike : (oracle : Oracle) (u : State) (e : Expansion) → WaitsAlike u (e
 begins_alike oracle u e = by (is_too_deep u.map e.depth)
   where
     by : (deep : Bool) → WaitsAlike u (cond deep (only u) (followed_by (with_replaced oracle u e) (walk oracle (expansion_site oracle u e) (top_items oracle (expansion_tree e.call))))).state
-    by true = record { macros = refl; expansions = refl }
-    by false = record { macros = refl; expansions = refl }
+    by true = waits_alike refl refl refl
+    by false = waits_alike refl refl refl
 
 expansion_lies : (oracle : Oracle) (u : State) (e : Expansion) → e.depth ≤ deepest → AreVisitsBelow (depth_rank e.depth) (expansion_effect oracle u e).tasks
 expansion_lies oracle u e most = by (nat_lt (limit_of u.map.krate) e.depth) (nat_eq e.depth deepest) refl
@@ -524,7 +559,9 @@ module _ (oracle : Oracle) (s t : State) (e : Expansion) (rest : List Expansion)
         ap (sum_by macro_work) (queues.macros ∙ ap (λ ds. ds ++ queues.more) alike.macros) ∙ sum_by-append macro_work s.macros queues.more in
         let left : sum_by of_expansion t.expansions ≡ sum_by of_expansion rest = ap (sum_by of_expansion) (leads.expansions ∙ alike.expansions) in
         let was : sum_by of_expansion s.expansions ≡ expansion_work e.depth + sum_by of_expansion rest = ap (sum_by of_expansion) first ∙ sum_by-cons of_expansion e rest in
-        omega (arith, less, now, left, was)
+        let put_off = ap deferred_work alike.deferred in
+        let fewer = leads.deferred in
+        omega (arith, less, now, left, was, put_off, fewer)
 
 -- Passes over the imports
 
@@ -535,10 +572,10 @@ nothing_queued s t queues = queues.macros ∙ by queues.more queues.lower
     by [] lower = append-nil s.macros
     by (d ∷ more) lower = let below = lower d (first_in d more) in absurd (omega (arith, below))
 
--- where nothing is visited, nothing is queued
-pub leads_alike : {oracle : Oracle} (s t : State) → Leads oracle [] s [] t → WaitsAlike s t
-leads_alike s t leads = record { macros = nothing_queued s t (leads.queues 0 tt).1; expansions = leads.expansions }
-
-pub alike_work : (s t : State) → WaitsAlike s t → waiting_work t ≡ waiting_work s
-alike_work s t alike =
-    λ i. sum_by macro_work (alike.macros i) + sum_by (λ (e : Expansion). expansion_work e.depth) (alike.expansions i)
+-- where nothing is visited, nothing is queued, and no more waits
+pub leads_lighter : {oracle : Oracle} (s t : State) → Leads oracle [] s [] t → waiting_work t ≤ waiting_work s
+leads_lighter s t leads =
+    let macros = ap (sum_by macro_work) (nothing_queued s t (leads.queues 0 tt).1) in
+    let expansions = ap (sum_by (λ (e : Expansion). expansion_work e.depth)) leads.expansions in
+    let deferred = leads.deferred in
+    omega (arith, macros, expansions, deferred)

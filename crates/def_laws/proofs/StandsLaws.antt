@@ -14,7 +14,7 @@ use Rattle.def_rules.specs.Recording.{ImportStep, after_import, kept_list, new_p
 use Rattle.def_rules.specs.State.{State, Effect, Moment, NsSet, ImportDirective, Import, Task, order}
 use Rattle.def_rules.specs.Steps.{Reaches, Step}
 use Rattle.def_laws.proofs.LargerLaws.{larger_prelude, larger_refl, own_larger}
-use Rattle.def_laws.specs.Depths.{WaitsIn}
+use Rattle.def_laws.specs.Depths.{DefersIn, WaitsIn}
 use Rattle.def_laws.proofs.FootprintLaws.{Footprint}
 use Rattle.def_laws.proofs.MovesLaws.{Move, putting, linking, doing, copying, sorting, recording, move_of}
 use Rattle.def_laws.proofs.OwnLaws.{own_both, own_copied, own_edge, own_first, own_last, own_put, own_stays, tasks_stay}
@@ -34,7 +34,8 @@ queued_in s scope depth effect foot at (inl macro) =
       | inl old ↦ inl (inl (macro.0, old, macro.2))
       | inr new ↦ inr (sym macro.2 ∙ (foot.queued.at macro.0 new).0)
     ]
-queued_in s scope depth effect foot at (inr expansion) = inl (inr (expansion.0, subst (λ es. Contains es expansion.0) foot.queued.expansions expansion.1, expansion.2))
+queued_in s scope depth effect foot at (inr (inl expansion)) = inl (inr (inl (expansion.0, subst (λ es. Contains es expansion.0) foot.queued.expansions expansion.1, expansion.2)))
+queued_in s scope depth effect foot at (inr (inr deferred)) = inl (inr (inr (subst (λ es. DefersIn es at) foot.queued.deferred deferred)))
 
 -- what is done beside puts and edges leads to what is of the map
 pub footprint_stands : (s : State) (rest : List Task) (scope : ModuleId) (depth : ℕ) (effect : Effect) → Footprint s scope depth effect → IsOwn s.map scope → Stands rest s → Stands (effect.tasks ++ rest) effect.state
@@ -120,9 +121,9 @@ move_stands a b (linking source edge rest first is) st =
     let s : State = a.state in
     let own = stands_with a _ first st in
     subst StandsAt (sym is) (record { state = own_edge s.map s.targets (order s) s.content s.imports own.state source edge own.tasks.0; tasks = own.tasks.1; waiting = own.waiting })
-move_stands a b (doing gone rest scope depth macros expansions effect first still at fewer foot is) st =
+move_stands a b (doing gone rest scope depth macros expansions deferred effect first still at fewer foot is) st =
     subst StandsAt (sym is)
-    (footprint_stands (waiting_with a.state macros expansions) rest scope depth effect foot (at st)
+    (footprint_stands (waiting_with a.state macros expansions deferred) rest scope depth effect foot (at st)
     (record { state = st.state; tasks = own_last a.state.map a.state.targets gone rest (stands_with a _ first st).tasks; waiting = λ place waits. elim (fewer place waits) [ inl old ↦ st.waiting place old | inr here ↦ subst (IsOwn a.state.map) (sym here) (at st) ] }))
 move_stands a b (copying content copy is) st =
     let s : State = a.state in

@@ -36,7 +36,7 @@ move_keeps : {oracle : Oracle} (a b : Moment) → Move oracle a b → ExplicitSt
 move_keeps a b (putting place entry rest first is) =
     subst (λ (m : Moment). ExplicitStays a m) (sym is) (λ at name ns held there explicit. explicit_stays-put_entry (order a.state) place entry a.state.content at name ns held there explicit)
 move_keeps a b (linking source edge rest first is) = subst (λ (m : Moment). ExplicitStays a m) (sym is) (λ at name ns held there explicit. there)
-move_keeps a b (doing gone rest scope depth macros expansions effect first still own fewer foot is) = subst (λ (m : Moment). ExplicitStays a m) (sym is) (same_keeps a.state.content effect.state.content foot.content)
+move_keeps a b (doing gone rest scope depth macros expansions deferred effect first still own fewer foot is) = subst (λ (m : Moment). ExplicitStays a m) (sym is) (same_keeps a.state.content effect.state.content foot.content)
 move_keeps a b (copying content copy is) = subst (λ (m : Moment). ExplicitStays a m) (sym is) (copies_keep a.state content copy)
 move_keeps a b (sorting state same is) = subst (λ (m : Moment). ExplicitStays a m) (sym is) (same_keeps a.state.content state.content (ap (λ (s : State). s.content) same.rest))
 move_keeps {oracle} a b (recording effect idle step is) = subst (λ (m : Moment). ExplicitStays a m) (sym is) (same_keeps a.state.content effect.state.content (import_content oracle a.state effect step))

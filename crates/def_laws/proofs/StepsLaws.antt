@@ -1,5 +1,5 @@
 -- Runs: how each rule is taken, and how runs follow one another.
-use Rattle.std.proofs.Common.{◌≡◌, List, [], ◌∷◌, ◌++◌, ℕ, None, Option, Some, refl, sym, ap, ◌∙◌, subst, append_assoc, append-nil, arith}
+use Rattle.std.proofs.Common.{◌≡◌, ◌≤◌, inl, inr, List, [], ◌∷◌, ◌++◌, ℕ, None, Option, Some, refl, sym, ap, ◌∙◌, subst, append_assoc, append-nil, arith}
 use Rattle.item_tree.specs.declared.attrs.Attr.{Attr}
 use Rattle.item_tree.specs.declared.ids.AttrId.{AttrId}
 use Rattle.item_tree.specs.declared.ids.CfgExpr.{CfgExpr}
@@ -17,13 +17,13 @@ use Rattle.def_oracle.specs.Oracle.{Oracle}
 use Rattle.def_parts.specs.Directories.{Directory}
 use Rattle.def_globs.specs.Raised.{IsRaisedAt}
 use Rattle.def_rules.specs.declared.diagnostics.DefDiagnosticKind.TheVariants.{UnconfiguredCode}
-use Rattle.def_laws.specs.Depths.{AreVisitsBelow, WaitsAlike}
+use Rattle.def_laws.specs.Depths.{AreVisitsBelow, DefersIn, WaitsAlike, deferred_work}
 use Rattle.def_laws.specs.Followed.{AreFollowed}
 use Rattle.def_laws.specs.Own.{Stands}
 use Rattle.def_laws.specs.Sound.{AreSound, IsRaisedIn, IsSound, IsSoundWith, KeepsSound}
 use Rattle.def_rules.specs.Targets.{leaves_out, target_of}
 use Rattle.def_laws.specs.Travels.{Travels}
-use Rattle.def_laws.specs.Performs.{Handled, IsDone, Performs, Updated}
+use Rattle.def_laws.specs.Performs.{IsDone, IsHandled, Performs, Updated}
 use Rattle.def_rules.specs.Attributes.{awaited_attr, awaiting}
 use Rattle.def_rules.specs.Calls.{queued}
 use Rattle.def_rules.specs.Imports.{answer_now}
@@ -32,9 +32,10 @@ use Rattle.def_rules.specs.Items.{diagnostic, node_at, noted_in}
 use Rattle.def_rules.specs.Rules.{VisitsAt, VisitsEnabled, VisitsNode}
 use Rattle.def_rules.specs.State.{State, Effect, Site, Task, Bring, Enter, Visit, Rearranges, entered, only, order, put_each, reported, with_content}
 use Rattle.def_rules.specs.Steps.{Does, StandsNear, one, rearranges, records}
+use Rattle.def_rules.specs.Waiting.{Deferrals}
 use Rattle.def_laws.specs.Runs.{Collects, Leads}
 use Rattle.def_laws.proofs.DepthsLaws.{lie_both, lie_last, queues_alike, queues_trans, recorded_lies}
-use Rattle.def_laws.proofs.FootprintLaws.{Footprint, visits_footprint}
+use Rattle.def_laws.proofs.FootprintLaws.{Footprint, VisitFootprint, deferred_with, visits_footprint, waits_alike}
 use Rattle.def_laws.proofs.LargerLaws.{larger_with_module}
 use Rattle.def_laws.proofs.PlainLaws.{ArePlain, plain_first, plain_followed}
 use Rattle.def_laws.proofs.RaisedLaws.{raised_larger}
@@ -55,9 +56,21 @@ pub footprint_raised : (tasks : List Task) (s : State) (scope : ModuleId) (depth
 footprint_raised tasks s scope depth effect foot stands importer slot same raised =
     subst (λ c. IsRaisedAt (order effect.state) c importer slot) (sym foot.content) (raised_larger stands.state foot.larger importer slot same raised)
 
+-- what is deferred weighs no more where it is the same
+same_lighter : (s t : State) → t.deferred ≡ s.deferred → deferred_work t.deferred ≤ deferred_work s.deferred
+same_lighter s t is = let same = ap deferred_work is in omega (arith, same)
+
+-- a state of its map alone is so where less is deferred
+stands_visit : (tasks : List Task) (s : State) (deferred : Deferrals) → ((at : ModuleId) → DefersIn deferred at → DefersIn s.deferred at) → Stands tasks s → Stands tasks (deferred_with s deferred)
+stands_visit tasks s deferred fewer stands = record {
+  state = stands.state;
+  tasks = stands.tasks;
+  waiting = λ at waits. stands.waiting at (elim waits [ inl macro ↦ inl macro | inr later ↦ elim later [ inl expansion ↦ inr (inl expansion) | inr deferred ↦ inr (inr (fewer at deferred)) ] ]);
+}
+
 -- what waits stays where the imports are put into another order
 rearranged_alike : (s t : State) → Rearranges s t → WaitsAlike s t
-rearranged_alike s t same = subst (WaitsAlike s) (sym same.rest) (record { macros = refl; expansions = refl })
+rearranged_alike s t same = subst (WaitsAlike s) (sym same.rest) (waits_alike refl refl refl)
 
 -- an item that is there, and that cfg does not disable
 does_enabled : (oracle : Oracle) (s : State) (site : Site) (id : ModItemId) (item : ItemNode) → node_at oracle site.tree id ≡ Some item → disabled_by item.attrs ≡ None
@@ -77,7 +90,7 @@ module _ {oracle : Oracle} where
   collects_refl tasks s = record { runs = runs_refl tasks s; keeps = λ stands sound. sound; raised = λ stands sound before importer slot kept raised. raised }
 
   pub leads_refl : (tasks : List Task) (s : State) → Leads oracle tasks s tasks s
-  leads_refl tasks s = record { collects = collects_refl tasks s; expansions = refl; queues = λ rank lie. (lie, queues_alike rank s s (record { macros = refl; expansions = refl })) }
+  leads_refl tasks s = record { collects = collects_refl tasks s; expansions = refl; deferred = omega arith; queues = λ rank lie. (lie, queues_alike rank s s (waits_alike refl refl refl)) }
 
   -- a run goes on with another
   pub collects_trans : {ts us vs : List Task} {s t u : State} → Collects oracle ts s us t → Collects oracle us t vs u → Collects oracle ts s vs u
@@ -93,6 +106,7 @@ module _ {oracle : Oracle} where
   leads_trans {s = s} {t = t} {u = u} p q = record {
     collects = collects_trans p.collects q.collects;
     expansions = q.expansions ∙ p.expansions;
+    deferred = let first = p.deferred in let second = q.deferred in omega (arith, first, second);
     queues = λ rank lie. let first = p.queues rank lie in let second = q.queues rank first.0 in (second.0, queues_trans rank s t u first.1 second.1);
   }
 
@@ -109,20 +123,25 @@ module _ {oracle : Oracle} where
       raised = λ stands sound. done.raised rest (stands_first rest stands) sound;
     };
     expansions = done.waits.expansions;
+    deferred = same_lighter s t done.waits.deferred;
     queues = λ rank lie. (lie_last rank tasks rest lie, queues_alike rank s t done.waits);
   }
 
   -- an item is visited
   leads_visit : (site : Site) (id : ModItemId) (rest : List Task) (s : State) (effect : Effect) → Does oracle s (Visit site id) effect → Leads oracle (Visit site id ∷ rest) s (effect.tasks ++ rest) effect.state
   leads_visit site id rest s effect does =
-      let foot : Footprint s site.scope site.depth effect = visits_footprint oracle s site id effect does in
+      let visit : VisitFootprint s site effect = visits_footprint oracle s site id effect does in
+      let foot = visit.foot in
+      let u : State = deferred_with s visit.deferred in
+      let stands_then : Stands (Visit site id ∷ rest) s → Stands (Visit site id ∷ rest) u = stands_visit (Visit site id ∷ rest) s visit.deferred visit.fewer in
       record {
         collects = record {
           runs = runs_task (Visit site id) rest s effect does;
-          keeps = footprint_sound (Visit site id ∷ rest) s site.scope site.depth effect foot;
-          raised = λ stands sound before importer slot kept raised. footprint_raised (Visit site id ∷ rest) s site.scope site.depth effect foot stands importer slot kept.order raised;
+          keeps = λ stands sound. footprint_sound (Visit site id ∷ rest) u site.scope site.depth effect foot (stands_then stands) sound;
+          raised = λ stands sound before importer slot kept raised. footprint_raised (Visit site id ∷ rest) u site.scope site.depth effect foot (stands_then stands) importer slot kept.order raised;
         };
         expansions = foot.queued.expansions;
+        deferred = let lighter = visit.lighter in let same = ap deferred_work foot.queued.deferred in omega (arith, lighter, same);
         queues = λ rank lie. (
           lie_both rank effect.tasks rest (foot.deep rank lie.0) lie.1,
           record { more = foot.queued.more; macros = foot.queued.macros; lower = λ d h. let low = lie.0 in let ranks = (foot.queued.at d h).1 in omega (arith, low, ranks) },
@@ -138,9 +157,10 @@ module _ {oracle : Oracle} where
       raised = λ stands sound before importer slot kept raised. import_raised s effect step importer slot raised;
     };
     expansions = ap (λ (e : Effect). e.state.expansions) step.is;
+    deferred = same_lighter s effect.state (ap (λ (e : Effect). e.state.deferred) step.is);
     queues = λ rank lie. (
       subst (λ (e : Effect). AreVisitsBelow rank (e.tasks ++ [])) (sym step.is) (recorded_lies oracle rank (after_import s step.directive step.rest (answer_now oracle s step.directive.import)) step.directive.import (answer_now oracle s step.directive.import) step.directive.import.written.kind),
-      queues_alike rank s effect.state (subst (λ (e : Effect). WaitsAlike s e.state) (sym step.is) (record { macros = refl; expansions = refl })),
+      queues_alike rank s effect.state (subst (λ (e : Effect). WaitsAlike s e.state) (sym step.is) (waits_alike refl refl refl)),
     );
   }
 
@@ -153,6 +173,7 @@ module _ {oracle : Oracle} where
       raised = λ stands sound before importer slot kept raised. subst (λ x. IsRaisedIn x importer slot) (sym same.rest) raised;
     };
     expansions = (rearranged_alike s t same).expansions;
+    deferred = same_lighter s t (rearranged_alike s t same).deferred;
     queues = λ rank lie. (lie, queues_alike rank s t (rearranged_alike s t same));
   }
 
@@ -163,7 +184,7 @@ module _ {oracle : Oracle} where
     keeps = λ followed stands sound.
         sound_wave s.map s.targets place list s.content c travels sound (puts_nowhere (target_of s.map.id s.targets) place list (subst (AreFollowed (target_of s.map.id s.targets)) (append-nil (put_each place list)) followed));
     raised = λ rest stands sound before importer slot kept. wave_raised importer slot oracle place list s c travels [] rest before kept sound;
-    waits = record { macros = refl; expansions = refl };
+    waits = waits_alike refl refl refl;
   }
 
   -- a list was put, and what changed has travelled
@@ -177,7 +198,7 @@ module _ {oracle : Oracle} where
 
   -- nothing is performed
   pub performs_none : (s : State) → Performs oracle [] s s
-  performs_none s = record { runs = λ rest. runs_refl rest s; keeps = λ followed stands sound. sound; raised = λ rest stands sound before importer slot kept raised. raised; waits = record { macros = refl; expansions = refl } }
+  performs_none s = record { runs = λ rest. runs_refl rest s; keeps = λ followed stands sound. sound; raised = λ rest stands sound before importer slot kept raised. raised; waits = waits_alike refl refl refl }
 
   -- the imports are put into another order
   pub performs_rearranged : (s t : State) → Rearranges s t → Performs oracle [] s t
@@ -197,7 +218,8 @@ module _ {oracle : Oracle} where
       raised = λ stands sound before importer slot kept raised. raised;
     };
     expansions = refl;
-    queues = λ rank lie. (lie.1, queues_alike rank s (entered s at directory) (record { macros = refl; expansions = refl }));
+    deferred = omega arith;
+    queues = λ rank lie. (lie.1, queues_alike rank s (entered s at directory) (waits_alike refl refl refl));
   }
 
   -- textual macros are brought into another module
@@ -211,7 +233,8 @@ module _ {oracle : Oracle} where
           raised = λ stands sound before importer slot kept raised. raised;
         };
         expansions = refl;
-        queues = λ rank lie. (lie.1, queues_alike rank s t (record { macros = refl; expansions = refl }));
+        deferred = omega arith;
+        queues = λ rank lie. (lie.1, queues_alike rank s t (waits_alike refl refl refl));
       }
 
   -- a visit is followed by its puts, down to the inner tasks
@@ -219,14 +242,16 @@ module _ {oracle : Oracle} where
   leads_done site id rest s t effect inner does done =
       let visited : Leads oracle (Visit site id ∷ rest) s (done.puts ++ (inner ++ rest)) effect.state =
       subst (λ tasks. Leads oracle (Visit site id ∷ rest) s tasks effect.state) (ap (λ tasks. tasks ++ rest) done.tasks ∙ append_assoc done.puts inner rest) (leads_visit site id rest s effect does) in
-      let plain = plain_first done.puts inner (subst ArePlain done.tasks (visits_footprint oracle s site id effect does).plain) in
+      let plain = plain_first done.puts inner (subst ArePlain done.tasks (visits_footprint oracle s site id effect does).foot.plain) in
       leads_trans visited (leads_performed done.puts (inner ++ rest) effect.state t (plain_followed (target_of effect.state.map.id effect.state.targets) done.puts plain) done.performs)
 
   -- an item that is there is handled, and what it puts is put
   pub leads_handled : (s t : State) (site : Site) (id : ModItemId) (item : ItemNode) (inner : List Task) → node_at oracle site.tree id ≡ Some item → disabled_by item.attrs ≡ None → awaited_attr oracle s site id item ≡ None
-      → Handled oracle s t site item inner → (rest : List Task) → Leads oracle (Visit site id ∷ rest) s (inner ++ rest) t
+      → IsHandled oracle s t site item inner → (rest : List Task) → Leads oracle (Visit site id ∷ rest) s (inner ++ rest) t
   leads_handled s t site id item inner found on none handled rest =
-      leads_done site id rest s t handled.effect inner (does_enabled oracle s site id item found on None none handled.effect handled.handled) handled.done
+      let gave = handled.gave in
+      let then = handled.handled in
+      leads_done site id rest s t then.effect inner (does_enabled oracle s site id item found on None none then.effect (gave.session, gave.adds, handled.given, gave.impls, then.handled)) then.done
 
   -- or it waits for the macro of an attribute
   pub leads_waits : (s t : State) (site : Site) (id : ModItemId) (item : ItemNode) (attr : AttrId × Attr) → node_at oracle site.tree id ≡ Some item → disabled_by item.attrs ≡ None → awaited_attr oracle s site id item ≡ Some attr

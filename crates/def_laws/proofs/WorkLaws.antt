@@ -43,7 +43,7 @@ use Rattle.def_rules.specs.Modules.{bring_if, file_tree, inline_contents, inner_
 use Rattle.def_rules.specs.Rules.{Rule, Follows, rule_of, declares, declares_struct, opens_module, opens_block, queues, binds_crate, notes_impl, notes_const, defines_rules, defines_macro, calls_macro}
 use Rattle.def_rules.specs.State.{State, Effect, followed_by, only, Site, Task, Visit}
 use Rattle.def_rules.specs.Waiting.{WrittenCall}
-use Rattle.def_laws.specs.Performs.{Handled}
+use Rattle.def_laws.specs.Performs.{IsHandled}
 use Rattle.def_laws.specs.Work.{AreBelow, IsBelow, rank, rank_of, rank_work, task_work, weight, work}
 use Rattle.def_laws.proofs.LevelsLaws.{IsDeeper, declaration_deeper, descend_deeper}
 
@@ -261,11 +261,12 @@ module _ (oracle : Oracle) (s : State) (site : Site) (id : ModItemId) (item : It
 
 -- what is left of a handled item is less work than the item
 pub handled_less : (oracle : Oracle) (s t : State) (site : Site) (id : ModItemId) (item : ItemNode) (inner : List Task) → node_at oracle site.tree id ≡ Some item → id.0 < 2 ^ 64 → length inner ≤ 2 ^ 64 + 1
-    → Handled oracle s t site item inner → 1 + work inner < task_work (Visit site id)
+    → IsHandled oracle s t site item inner → 1 + work inner < task_work (Visit site id)
 handled_less oracle s t site id item inner found small few handled =
     let later = block_later (oracle.item_tree site.tree) id item found in
-    let all = follows_below oracle (record s { session = handled.handled.0 }) site id item small (rule_of item.kind) later handled.effect handled.handled.2 in
-    few_below (rank site id) inner (below_last (rank site id) handled.done.puts inner (subst (AreBelow (rank site id)) handled.done.tasks all)) few
+    let then = handled.handled in
+    let all = follows_below oracle (record handled.given { session = then.handled.0 }) site id item small (rule_of item.kind) later then.effect then.handled.2 in
+    few_below (rank site id) inner (below_last (rank site id) then.done.puts inner (subst (AreBelow (rank site id)) then.done.tasks all)) few
 
 -- an item that leads to nothing is some work
 pub nothing_less : (site : Site) (id : ModItemId) → 1 + work [] < task_work (Visit site id)

@@ -1,11 +1,14 @@
 -- What waits for macros, by how deep it lies: it ranks lower than the items that queue it.
 use Rattle.std.specs.Prelude.{◌≡◌, ◌⊎◌, ◌<◌, ◌≤◌, ℕ, ◌+◌, ◌-◌, ◌*◌, ◌^◌, cond, nat_lt, List, [], ◌∷◌, ◌++◌, Contains, sum_by}
+use Rattle.item_tree.specs.declared.ids.FileAstId.{FileAstId}
+use Rattle.item_tree.specs.declared.ids.InFile.{InFile}
 use Rattle.def_ids.specs.declared.ids.ModuleId.{ModuleId}
+use Rattle.def_rules.specs.declared.deferred.DeferredDerive.{DeferredDerive}
 use Rattle.def_rules.specs.Calls.{deepest}
 use Rattle.def_modules.specs.Maps.{facts_in}
 use Rattle.def_modules.specs.MapState.{MapState}
 use Rattle.def_rules.specs.State.{State, Task, Visit, with_map}
-use Rattle.def_rules.specs.Waiting.{Expansion, MacroDirective, MacroDirectiveKind, FnLike, Attr, Derive}
+use Rattle.def_rules.specs.Waiting.{Deferrals, Expansion, MacroDirective, MacroDirectiveKind, FnLike, Attr, Derive}
 use Rattle.def_laws.specs.Work.{weight}
 
 -- how far what waits is from the deepest, as a rank that falls along a run: of one depth, an item that waits for an attribute ranks above calls and derives
@@ -44,10 +47,15 @@ pub record Queues (rank : ℕ) (s t : State) : Type 0 where
 pub record WaitsAlike (s t : State) : Type 0 where
   pub macros : t.macros ≡ s.macros
   pub expansions : t.expansions ≡ s.expansions
+  pub deferred : t.deferred ≡ s.deferred
 
--- something waits in a module: a call, or an expansion that is to be walked
+-- a derive is deferred in a module
+abbrev pub DefersIn : Deferrals → ModuleId → Type 0
+DefersIn deferred at = (e : InFile FileAstId × List DeferredDerive) × (d : DeferredDerive) × Contains deferred e × Contains e.1 d × (d.module_id ≡ at)
+
+-- something waits in a module: a macro, an expansion that is to be walked, or a derive that is deferred
 abbrev pub WaitsIn : State → ModuleId → Type 0
-WaitsIn s at = ((d : MacroDirective) × Contains s.macros d × (d.scope ≡ at)) ⊎ ((e : Expansion) × Contains s.expansions e × (e.scope ≡ at))
+WaitsIn s at = ((d : MacroDirective) × Contains s.macros d × (d.scope ≡ at)) ⊎ (((e : Expansion) × Contains s.expansions e × (e.scope ≡ at)) ⊎ DefersIn s.deferred at)
 
 -- what an expansion of this depth weighs: more than 2^64 macros that wait and rank lower
 abbrev pub expansion_work : ℕ → ℕ
@@ -57,9 +65,17 @@ expansion_work depth = weight (depth_rank depth)
 abbrev pub macro_work : MacroDirective → ℕ
 macro_work d = 2 * weight (macro_rank d)
 
+-- what derives weigh that are deferred for an item: each as much as its expansion
+abbrev pub derives_work : List DeferredDerive → ℕ
+derives_work derives = sum_by (λ (d : DeferredDerive). expansion_work d.depth) derives
+
+-- those of all items
+abbrev pub deferred_work : Deferrals → ℕ
+deferred_work deferred = sum_by (λ (e : InFile FileAstId × List DeferredDerive). derives_work e.1) deferred
+
 -- what waits
 abbrev pub waiting_work : State → ℕ
-waiting_work s = sum_by macro_work s.macros + sum_by (λ (e : Expansion). expansion_work e.depth) s.expansions
+waiting_work s = sum_by macro_work s.macros + sum_by (λ (e : Expansion). expansion_work e.depth) s.expansions + deferred_work s.deferred
 
 -- only calls were recorded, which no path reads
 pub record OnlyInvokes (s t : State) : Type 0 where

@@ -2,12 +2,14 @@
 use Rattle.std.specs.Prelude.{◌≡◌, ◌≤◌, ◌+◌, ◌*◌, List, [], ◌++◌, length, Option}
 use Rattle.item_tree.specs.declared.items.ItemNode.{ItemNode}
 use Rattle.def_ids.specs.declared.ids.ModuleId.{ModuleId}
+use Rattle.def_interner.specs.Session.{AddsLocations, Session}
 use Rattle.def_bindings.specs.declared.bindings.Entry.{Entry}
 use Rattle.def_bindings.specs.declared.visibility.Visibility.{Visibility}
 use Rattle.def_oracle.specs.Oracle.{Oracle}
 use Rattle.def_laws.specs.Travels.{Travels}
 use Rattle.def_rules.specs.Calls.{expansion_effect}
-use Rattle.def_rules.specs.Rules.{HandlesInSession}
+use Rattle.def_rules.specs.Deferred.{ImplsAreGiven}
+use Rattle.def_rules.specs.Rules.{HandlesByKind}
 use Rattle.def_rules.specs.Directives.{tries}
 use Rattle.def_rules.specs.State.{State, Site, Task, Effect, followed_by, order, with_content}
 use Rattle.def_rules.specs.Waiting.{Expansion, MacroDirective, WrittenDerive}
@@ -45,11 +47,23 @@ pub record IsDone (oracle : Oracle) (effect : Effect) (t : State) (inner : List 
   pub tasks : effect.tasks ≡ puts ++ inner
   pub performs : Performs oracle puts effect.state t
 
--- an item was handled, and what it puts was put: its own items are left
+-- an item was handled by its kind, and what it puts was put: its own items are left
 pub record Handled (oracle : Oracle) (s t : State) (site : Site) (item : ItemNode) (inner : List Task) : Type 0 where
   pub effect : Effect
-  pub handled : HandlesInSession oracle s site item effect
+  pub handled : HandlesByKind oracle s site item effect
   pub done : IsDone oracle effect t inner
+
+-- the derives that are deferred for an item gave their impls, in a session that may have more locations
+pub record GaveImpls (oracle : Oracle) (s : State) (site : Site) (item : ItemNode) (given : State) : Type 0 where
+  pub session : Session
+  pub adds : AddsLocations s.session session
+  pub impls : ImplsAreGiven oracle (record s { session = session }) site item given
+
+-- so they did, and then the item was handled by its kind
+pub record IsHandled (oracle : Oracle) (s t : State) (site : Site) (item : ItemNode) (inner : List Task) : Type 0 where
+  pub given : State
+  pub gave : GaveImpls oracle s site item given
+  pub handled : Handled oracle given t site item inner
 
 -- derives of an attribute were tried: each waits, or its expansion does
 pub record Tried (oracle : Oracle) (d : MacroDirective) (derives : List WrittenDerive) (s t : State) : Type 0 where

@@ -1,10 +1,10 @@
 -- Runs from some tasks to others, and what they keep.
-use Rattle.std.specs.Prelude.{◌≡◌, ℕ, List}
+use Rattle.std.specs.Prelude.{◌≡◌, ◌≤◌, ℕ, List}
 use Rattle.def_ids.specs.declared.ids.ModuleId.{ModuleId}
 use Rattle.def_bindings.specs.declared.bindings.Slot.{Slot}
 use Rattle.def_oracle.specs.Oracle.{Oracle}
 use Rattle.def_rules.specs.State.{State, Task, Event, Moment}
-use Rattle.def_laws.specs.Depths.{AreVisitsBelow, Queues}
+use Rattle.def_laws.specs.Depths.{AreVisitsBelow, Queues, deferred_work}
 use Rattle.def_laws.specs.Sound.{IsRaisedIn, IsSound, KeepsSound}
 use Rattle.def_laws.specs.Own.{Stands}
 use Rattle.def_rules.specs.Steps.{Reaches, IsKeptAlong}
@@ -28,8 +28,9 @@ pub record Collects (oracle : Oracle) (tasks : List Task) (s : State) (tasks' : 
   pub keeps : KeepsSound tasks s t
   pub raised : Stands tasks s → IsSound s → StaysRaised runs
 
--- and no expansion comes or goes, and what is queued ranks lower than what is visited, where no macro or expansion has its turn
+-- and no expansion comes or goes, what is deferred weighs no more, and what is queued ranks lower than what is visited, where no macro or expansion has its turn
 pub record Leads (oracle : Oracle) (tasks : List Task) (s : State) (tasks' : List Task) (t : State) : Type 0 where
   pub collects : Collects oracle tasks s tasks' t
   pub expansions : t.expansions ≡ s.expansions
+  pub deferred : deferred_work t.deferred ≤ deferred_work s.deferred
   pub queues : (rank : ℕ) → AreVisitsBelow rank tasks → AreVisitsBelow rank tasks' × Queues rank s t

@@ -114,10 +114,14 @@ helper_of found call name = record { name = name; macro_id = found.id; by = Left
 abbrev pub with_derive_call : MacroDirective → WrittenDerive → MacroCallId → ModuleState → ModuleState
 with_derive_call directive written call = called_at directive.position written.id written.pos (Left call)
 
--- the map in which a derive has its call: it stands at the derive's place, and the macro's helpers are read at the item
+-- the map in which the helpers that the crate of a derive's macro shows are read at its item
+abbrev pub with_shown_helpers : Oracle → MapState → MacroDirective → MacroDefId → MacroCallId → MapState
+with_shown_helpers oracle m directive found call = with_helpers m directive.position (map (helper_of found call) (helper_names oracle m.id.krate found))
+
+-- the map in which a derive has its call too, which stands at the derive's place
 abbrev pub derived_map : Oracle → MapState → MacroDirective → WrittenDerive → MacroDefId → MacroCallId → MapState
 derived_map oracle m directive written found call =
-    with_helpers (with_module m directive.scope.index (with_derive_call directive written call)) directive.position (map (helper_of found call) (helper_names oracle m.id.krate found))
+    with_module (with_shown_helpers oracle m directive found call) directive.scope.index (with_derive_call directive written call)
 
 -- so the state
 abbrev pub derived : Oracle → State → MacroDirective → WrittenDerive → MacroDefId → MacroCallId → State

@@ -1,5 +1,5 @@
 -- Macros that wait: what one is told each time that it has its turn, what it does then, and expansions that are to be walked.
-use Rattle.std.specs.Prelude.{◌≡◌, Bool, true, false, List, [], ◌∷◌, ◌++◌, map, Option, None, Some, Result, Ok, Err, Contains}
+use Rattle.std.specs.Prelude.{◌≡◌, ℕ, Bool, true, false, List, [], ◌∷◌, ◌++◌, map, Option, None, Some, Result, Ok, Err, Contains}
 use Rattle.item_tree.specs.declared.ids.FileAstId.{FileAstId}
 use Rattle.item_tree.specs.declared.ids.InFile.{InFile}
 use Rattle.item_tree.specs.declared.ids.MacroCallId.{MacroCallId}
@@ -17,7 +17,8 @@ use Rattle.def_paths.specs.Sources.{World}
 use Rattle.def_rules.specs.Attributes.{AttrUse, PassesOver, ReadsDerives, ReplacesItem, activated, attr_macro, attr_query, attr_use, directive_reported, is_helper, item_site, passed_over}
 use Rattle.def_rules.specs.Calls.{answer_by, call_query, expansion_effect, with_invocations}
 use Rattle.def_rules.specs.declared.diagnostics.DefDiagnosticKind.{DefDiagnosticKind}
-use Rattle.def_rules.specs.Derives.{derive_call, derive_directive, derive_macro, derive_paths, derived, derives_from, may_derive, with_list}
+use Rattle.def_rules.specs.Deferred.{deferral, deferred_derive, deferring, expanding_deferred}
+use Rattle.def_rules.specs.Derives.{derive_call, derive_directive, derive_macro, derive_paths, derived, derives_from, may_derive, with_list, with_shown_helpers}
 use Rattle.def_rules.specs.Items.{node_at}
 use Rattle.def_rules.specs.State.{State, Effect, Task, TryDerive, Visit, followed_by, only, with_map, world}
 use Rattle.def_rules.specs.Waiting.{Expansion, MacroDirective, MacroDirectiveKind, FnLike, Attr, Derive, WrittenAttr, WrittenCall, WrittenDerive}
@@ -32,6 +33,8 @@ pub data Turn : Type 0 where
   GivesCall : MacroCallId → Turn
   -- it leaves: it is a derive that has its call, whose expansion is to be walked
   GivesDerive : MacroCallId → Turn
+  -- it leaves: its attribute is given a call, whose expansion is to stand in the item's place
+  Replaces : MacroCallId → Turn
   -- it leaves: these derives are tried, and its item is walked without this attribute
   WalksItem : List WrittenDerive → WrittenAttr → Turn
 
@@ -74,7 +77,7 @@ abbrev pub use_told : Oracle → State → MacroDirective → WrittenAttr → Ma
 use_told oracle s directive written found PassesOver = record { state = s; turn = WalksItem [] written }
 use_told oracle s directive written found ReadsDerives = list_told oracle s directive written found (derive_paths written (may_derive (node_at oracle written.tree written.item)))
 use_told oracle s directive written found ReplacesItem =
-    record { state = activated s directive.position written.id; turn = GivesCall (oracle.make_attr_call (attr_query s directive written found)) }
+    record { state = activated s directive.position written.id; turn = Replaces (oracle.make_attr_call (attr_query s directive written found)) }
 
 -- an attribute whose macro is not found stays
 abbrev pub attr_told : Oracle → State → MacroDirective → WrittenAttr → Option MacroDefId → Told
@@ -130,6 +133,10 @@ given_state s before directive behind call = expanding (with_invocations s direc
 abbrev pub walked_state : State → List MacroDirective → MacroDirective → List MacroDirective → WrittenAttr → State
 walked_state s before directive behind written = record (passed_over s directive.position.file written) { macros = before ++ behind }
 
+-- where its attribute is called, the derives that are deferred for its item are expanded too
+abbrev pub replaced_state : State → List MacroDirective → MacroDirective → List MacroDirective → MacroCallId → State
+replaced_state s before directive behind call = given_state (expanding_deferred s directive.position) before directive behind call
+
 -- each of these derives of an attribute is tried
 abbrev pub tries : MacroDirective → List WrittenDerive → List Task
 tries directive derives = map (λ written. TryDerive directive written) derives
@@ -139,14 +146,21 @@ abbrev pub turn_effect : State → List MacroDirective → MacroDirective → Li
 turn_effect s before directive behind Stays = only s
 turn_effect s before directive behind (GivesCall call) = only (given_state s before directive behind call)
 turn_effect s before directive behind (GivesDerive call) = only (expanding s (before ++ behind) directive call)
+turn_effect s before directive behind (Replaces call) = only (replaced_state s before directive behind call)
 turn_effect s before directive behind (WalksItem derives written) =
     followed_by (walked_state s before directive behind written) (tries directive derives ++ Visit (item_site s directive written) written.item ∷ [])
 
--- a derive of an attribute is tried: with a call its expansion is to be walked, else it waits
+-- a derive that was given a call at once is deferred, or the call is recorded and its expansion is to be walked
+abbrev pub called_state : Oracle → State → MacroDirective → WrittenDerive → MacroDefId → MacroCallId → Option ℕ → State
+called_state oracle s directive written found call (Some n) =
+    deferring (with_map s (with_shown_helpers oracle s.map directive found call)) directive.position (deferral directive written call n)
+called_state oracle s directive written found call None = expanding (derived oracle s directive written found call) s.macros (derive_directive directive written) call
+
+-- a derive of an attribute is tried: where its macro is found it is called, else it waits
 abbrev pub tried_effect : Oracle → State → MacroDirective → WrittenDerive → Option MacroDefId → Effect
 tried_effect oracle s directive written None = only (record s { macros = s.macros ++ derive_directive directive written ∷ [] })
 tried_effect oracle s directive written (Some found) =
-    only (expanding (derived oracle s directive written found (derive_call oracle s directive written found)) s.macros (derive_directive directive written) (derive_call oracle s directive written found))
+    only (called_state oracle s directive written found (derive_call oracle s directive written found) (deferred_derive oracle found))
 
 -- a macro that waits has its turn
 pub record MacroStep (oracle : Oracle) (s : State) (effect : Effect) : Type 0 where

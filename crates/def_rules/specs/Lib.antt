@@ -8,6 +8,7 @@ pub mod Macros
 pub mod Calls
 pub mod Attributes
 pub mod Derives
+pub mod Deferred
 pub mod Directives
 pub mod ExternCrates
 pub mod Rules

@@ -24,6 +24,7 @@ use Rattle.def_bindings.specs.declared.bindings.Namespace.TheVariants.{Types, Va
 use Rattle.def_modules.specs.Scopes.{with_extern_block, with_extern_crate, with_impl, with_unnamed_const}
 use Rattle.def_oracle.specs.Oracle.{Oracle}
 use Rattle.def_rules.specs.declared.diagnostics.DefDiagnosticKind.TheVariants.{UnconfiguredCode}
+use Rattle.def_rules.specs.Deferred.{ImplsAreGiven}
 use Rattle.def_rules.specs.State.{State, Effect, only, followed_by, reported, Site}
 use Rattle.def_rules.specs.Waiting.{WrittenCall}
 use Rattle.def_rules.specs.Items.{IsNumber, ctor_vis, declared_effect, diagnostic, node_at, noted_in, new_imports, struct_effect, walk, written_vis}
@@ -112,10 +113,16 @@ Follows oracle s site item (calls_macro written) effect = effect ≡ call_effect
 abbrev pub Handles : Oracle → State → Site → ItemNode → ModItemKind → Effect → Type 0
 Handles oracle s site item kind effect = Follows oracle s site item (rule_of kind) effect
 
--- an item is handled in a session that may have more locations
+-- so it is in a session that may have more locations
+abbrev pub HandlesByKind : Oracle → State → Site → ItemNode → Effect → Type 0
+HandlesByKind oracle s site item effect =
+    (session : Session) × AddsLocations s.session session × Handles oracle (record s { session = session }) site item item.kind effect
+
+-- an item is handled: the derives that are deferred for it give their impls, and then its kind's rule is followed
 abbrev pub HandlesInSession : Oracle → State → Site → ItemNode → Effect → Type 0
 HandlesInSession oracle s site item effect =
-    (session : Session) × AddsLocations s.session session × Handles oracle (record s { session = session }) site item item.kind effect
+    (session : Session) × AddsLocations s.session session × (given : State) × ImplsAreGiven oracle (record s { session = session }) site item given
+    × HandlesByKind oracle given site item effect
 
 -- an item that cfg does not disable: one with an attribute that may be a macro waits for it, any other is handled
 abbrev pub VisitsEnabled : Oracle → State → Site → ModItemId → ItemNode → Option (AttrId × Attr) → Effect → Type 0

@@ -38,6 +38,7 @@ seeded_state w session =
       imports = [];
       skipped = λ file id. None;
       active = λ position. [];
+      deferred = [];
       macros = [];
       expansions = [];
       diagnostics = [];

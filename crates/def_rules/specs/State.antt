@@ -32,7 +32,7 @@ use Rattle.def_modules.specs.Updates.{set_where}
 use Rattle.def_parts.specs.Directories.{Directory}
 use Rattle.def_rules.specs.declared.diagnostics.DefDiagnostic.{DefDiagnostic}
 use Rattle.def_rules.specs.Globs.{Targets}
-use Rattle.def_rules.specs.Waiting.{Expansion, MacroDirective, WrittenDerive}
+use Rattle.def_rules.specs.Waiting.{Deferrals, Expansion, MacroDirective, WrittenDerive}
 
 -- what a run is given: the oracle, the seeded map, the tree, and for a block the names of crates that its crate knows
 pub record Setting : Type 0 where
@@ -88,6 +88,8 @@ pub record State : Type 0 where
   pub skipped : HirFileId → ModItemId → Option AttrId
   -- of the item at each position, the attributes that expansions are not to see
   pub active : InFile FileAstId → List AttrId
+  -- the builtin derives that are not expanded, each until its item is handled or replaced; the order of positions tells nothing
+  pub deferred : Deferrals
   -- the macro calls, items and derives that wait for their macros
   pub macros : List MacroDirective
   -- the expansions that are to be walked, of what waited

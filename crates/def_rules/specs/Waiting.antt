@@ -1,5 +1,5 @@
 -- What waits for macros, and expansions that are to be walked.
-use Rattle.std.specs.Prelude.{ℕ, Option}
+use Rattle.std.specs.Prelude.{ℕ, List, Option}
 use Rattle.item_tree.specs.declared.attrs.Attr as attrs
 use Rattle.item_tree.specs.declared.ids.AttrId.{AttrId}
 use Rattle.item_tree.specs.declared.ids.FileAstId.{FileAstId}
@@ -12,6 +12,7 @@ use Rattle.item_tree.specs.declared.items.ExpandTo.{ExpandTo}
 use Rattle.item_tree.specs.declared.mod_path.ModPath.{ModPath}
 use Rattle.def_ids.specs.declared.ids.ItemContainerId.{ItemContainerId}
 use Rattle.def_ids.specs.declared.ids.ModuleId.{ModuleId}
+use Rattle.def_rules.specs.declared.deferred.DeferredDerive.{DeferredDerive}
 
 -- a macro call as it is written
 pub record WrittenCall : Type 0 where
@@ -66,3 +67,7 @@ pub record Expansion : Type 0 where
   pub call : MacroCallId
   -- the item in whose place they stand, where an attribute was called
   pub replaces : Option (InFile FileAstId)
+
+-- derives that are deferred, in order, by the positions of their items
+abbrev pub Deferrals : Type 0
+Deferrals = List (InFile FileAstId × List DeferredDerive)

@@ -2,8 +2,10 @@
 //! follows of each run, and the code that is proved to take such runs, lie above.
 #![tactic(auto)]
 
+mod deferred;
 mod diagnostics;
 mod outcome;
 
+pub use deferred::DeferredDerive;
 pub use diagnostics::{DefDiagnostic, DefDiagnosticKind, DefDiagnostics};
 pub use outcome::{Collected, Edge, LeftImport, LeftMacro, LeftMacroKind, Outcome};

@@ -65,7 +65,7 @@ abbrev walked : (m : Moment) × Reaches setting.oracle (start setting no_session
 walked = (
   _,
   join (one (performs _ _ _ refl refl refl))
-      (join (one (performs _ _ _ refl (session, more, (0, Some foo, refl, refl, refl)) refl))
+      (join (one (performs _ _ _ refl (session, more, _, refl, (session, unchanged session, (0, Some foo, refl, refl, refl))) refl))
       (one (performs _ _ _ refl refl refl))),
 )
 
@@ -115,7 +115,7 @@ expanded = (
   _,
   join (expansion_taken setting.oracle asked_to pending [] refl refl)
       (join (one (performs _ _ _ refl refl refl))
-      (join (one (performs _ _ _ refl (session, unchanged session, (0, refl, refl)) refl))
+      (join (one (performs _ _ _ refl (session, unchanged session, _, refl, (session, unchanged session, (0, refl, refl))) refl))
       (join (one (performs _ _ _ refl refl refl))
       (one (performs _ _ _ refl refl refl))))),
 )

@@ -103,13 +103,13 @@ abbrev pub walked : (m : Moment) × Reaches setting.oracle (start setting no_ses
 walked = (
   _,
   join (one (performs _ _ _ refl refl refl))
-      (join (one (performs _ _ _ refl (session, more, (0, Some foo, refl, refl, refl)) refl))
-      (join (one (performs _ _ _ refl (session, unchanged session, refl) refl))
+      (join (one (performs _ _ _ refl (session, more, _, refl, (session, unchanged session, (0, Some foo, refl, refl, refl))) refl))
+      (join (one (performs _ _ _ refl (session, unchanged session, _, refl, (session, unchanged session, refl)) refl))
       (join (one (performs _ _ _ refl refl refl))
-      (join (one (performs _ _ _ refl (session, unchanged session, (0, refl, refl)) refl))
+      (join (one (performs _ _ _ refl (session, unchanged session, _, refl, (session, unchanged session, (0, refl, refl))) refl))
       (join (one (performs _ _ _ refl refl refl))
       (join (one (performs _ _ _ refl refl refl))
-      (join (one (performs _ _ _ refl (session, unchanged session, (1, refl, refl)) refl))
+      (join (one (performs _ _ _ refl (session, unchanged session, _, refl, (session, unchanged session, (1, refl, refl))) refl))
       (join (one (performs _ _ _ refl refl refl))
       (one (performs _ _ _ refl refl refl)))))))))),
 )

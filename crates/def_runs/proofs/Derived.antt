@@ -95,9 +95,9 @@ abbrev walked : (m : Moment) × Reaches setting.oracle (start setting no_session
 walked = (
   _,
   join (one (performs _ _ _ refl refl refl))
-      (join (one (performs _ _ _ refl (session, more, (0, refl, refl)) refl))
+      (join (one (performs _ _ _ refl (session, more, _, refl, (session, unchanged session, (0, refl, refl))) refl))
       (join (one (performs _ _ _ refl refl refl))
-      (join (one (performs _ _ _ refl (session, unchanged session, (0, Some foo, refl, refl, refl)) refl))
+      (join (one (performs _ _ _ refl (session, unchanged session, _, refl, (session, unchanged session, (0, Some foo, refl, refl, refl))) refl))
       (one (performs _ _ _ refl refl refl))))),
 )
 
@@ -134,7 +134,7 @@ abbrev tried : (m : Moment) × Reaches setting.oracle asked_to m
 tried = (
   _,
   join (one (performs _ _ _ refl refl refl))
-      (join (one (performs _ _ _ refl (session, unchanged session, (0, refl, refl)) refl))
+      (join (one (performs _ _ _ refl (session, unchanged session, _, refl, (session, unchanged session, (0, refl, refl))) refl))
       (join (one (performs _ _ _ refl refl refl))
       (one (performs _ _ _ refl refl refl)))),
 )

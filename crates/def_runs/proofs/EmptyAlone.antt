@@ -65,7 +65,7 @@ bare_step a b (asks effect idle step is) bare = absurd (none_asked setting.oracl
 bare_step a b (expands effect idle step is) bare = absurd (none_taken setting.oracle a.state effect bare.state.waits.2 step)
 
 begins : IsBareAt (start setting no_session)
-begins = record { tasks = inl refl; state = record { map = refl; content = refl; waits = (refl, refl, refl); diagnostics = refl } }
+begins = record { tasks = inl refl; state = record { map = refl; content = refl; waits = (refl, refl, refl, refl); diagnostics = refl } }
 
 module _ (after : Session) (answer : Answer) (answers : Answers setting no_session after answer) where
   ends : IsBare answers.run.end.state

@@ -151,7 +151,7 @@ no_recording at entry (Some g) name p foreign h = cc
 -- nor is any other task
 task_records_nothing : (oracle : Oracle) (s : State) (task : Task) (effect : Effect) (p : Import) (foreign : Bool) → Does oracle s task effect → effect.events ≡ Recorded p foreign ∷ [] → ⊥
 task_records_nothing oracle s (Enter at directory) effect p foreign does h = let none = ap (λ (e : Effect). e.events) does in cc
-task_records_nothing oracle s (Visit site id) effect p foreign does h = let none = (visits_footprint oracle s site id effect does).events in cc
+task_records_nothing oracle s (Visit site id) effect p foreign does h = let none = (visits_footprint oracle s site id effect does).foot.events in cc
 task_records_nothing oracle s (Put at entry) effect p foreign does h = no_recording at entry (glob_of entry.origin) entry.name p foreign (sym (ap (λ (e : Effect). e.events) does) ∙ h)
 task_records_nothing oracle s (TryDerive directive written) effect p foreign does h = let none = ((tries_footprint oracle s directive written effect does).foot 0).events in cc
 task_records_nothing oracle s (Bring from into) effect p foreign does h = let none = ap (λ (e : Effect). e.events) does in cc

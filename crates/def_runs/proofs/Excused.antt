@@ -69,10 +69,10 @@ abbrev walked : (m : Moment) × Reaches setting.oracle (start setting no_session
 walked = (
   _,
   join (one (performs _ _ _ refl refl refl))
-      (join (one (performs _ _ _ refl (session, grown numbers, (0, refl, refl)) refl))
-      (join (one (performs _ _ _ refl (session, unchanged session, (0, refl, refl)) refl))
-      (join (one (performs _ _ _ refl (session, unchanged session, (1, refl, refl)) refl))
-      (one (performs _ _ _ refl (session, unchanged session, (2, refl, refl)) refl))))),
+      (join (one (performs _ _ _ refl (session, grown numbers, _, refl, (session, unchanged session, (0, refl, refl))) refl))
+      (join (one (performs _ _ _ refl (session, unchanged session, _, refl, (session, unchanged session, (0, refl, refl))) refl))
+      (join (one (performs _ _ _ refl (session, unchanged session, _, refl, (session, unchanged session, (1, refl, refl))) refl))
+      (one (performs _ _ _ refl (session, unchanged session, _, refl, (session, unchanged session, (2, refl, refl))) refl))))),
 )
 
 abbrev last : Moment

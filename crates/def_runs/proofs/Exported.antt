@@ -66,10 +66,10 @@ abbrev run : (a : Moment) × Reaches setting.oracle (start setting no_session) a
 run = (
   _,
   join (one (performs _ _ _ refl refl refl))
-      (join (one (performs _ _ _ refl (session, more, refl) refl))
+      (join (one (performs _ _ _ refl (session, more, _, refl, (session, unchanged session, refl)) refl))
       (join (one (performs _ _ _ refl refl refl))
       (join (one (performs _ _ _ refl refl refl))
-      (join (one (performs _ _ _ refl (session, unchanged session, (0, Some foo, refl, refl, refl)) refl))
+      (join (one (performs _ _ _ refl (session, unchanged session, _, refl, (session, unchanged session, (0, Some foo, refl, refl, refl))) refl))
       (one (performs _ _ _ refl refl refl)))))),
 )
 

@@ -66,10 +66,10 @@ abbrev inside : (a : Moment) × Reaches setting.oracle (start setting no_session
 inside = (
   _,
   join (one (performs _ _ _ refl refl refl))
-      (join (one (performs _ _ _ refl (session, more, refl) refl))
+      (join (one (performs _ _ _ refl (session, more, _, refl, (session, unchanged session, refl)) refl))
       (join (one (performs _ _ _ refl refl refl))
       (join (one (performs _ _ _ refl refl refl))
-      (one (performs _ _ _ refl (session, unchanged session, (0, Some foo, refl, refl, refl)) refl))))),
+      (one (performs _ _ _ refl (session, unchanged session, _, refl, (session, unchanged session, (0, Some foo, refl, refl, refl))) refl))))),
 )
 
 -- so far foo is a textual macro of `m` alone
@@ -81,7 +81,7 @@ abbrev walked : (a : Moment) × Reaches setting.oracle inside.0 a
 walked = (
   _,
   join (one (performs _ _ _ refl refl refl))
-      (one (performs _ _ _ refl (session, unchanged session, (0, refl, refl)) refl)),
+      (one (performs _ _ _ refl (session, unchanged session, _, refl, (session, unchanged session, (0, refl, refl))) refl)),
 )
 
 abbrev walked_to : Moment

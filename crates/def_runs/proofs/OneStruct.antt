@@ -14,7 +14,7 @@ use Rattle.def_rules.specs.Start.{start}
 use Rattle.def_rules.specs.State.{Setting, Moment, PutExplicit}
 use Rattle.def_rules.specs.Steps.{Reaches, join, one, performs}
 use Rattle.def_runs.proofs.RowLemmas.{answer_of, answers_without, no_targets}
-use Rattle.def_runs.proofs.Rows.{crate_of, grown, loc, module_at, no_session, session_with}
+use Rattle.def_runs.proofs.Rows.{crate_of, grown, loc, module_at, no_session, session_with, unchanged}
 use Rattle.def_runs.proofs.Trees.{items, named, node, tree_with, unit_struct}
 use Rattle.def_runs.proofs.Vectors.{nothing_left}
 
@@ -40,7 +40,7 @@ abbrev pub ran : (end : Moment) × Reaches setting.oracle (start setting no_sess
 ran = (
   _,
   join (one (performs _ _ _ refl refl refl))
-      (join (one (performs _ _ _ refl (session, grown numbers, (0, refl, refl)) refl))
+      (join (one (performs _ _ _ refl (session, grown numbers, _, refl, (session, unchanged session, (0, refl, refl))) refl))
       (join (one (performs _ _ _ refl refl refl))
       (one (performs _ _ _ refl refl refl)))),
 )

@@ -1,7 +1,8 @@
 -- Each answer of `pub struct S;` binds S, whatever run is taken: so the map as it was seeded, with nothing bound, is no answer.
-use Rattle.std.proofs.Common.{◌≡◌, inl, inr, ℕ, ◌+◌, Option, Some, None, List, [], ◌∷◌, ◌++◌, refl, sym, subst, ap, ◌∙◌, append-nil}
+use Rattle.std.proofs.Common.{◌≡◌, inl, inr, ℕ, true, ◌+◌, Option, Some, None, List, [], ◌∷◌, ◌++◌, refl, sym, subst, ap, ◌∙◌, append-nil}
 use Rattle.std.proofs.Math.Seq.{drop-nil}
 use Rattle.item_tree.specs.declared.ids.AttrId.{AttrId}
+use Rattle.item_tree.specs.declared.items.ItemNode.{ItemNode}
 use Rattle.item_tree.specs.declared.name.Name.{Name}
 use Rattle.item_tree.specs.Attrs.{iter_after, numbered_from}
 use Rattle.def_ids.specs.declared.ids.Def.TheVariants.{Struct}
@@ -15,10 +16,11 @@ use Rattle.def_bindings.specs.Content.{Content, empty}
 use Rattle.def_globs.proofs.ListLaws.{none_in, only_in}
 use Rattle.def_laws.proofs.RunsLaws.{kept_along}
 use Rattle.def_rules.specs.Attributes.{first_unknown}
+use Rattle.def_rules.specs.Deferred.{GiveImpls, ImplsAreGiven, deferred_in, without_deferred}
 use Rattle.def_rules.specs.Headline.{Answers}
-use Rattle.def_rules.specs.Items.{put_declared}
+use Rattle.def_rules.specs.Items.{position_of, put_declared}
 use Rattle.def_rules.specs.Report.{Answer}
-use Rattle.def_rules.specs.Rules.{HandlesInSession, VisitsEnabled}
+use Rattle.def_rules.specs.Rules.{HandlesByKind, HandlesInSession, VisitsEnabled}
 use Rattle.def_rules.specs.Settled.{IsDeclared}
 use Rattle.def_rules.specs.Start.{first_site, start}
 use Rattle.def_rules.specs.State.{Site, State, Effect, Task, Enter, Visit, Event, PutExplicit, Moment, after, with_content, with_state}
@@ -76,10 +78,19 @@ is_handled : (a : Moment) (effect : Effect) → Does setting.oracle a.state (Vis
 is_handled a effect does =
     subst (λ o. VisitsEnabled setting.oracle a.state root (record { 0 = 0 }) (node 0 (unit_struct S)) o effect) (none_awaited a.state.map.krate.tools (a.state.skipped root.tree.file (record { 0 = 0 }))) does
 
+-- no derive is deferred for it, so it gives no impls
+gives_nothing : (s given : State) → s.deferred ≡ [] → ImplsAreGiven setting.oracle s root (node 0 (unit_struct S)) given → given ≡ s
+gives_nothing s given none gives =
+    let item : ItemNode = node 0 (unit_struct S) in
+    subst (λ ds. GiveImpls setting.oracle s root item true ds given) (ap (λ ds. deferred_in ds (position_of root item)) none) gives
+    ∙ (λ i. record s { deferred = (ap (λ ds. without_deferred ds (position_of root item)) none ∙ sym none) i })
+
 -- it is visited, in a session that may have more, and gets some number
 visited : (a : Moment) (rest : List Task) (effect : Effect) → IsOnWay a → a.events ≡ [] → rest ≡ [] → Does setting.oracle a.state (Visit root (record { 0 = 0 })) effect → Moves a rest effect
 visited a rest effect way none left visiting =
-    let does = is_handled a effect visiting in
+    let handled = is_handled a effect visiting in
+    let in_session : State = record a.state { session = handled.0 } in
+    let does = subst (λ s. HandlesByKind setting.oracle s root (node 0 (unit_struct S)) effect) (gives_nothing in_session handled.2 way.waits.3 handled.3) handled.4 in
     let n = does.2.0 in
     subst (Moves a rest) (sym does.2.2) (record {
       stage = puts_types n (ap (λ l. put_in Types n ∷ put_in Values n ∷ l) left) (append-nil a.events ∙ none);
@@ -140,7 +151,7 @@ goes_on a b (asks effect idle step is) way = absurd (none_asked setting.oracle a
 goes_on a b (expands effect idle step is) way = absurd (none_taken setting.oracle a.state effect way.waits.2 step)
 
 sets_out : IsOnWay (start setting no_session)
-sets_out = record { stage = begins refl refl; waits = (refl, refl, refl) }
+sets_out = record { stage = begins refl refl; waits = (refl, refl, refl, refl) }
 
 -- S is bound in types and in values, to one struct, public, by declaration
 record Binds (c : Content Visibility) : Type 0 where

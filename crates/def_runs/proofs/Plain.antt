@@ -66,14 +66,14 @@ abbrev pub walked : (m : Moment) × Reaches setting.oracle (start setting no_ses
 walked = (
   _,
   join (one (performs _ _ _ refl refl refl))
-      (join (one (performs _ _ _ refl (session, grown numbers, refl) refl))
+      (join (one (performs _ _ _ refl (session, grown numbers, _, refl, (session, unchanged session, refl)) refl))
       (join (one (performs _ _ _ refl refl refl))
       (join (one (performs _ _ _ refl refl refl))
-      (join (one (performs _ _ _ refl (session, unchanged session, (0, refl, refl)) refl))
+      (join (one (performs _ _ _ refl (session, unchanged session, _, refl, (session, unchanged session, (0, refl, refl))) refl))
       (join (one (performs _ _ _ refl refl refl))
       (join (one (performs _ _ _ refl refl refl))
-      (join (one (performs _ _ _ refl (session, unchanged session, (0, refl, refl)) refl))
-      (one (performs _ _ _ refl (session, unchanged session, (1, refl, refl)) refl))))))))),
+      (join (one (performs _ _ _ refl (session, unchanged session, _, refl, (session, unchanged session, (0, refl, refl))) refl))
+      (one (performs _ _ _ refl (session, unchanged session, _, refl, (session, unchanged session, (1, refl, refl))) refl))))))))),
 )
 
 abbrev pub walked_to : Moment

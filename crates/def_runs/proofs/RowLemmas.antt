@@ -20,7 +20,7 @@ use Rattle.def_laws.proofs.EveryNamespaceLaws.{every_namespace_along}
 use Rattle.def_laws.proofs.StaysLaws.{explicit_stays_along}
 use Rattle.def_rules.specs.declared.outcome.Outcome.{Outcome}
 use Rattle.def_rules.specs.Calls.{expansion_effect}
-use Rattle.def_rules.specs.Directives.{AllStay, ExpansionStep, GivesCall, GivesDerive, MacroStep, Stays, Turn, WalksItem, told, turn_effect}
+use Rattle.def_rules.specs.Directives.{AllStay, ExpansionStep, GivesCall, GivesDerive, Replaces, MacroStep, Stays, Turn, WalksItem, told, turn_effect}
 use Rattle.def_rules.specs.Headline.{Answers}
 use Rattle.def_rules.specs.Imports.{answer_now, is_ready, unresolved_imports}
 use Rattle.def_rules.specs.Recording.{ImportStep, NoneReady, import_effect}
@@ -103,6 +103,7 @@ abbrev pub stays : Turn → Bool
 stays Stays = true
 stays (GivesCall call) = false
 stays (GivesDerive call) = false
+stays (Replaces call) = false
 stays (WalksItem derives written) = false
 
 -- whether each macro that waits stays, as a test that computes
@@ -113,6 +114,7 @@ stays_is : (turn : Turn) → stays turn ≡ true → turn ≡ Stays
 stays_is Stays h = refl
 stays_is (GivesCall call) h = cc
 stays_is (GivesDerive call) h = cc
+stays_is (Replaces call) h = cc
 stays_is (WalksItem derives written) h = cc
 
 -- each macro that waits stays where the test says so
@@ -120,9 +122,9 @@ pub all_stay_by_test : (oracle : Oracle) (s : State) → each_stays oracle s ≡
 all_stay_by_test oracle s passes =
     record { stay = λ directive h. stays_is (told oracle s directive).turn (passes_in (λ d. stays (told oracle s d).turn) s.macros directive passes h) }
 
--- nothing waits for its turn: no import, no macro and no expansion
+-- nothing waits for its turn: no import, no macro and no expansion, nor any derive for its item
 abbrev pub NoneWaits : State → Type 0
-NoneWaits s = (s.imports ≡ []) × (s.macros ≡ []) × (s.expansions ≡ [])
+NoneWaits s = (s.imports ≡ []) × (s.macros ≡ []) × (s.expansions ≡ []) × (s.deferred ≡ [])
 
 -- nothing in any order is nothing
 pub none_in_any_order : {X : Type 0} (ys : List X) → IsPermutation [] ys → ys ≡ []
@@ -161,6 +163,7 @@ none_waits_rearranged s t waits same = (
   none_in_any_order t.imports (subst (λ ps. IsPermutation ps t.imports) waits.0 same.imports),
   ap (λ (x : State). x.macros) same.rest ∙ waits.1,
   ap (λ (x : State). x.expansions) same.rest ∙ waits.2,
+  ap (λ (x : State). x.deferred) same.rest ∙ waits.3,
 )
 
 -- what is answered of an end, with this outcome

@@ -35,7 +35,7 @@ abbrev pub walked : (m : Moment) × Reaches setting.oracle (start setting no_ses
 walked = (
   _,
   join (one (performs _ _ _ refl refl refl))
-      (one (performs _ _ _ refl (no_session, unchanged no_session, refl) refl)),
+      (one (performs _ _ _ refl (no_session, unchanged no_session, _, refl, (no_session, unchanged no_session, refl)) refl)),
 )
 
 abbrev pub walked_to : Moment

@@ -51,8 +51,8 @@ abbrev pub walked : (m : Moment) × Reaches setting.oracle (start setting no_ses
 walked = (
   _,
   join (one (performs _ _ _ refl refl refl))
-      (join (one (performs _ _ _ refl (no_session, unchanged no_session, refl) refl))
-      (one (performs _ _ _ refl (session, more, (0, Some foo, refl, refl, refl)) refl))),
+      (join (one (performs _ _ _ refl (no_session, unchanged no_session, _, refl, (no_session, unchanged no_session, refl)) refl))
+      (one (performs _ _ _ refl (session, more, _, refl, (session, unchanged session, (0, Some foo, refl, refl, refl))) refl))),
 )
 
 abbrev pub walked_to : Moment
@@ -97,7 +97,7 @@ expanded = (
   _,
   join (expansion_taken setting.oracle asked_to pending [] refl refl)
       (join (one (performs _ _ _ refl refl refl))
-      (join (one (performs _ _ _ refl (session, unchanged session, (0, refl, refl)) refl))
+      (join (one (performs _ _ _ refl (session, unchanged session, _, refl, (session, unchanged session, (0, refl, refl))) refl))
       (join (one (performs _ _ _ refl refl refl))
       (one (performs _ _ _ refl refl refl))))),
 )

@@ -89,6 +89,7 @@ impl DefCollector<'_> {
             missing_crates: _,
             mod_dirs: _,
             item_attrs: _,
+            deferred_builtin_derives: _,
             unresolved_imports: _,
             indeterminate_imports: _,
             unresolved_macros: _,

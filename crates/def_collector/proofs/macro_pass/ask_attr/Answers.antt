@@ -10,7 +10,7 @@ use Rattle.def_rules.specs.Directives.{Told, attr_told, item_told, use_told}
 use Rattle.def_rules.specs.State.{State}
 use Rattle.def_collector.proofs.DeriveLemmas.{derives_long, listed, unlisted}
 use Rattle.def_collector.proofs.MacroPassLemmas.{few_macros}
-use Rattle.def_collector.proofs.TurnLemmas.{attr_is, had_call, had_walk, item_is, no_turns, use_is}
+use Rattle.def_collector.proofs.TurnLemmas.{attr_is, had_replaced, had_walk, item_is, no_turns, use_is}
 use Rattle.def_collector.proofs.macro_pass.ask_attr.Goals as goal
 
 pub returns-then-is_helper-clause-turn : goal.returns-then-is_helper-clause-turn
@@ -67,4 +67,4 @@ returns-in_ok-replace_item-in-ReplacesItem-clause-turn g c =
     let written = written_attr_of c.args.written in
     let known = attr_is oracle s d written c.requires.kind c.is_helper.result (c.is_helper.ensures s) c.if-is_helper.false (world_lent g.D.SourceDatabase.oracle bound_by c.world-world.result) c.attr_macro.result c.world-world.ensures c.attr_macro.ensures in
     let is = use_is oracle s d written c.requires.kind c.in-Some.found c.attr_macro.result ReplacesItem known c.in-Some.is (sym c.attr_use.ensures ∙ ap attr_use_of c.in-ReplacesItem.is) in
-    had_call oracle s _ _ d (use_told oracle s d written c.in-Some.found ReplacesItem) (sym is) refl (c.in_ok-replace_item-in-ReplacesItem.ensures c.args.session.now) _ refl
+    had_replaced oracle s _ _ d (use_told oracle s d written c.in-Some.found ReplacesItem) (sym is) refl (c.in_ok-replace_item-in-ReplacesItem.ensures c.args.session.now) _ refl

@@ -2,7 +2,7 @@ use Rattle.std.proofs.Common.{arith}
 use Rattle.def_collector.specs.Collector.{state_of}
 use Rattle.def_interner.specs.Session.{session_of}
 use Rattle.def_interner.specs.SessionLaws.{adds_refl, adds_trans}
-use Rattle.def_laws.proofs.PassLaws.{alike_work, leads_alike, none_ready_same}
+use Rattle.def_laws.proofs.PassLaws.{leads_lighter, none_ready_same}
 use Rattle.def_laws.proofs.StepsLaws.{collects_sound, collects_trans}
 use Rattle.def_collector.proofs.MacroPassLemmas.{bare_after}
 use Rattle.def_collector.proofs.run.resolution_loop.Goals as goal
@@ -39,8 +39,8 @@ resolve_macros-smaller g c =
     let asked = state_of c.resolve_macros-in-resolve_macros.new.collector session in
     let after = state_of c.import_passes-in-resolve_macros.new.collector session in
     let less = c.in_ok-resolve_macros.ensures.turns.fewer c.if-branch.true in
-    let same = alike_work asked after (leads_alike asked after c.in_ok-import_passes-2.ensures.run) in
-    omega (arith, less, same)
+    let most = leads_lighter asked after c.in_ok-import_passes-2.ensures.run in
+    omega (arith, less, most)
 
 pub returns-in_err-resolve_macros-clause-session : goal.returns-in_err-resolve_macros-clause-session
 returns-in_err-resolve_macros-clause-session g c =

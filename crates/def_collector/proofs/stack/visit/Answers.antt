@@ -1,10 +1,12 @@
 use Rattle.std.proofs.Common.{arith, List, ◌∷◌, ◌++◌, ◌∙◌, subst, sym}
+use Rattle.def_interner.specs.Session.{session_of}
+use Rattle.def_interner.specs.SessionLaws.{adds_trans}
 use Rattle.def_items.specs.Parts.{list_site}
 use Rattle.def_collector.specs.declared.collector.DefCollector.{DefCollector}
 use Rattle.def_collector.specs.Collector.{state_of}
 use Rattle.def_collector.specs.Walk.{inner_of}
 use Rattle.def_rules.specs.State.{State, Task, Visit}
-use Rattle.def_laws.specs.Performs.{Handled}
+use Rattle.def_laws.specs.Performs.{IsHandled}
 use Rattle.def_laws.specs.Runs.{Leads}
 use Rattle.def_imports.proofs.ResultLaws.{if_both, if_ok}
 use Rattle.def_laws.proofs.StepsLaws.{leads_handled, leads_nothing, leads_waits}
@@ -54,7 +56,8 @@ returns-clause-run g c =
     (not_disabled c.args.collector.now c.report_disabled_item.new.diagnostics c.in_ok-disabled.disabled c.in_default-disabled.is c.in_ok-disabled.ensures.same)
     (leads_handled (state_of before session) after (list_site c.args.list.now) c.args.id c.in-Some.node.now (inner_of oracle opened)
     (node_of oracle c.args.list.now c.args.id _ c.requires c.in-Some.ensures) (sym c.in_ok-disabled.ensures.cfg ∙ c.in_default-disabled.is) (quiet.1 session)
-    (subst (λ x. Handled oracle (state_of x session) after (list_site c.args.list.now) c.in-Some.node.now (inner_of oracle opened)) quiet.0 handled)))
+    (subst (λ x. IsHandled oracle (state_of x session) after (list_site c.args.list.now) c.in-Some.node.now (inner_of oracle opened)) quiet.0
+    (record { given = state_of c.give_deferred.new.collector c.give_deferred.new.session; gave = c.in_ok-give_deferred.ensures.gave; handled = handled }))))
 
 pub returns-clause-fewer : goal.returns-clause-fewer
 returns-clause-fewer g c =
@@ -62,4 +65,9 @@ returns-clause-fewer g c =
     let before : State = state_of c.queue_awaited.new.collector c.args.session.now in
     if_both c.collect_item.result c.collect_item.ensures.handled c.collect_item.ensures.known (λ opened handled known.
     handled_less oracle before (state_of c.collect_item.new.collector c.collect_item.new.session) (list_site c.args.list.now) c.args.id c.in-Some.node.now (inner_of oracle opened)
-    (node_of oracle c.args.list.now c.args.id _ c.requires c.in-Some.ensures) (omega (arith, c.well_formed)) (inner_few oracle opened known) handled)
+    (node_of oracle c.args.list.now c.args.id _ c.requires c.in-Some.ensures) (omega (arith, c.well_formed)) (inner_few oracle opened known)
+    (record { given = state_of c.give_deferred.new.collector c.give_deferred.new.session; gave = c.in_ok-give_deferred.ensures.gave; handled = handled }))
+
+pub returns-clause-session : goal.returns-clause-session
+returns-clause-session g c =
+    adds_trans (session_of c.args.session.now) (session_of c.give_deferred.new.session) (session_of c.collect_item.new.session) c.give_deferred.ensures.session c.collect_item.ensures.session
