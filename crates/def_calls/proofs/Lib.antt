@@ -3,3 +3,4 @@ pub mod WaitingLemmas
 pub mod AttrsLemmas
 pub mod DerivesLemmas
 pub mod ImplsLemmas
+pub mod FallbackLemmas

@@ -8,6 +8,7 @@ mod deferred;
 mod derives;
 mod directives;
 mod early_resolver;
+mod fallback;
 mod impls;
 mod item_attrs;
 mod path_resolver;
@@ -27,6 +28,7 @@ pub use directives::{
     queue_macro, record_calls, report_left_call, report_left_derive, settle_call,
 };
 pub use early_resolver::EarlyResolver;
+pub use fallback::{WaitingItem, fill_gap, first_item, report_attr};
 pub use impls::{DerivedItem, give_impls};
 pub use item_attrs::ItemAttrs;
 pub use path_resolver::PathResolver;

@@ -9,3 +9,4 @@ mod MacroPassLemmas
 mod TurnLemmas
 mod DeriveLemmas
 pub mod GivenLemmas
+pub mod FallbackLemmas

@@ -43,6 +43,11 @@ pub record HadTurns (oracle : Oracle) (s : State) (moved : Bool) (t : State) : T
   pub fewer : moved ≡ true → waiting_work t < waiting_work s
   pub still : moved ≡ false → OnlyInvokes s t
 
+-- imports aside, something moved, and less waits, or nothing did
+pub record HasMoved (oracle : Oracle) (s : State) (moved : Bool) (t : State) : Type 0 where
+  pub run : Collects oracle [] s [] t
+  pub fewer : moved ≡ true → waiting_work t < waiting_work s
+
 -- an item that waited left, these derives of its attribute were tried, and it was walked without the attribute
 pub record IsWalked (oracle : Oracle) (s : State) (d : MacroDirective) (derives : List WrittenDerive) (written : WrittenAttr) (t : State) : Type 0 where
   pub before : List MacroDirective

@@ -3,6 +3,7 @@
 
 mod calls;
 mod collector;
+mod fallback;
 mod globs;
 mod imports;
 mod items;

@@ -1,6 +1,6 @@
 //! Macros that wait: each pass lets each of them have its turn, and walks the expansions of those that
 //! are given a call.
-ghost use Rattle.std.specs.Prelude.{◌≡◌, ◌<◌, ◌≤◌, ◌^◌, [], false, Some, length, option_and_then, slice_get, IfOk, OnOk};
+ghost use Rattle.std.specs.Prelude.{◌≡◌, ◌<◌, ◌≤◌, ◌^◌, ◌∷◌, [], false, Some, length, option_and_then, slice_get, IfOk, OnOk};
 ghost use Rattle.def_calls.specs.Shown.{IsTurned, derives_in, expansion_shown, kind_of, macro_directive_of, written_attr_of, written_derive_of, written_of};
 ghost use Rattle.def_calls.specs.declared.directives.MacroDirective.{MacroDirective as Directive};
 ghost use Rattle.def_interner.specs.declared.interner.Interner.{Interner};
@@ -9,8 +9,8 @@ ghost use Rattle.def_collector.specs.Collector.{state_of};
 ghost use Rattle.def_collector.specs.Passes.{HadTurns, IsWalked};
 ghost use Rattle.def_laws.specs.Depths.{waiting_work};
 ghost use Rattle.def_laws.specs.Performs.{IsExpanded, Tried};
-ghost use Rattle.def_laws.specs.Runs.{Collects};
-ghost use Rattle.def_rules.specs.Attributes.{ReadsDerives, ReplacesItem, activated};
+ghost use Rattle.def_laws.specs.Runs.{Collects, Leads};
+ghost use Rattle.def_rules.specs.Attributes.{ReadsDerives, ReplacesItem, activated, item_site};
 ghost use Rattle.def_rules.specs.Derives as rule;
 ghost use Rattle.def_rules.specs.Directives.{AllStay, Stays, WalksItem, told, tried_effect, use_told};
 ghost use Rattle.def_rules.specs.State as rules;
@@ -336,6 +336,25 @@ fn walk_without<'a, D: SourceDatabase>(
     let item_attrs = &mut collector.item_attrs;
     item_attrs.pass_over(file, written.item, written.attr_id)?;
     try_derives(collector, db, session, directive, list)?;
+    walk_again(collector, db, session, directive, written)
+}
+
+/// Walks an item once more that waited, where it stood and in the stored directory of its module. On
+/// `Err` nothing but safety is promised.
+pub fn walk_again<'a, D: SourceDatabase>(
+    collector: &mut DefCollector<'a>,
+    db: &'a D,
+    session: &mut Interner,
+    directive: MacroDirective<'a>,
+    written: WrittenAttr<'a>,
+) -> Result<(), AllocError>
+    ensures run { OnOk result (let s = state_of collector.old session.old in
+        Leads (D.oracle db.now)
+        (rules.Visit (item_site s (macro_directive_of directive.entry) (written_attr_of written.entry)) written.entry.item ∷ [])
+        s [] (state_of collector.new session.new)) }
+    ensures depth { directive.entry.depth < 2 ^ 32 }
+    ensures session { AddsLocations (session_of session.old) (session_of session.new) }
+{
     let dir = stored_dir(collector.alloc, &collector.mod_dirs, directive.module_id)?;
     let items = ItemList {
         module_id: directive.module_id,

@@ -24,8 +24,8 @@ ghost use Rattle.def_laws.specs.Runs.{Collects, Leads};
 ghost use Rattle.def_laws.specs.Sound.{IsSoundWith};
 
 use crate::collector::DefCollector;
+use crate::fallback::move_on;
 use crate::imports::resolve_imports;
-use crate::macro_pass::resolve_macros;
 use crate::seeding::seed;
 use crate::stack::walk;
 use def_calls::{
@@ -179,8 +179,8 @@ fn seed_with_top_level<'a, D: SourceDatabase>(
     )
 }
 
-/// Records imports and expands macros in turns, until nothing moves. On `Err` nothing but safety is
-/// promised.
+/// Records imports and expands macros in turns, and gives up attributes whose macros are not found, until
+/// nothing moves. On `Err` nothing but safety is promised.
 fn resolution_loop<'a, D: SourceDatabase>(
     collector: &mut DefCollector<'a>,
     db: &'a D,
@@ -196,7 +196,7 @@ fn resolution_loop<'a, D: SourceDatabase>(
     ensures session { AddsLocations (session_of session.old) (session_of session.new) }
 {
     import_passes(collector, db, session)?;
-    'resolve_macros: while resolve_macros(collector, db, session)? {
+    'move_on: while move_on(collector, db, session)? {
         import_passes(collector, db, session)?;
     }
     Ok(())

@@ -21,7 +21,7 @@ use Rattle.def_rules.specs.Settled.{IsDeclared, WasPut}
 use Rattle.def_rules.specs.State.{State, Effect, Event, PutExplicit, Recorded, Import, Moment, order}
 use Rattle.def_rules.specs.Steps.{Copies, Reaches, Step, event_of, put_event}
 use Rattle.def_laws.proofs.ListLaws.{not_empty, split_last}
-use Rattle.def_laws.proofs.MovesLaws.{Move, putting, linking, doing, copying, sorting, recording, move_of}
+use Rattle.def_laws.proofs.MovesLaws.{Move, putting, linking, doing, copying, ordering, sorting, recording, move_of}
 use Rattle.def_laws.proofs.RunsLaws.{kept_along}
 use Rattle.def_laws.proofs.StaysLaws.{copies_keep}
 
@@ -179,6 +179,7 @@ declares-move a b (putting place entry rest first is) all = subst DeclaresAt (sy
 declares-move a b (linking source edge rest first is) all = subst DeclaresAt (sym is) (declares-edge a.events (order a.state) source edge a.state.content all)
 declares-move a b (doing gone rest scope depth macros expansions deferred effect first still own fewer foot is) all = subst DeclaresAt (sym is) (declares-same a.events effect.events a.state.content effect.state.content foot.events foot.content all)
 declares-move a b (copying content copy is) all = subst DeclaresAt (sym is) (declares-copied a.state a.events content copy all)
+declares-move a b (ordering macros same is) all = subst DeclaresAt (sym is) all
 declares-move a b (sorting state same is) all = subst DeclaresAt (sym is) (subst (λ (s : State). Declares a.events s.content) (sym same.rest) all)
 declares-move {oracle} a b (recording effect idle step is) all = subst DeclaresAt (sym is) (declares-import oracle a.events a.state effect step all)
 

@@ -27,7 +27,7 @@ use Rattle.def_rules.specs.Settled.{HasEveryNamespace}
 use Rattle.def_rules.specs.State.{State, Effect, Event, Recorded, NsSet, Import, ImportDirective, Moment, Task, Put, Rearranges, order, AddEdge}
 use Rattle.def_rules.specs.Steps.{Copies, Reaches, Step, put_event}
 use Rattle.def_laws.proofs.FootprintLaws.{Footprint}
-use Rattle.def_laws.proofs.MovesLaws.{AreStill, Move, putting, linking, doing, copying, sorting, recording, move_of}
+use Rattle.def_laws.proofs.MovesLaws.{AreStill, Move, putting, linking, doing, copying, ordering, sorting, recording, move_of}
 use Rattle.def_laws.proofs.TurnsLaws.{waiting_with}
 use Rattle.def_laws.proofs.RunsLaws.{kept_along}
 use Rattle.def_laws.proofs.ComingLaws.{Covers, HasSet, bound_now, covers-kept, has_ns, keeps_coming, put_keeps, unrecorded, still_ahead, edge_ahead}
@@ -104,6 +104,7 @@ covers-move a b (putting place entry rest first is) all = subst CoversAt (sym is
 covers-move a b (linking source edge rest first is) all = subst CoversAt (sym is) (covers-edge a.state source edge rest a.events (covers-tasks a _ first all))
 covers-move a b (doing gone rest scope depth macros expansions deferred effect first still own fewer foot is) all = subst CoversAt (sym is) (covers-footprint (waiting_with a.state macros expansions deferred) gone rest scope depth effect a.events still foot (covers-tasks a _ first all))
 covers-move a b (copying content copy is) all = subst CoversAt (sym is) (covers-copied a.state content a.tasks a.events copy all)
+covers-move a b (ordering macros same is) all = subst CoversAt (sym is) all
 covers-move a b (sorting state same is) all = subst CoversAt (sym is) (covers-rearranged a.state state a.tasks a.events same all)
 covers-move {oracle} a b (recording effect idle step is) all = subst CoversAt (sym is) (covers-import oracle a.state effect a.events step (covers-tasks a [] idle all))
 

@@ -4,7 +4,7 @@ use Rattle.def_oracle.specs.Oracle.{Oracle}
 use Rattle.def_rules.specs.State.{State, Effect, Moment}
 use Rattle.def_rules.specs.Steps.{Reaches}
 use Rattle.def_laws.specs.Finished.{NoneFailed}
-use Rattle.def_laws.proofs.MovesLaws.{Move, putting, linking, doing, copying, sorting, recording, move_of}
+use Rattle.def_laws.proofs.MovesLaws.{Move, putting, linking, doing, copying, ordering, sorting, recording, move_of}
 use Rattle.def_laws.proofs.RunsLaws.{kept_along}
 
 -- no name failed at a moment
@@ -16,6 +16,7 @@ move_unmarked a b (putting at entry rest first is) none = subst IsUnmarked (sym 
 move_unmarked a b (linking source edge rest first is) none = subst IsUnmarked (sym is) none
 move_unmarked a b (doing gone rest scope depth macros expansions deferred effect first still own fewer foot is) none = subst IsUnmarked (sym is) (foot.none_failed none)
 move_unmarked a b (copying content copy is) none = subst IsUnmarked (sym is) none
+move_unmarked a b (ordering macros same is) none = subst IsUnmarked (sym is) none
 move_unmarked a b (sorting state same is) none = subst IsUnmarked (sym is) (subst (λ (s : State). NoneFailed s.map) (sym same.rest) none)
 move_unmarked a b (recording effect idle step is) none = subst IsUnmarked (sym is) (subst (λ (e : Effect). NoneFailed e.state.map) (sym step.is) none)
 

@@ -1,5 +1,6 @@
 -- The steps of a run, by what they do to the table of bindings.
 use Rattle.std.proofs.Common.{◌≡◌, ◌⊎◌, ℕ, true, List, [], ◌∷◌, ◌++◌, refl, ap, subst, ◌∙◌, inl, inr}
+use Rattle.std.specs.Prelude.{IsPermutation}
 use Rattle.def_ids.specs.declared.ids.ModuleId.{ModuleId}
 use Rattle.def_bindings.specs.declared.bindings.EdgeTo.{EdgeTo}
 use Rattle.def_bindings.specs.declared.bindings.Entry.{Entry}
@@ -10,12 +11,12 @@ use Rattle.def_globs.specs.Globs.{with_recorded}
 use Rattle.def_rules.specs.Recording.{ImportStep}
 use Rattle.def_rules.specs.State.{State, Effect, Moment, Rearranges, Task, Enter, Visit, TryDerive, Put, Bring, AddEdge, after, only, order, with_content, with_state}
 use Rattle.def_rules.specs.Waiting.{Deferrals, Expansion, MacroDirective}
-use Rattle.def_rules.specs.Steps.{Copies, Does, Step, performs, copies, rearranges, records, asks, expands, put_effect}
+use Rattle.def_rules.specs.Steps.{Copies, Does, Step, performs, copies, rearranges, records, asks, expands, falls_back, put_effect, reorders}
 use Rattle.def_laws.specs.Depths.{WaitsIn}
 use Rattle.def_laws.specs.Own.{IsOwn, Stands}
 use Rattle.def_laws.specs.Roles.{is_still, place_of, role_of}
 use Rattle.def_laws.proofs.FootprintLaws.{Footprint, VisitFootprint, bring_footprint, enter_footprint, visits_footprint}
-use Rattle.def_laws.proofs.TurnsLaws.{TryFootprint, TurnFootprint, asks_footprint, expands_footprint, tries_footprint, waiting_with}
+use Rattle.def_laws.proofs.TurnsLaws.{TryFootprint, TurnFootprint, asks_footprint, expands_footprint, falls_footprint, tries_footprint, waiting_with}
 
 -- tasks that leave the table as it is
 abbrev pub AreStill : List Task → Type 0
@@ -35,7 +36,9 @@ pub data Move (oracle : Oracle) (a b : Moment) : Type 0 where
       → Footprint (waiting_with a.state macros expansions deferred) scope depth effect → b ≡ after a rest effect → Move oracle a b
   -- something is copied
   copying : (content : Content Visibility) → Copies a.state content → b ≡ with_state a (with_content a.state content) → Move oracle a b
-  -- imports are put into another order
+  -- macros that wait are put into another order
+  ordering : (macros : List MacroDirective) → IsPermutation a.state.macros macros → b ≡ with_state a (record a.state { macros = macros }) → Move oracle a b
+  -- so are imports
   sorting : (state : State) → Rearranges a.state state → b ≡ with_state a state → Move oracle a b
   -- an import is recorded
   recording : (effect : Effect) → a.tasks ≡ [] → ImportStep oracle a.state effect → b ≡ after a [] effect → Move oracle a b
@@ -68,7 +71,9 @@ module _ {oracle : Oracle} (a b : Moment) where
   pub move_of : Step oracle a b → Move oracle a b
   move_of (performs task rest effect first does is) = move_by task rest effect first does is
   move_of (copies content copy is) = copying content copy is
+  move_of (reorders macros same is) = ordering macros same is
   move_of (rearranges state same is) = sorting state same is
   move_of (records effect idle step is) = recording effect idle step is
   move_of (asks effect idle step is) = turning effect idle (asks_footprint oracle a.state effect step) is
   move_of (expands effect idle step is) = turning effect idle (expands_footprint oracle a.state effect step) is
+  move_of (falls_back effect idle step is) = turning effect idle (falls_footprint oracle a.state effect step) is

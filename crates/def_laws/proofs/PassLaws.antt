@@ -41,7 +41,10 @@ use Rattle.def_rules.specs.Items.{node_at, top_items, walk}
 use Rattle.def_rules.specs.Recording.{NoneReady}
 use Rattle.def_rules.specs.State.{State, Effect, Event, Site, Task, TryDerive, Visit, after, followed_by, only, with_map, world}
 use Rattle.def_rules.specs.Waiting.{Attr, Derive, Expansion, FnLike, MacroDirective, MacroDirectiveKind, WrittenAttr, WrittenCall, WrittenDerive}
-use Rattle.def_rules.specs.Steps.{Step, asks, expands, one}
+use Rattle.std.specs.Prelude.{IsPermutation}
+use Rattle.std.proofs.lemmas.List.Sorted.{sum_by-IsPermutation}
+use Rattle.def_rules.specs.Fallback.{FallbackStep, IsStuck, attr_reported, given_up}
+use Rattle.def_rules.specs.Steps.{Step, asks, expands, falls_back, one, reorders}
 use Rattle.def_laws.specs.Depths.{AreVisitsBelow, OnlyInvokes, Queues, WaitsAlike, deferred_work, depth_rank, expansion_work, kind_rank, macro_rank, macro_work, visit_rank, waiting_work}
 use Rattle.def_laws.specs.Own.{IsOwn, Stands}
 use Rattle.def_laws.specs.Performs.{Tried}
@@ -51,7 +54,7 @@ use Rattle.def_laws.proofs.FootprintLaws.{waits_alike}
 use Rattle.def_laws.proofs.DepthsLaws.{above_deepest, deeper_is, deeper_last, item_ranks, visit_rank_is, walk_lies}
 use Rattle.def_laws.specs.Work.{weight}
 use Rattle.def_laws.proofs.StepsLaws.{collects_refl, collects_trans, footprint_raised, footprint_sound}
-use Rattle.def_laws.proofs.TurnsLaws.{TryFootprint, TurnFootprint, asks_footprint, expands_footprint, told_same, tries_footprint, waiting_with}
+use Rattle.def_laws.proofs.TurnsLaws.{TryFootprint, TurnFootprint, asks_footprint, expands_footprint, falls_footprint, told_same, tries_footprint, waiting_with}
 use Rattle.def_laws.proofs.WaveLaws.{runs_task}
 use Rattle.def_laws.proofs.WorkLaws.{lighter, weight_is}
 
@@ -504,6 +507,49 @@ module _ (oracle : Oracle) (s : State) (before : List MacroDirective) (d : Macro
           let some = tries_less (depth_rank d.depth) (length derives) short in
           let same : weight (macro_rank d) ≡ weight (depth_rank d.depth + 1) = ap (λ k. weight (depth_rank d.depth + k)) kind in
           omega (arith, less, now, was, kept, old, put_off, fewer, more, some, same)
+
+-- An item that waits is given up
+
+module _ (oracle : Oracle) (s : State) (before : List MacroDirective) (d : MacroDirective) (behind : List MacroDirective) (written : WrittenAttr) (stands : s.macros ≡ before ++ d ∷ behind) (is_attr : d.kind ≡ Attr written) where
+  -- the state in which its attribute was passed over
+  abbrev pub given_up_state : State
+  given_up_state = walked_state (attr_reported s d written) before d behind written
+
+  module _ (u t : State) (tried : Tried oracle d [] given_up_state u) (leads : Leads oracle (Visit (item_site (attr_reported s d written) d written) written.item ∷ []) u [] t) where
+    -- where a state is stuck it may be, and its item is walked
+    pub collects_given_up : IsStuck oracle s → Collects oracle [] s [] t
+    collects_given_up stuck =
+        let effect : Effect = given_up s before d behind written in
+        let step : FallbackStep oracle s effect = record { before = before; directive = d; behind = behind; written = written; stands = stands; is_attr = is_attr; stuck = stuck; is = refl } in
+        let turn : Collects oracle [] s (effect.tasks ++ []) effect.state = collects_turn oracle s effect (falls_footprint oracle s effect step) (λ earlier. falls_back effect refl step refl) in
+        collects_trans turn (collects_trans (tried.collects (Visit (item_site (attr_reported s d written) d written) written.item ∷ [])) leads.collects)
+
+    -- and less waits
+    pub given_up_lighter : d.depth ≤ deepest → length t.macros < 2 ^ 64 → waiting_work t < waiting_work s
+    given_up_lighter most few =
+        let kind : kind_rank d.kind ≡ 1 = ap kind_rank is_attr in
+        let low = item_ranks d.depth most in
+        let below : visit_rank d.depth ≤ macro_rank d = omega (arith, kind, low) in
+        let queues : Queues (macro_rank d) u t = (leads.queues (macro_rank d) (below, tt)).1 in
+        let less = queues_less (macro_rank d) u t queues few in
+        let now : sum_by macro_work t.macros ≡ sum_by macro_work u.macros + sum_by macro_work queues.more = ap (sum_by macro_work) queues.macros ∙ sum_by-append macro_work u.macros queues.more in
+        let more = tried.work in
+        let was = weighed oracle s before d behind stands in
+        let kept = ap (sum_by (λ (x : Expansion). expansion_work x.depth)) leads.expansions in
+        let fewer = leads.deferred in
+        let some = some_weight (macro_rank d) in
+        omega (arith, less, now, more, was, kept, fewer, some)
+
+-- The macros that wait are put into another order, and as much waits
+pub collects_ordered : (oracle : Oracle) (s : State) (macros : List MacroDirective) → IsPermutation s.macros macros → Collects oracle [] s [] (record s { macros = macros })
+collects_ordered oracle s macros same = record {
+  runs = λ earlier. (earlier, one (reorders macros same refl));
+  keeps = λ stands sound. sound;
+  raised = λ stands sound earlier importer slot kept raised. raised;
+}
+
+pub ordered_work : (s : State) (macros : List MacroDirective) → IsPermutation s.macros macros → waiting_work (record s { macros = macros }) ≡ waiting_work s
+ordered_work s macros same = let sum = sum_by-IsPermutation macro_work s.macros macros same in omega (arith, sum)
 
 -- An expansion is walked
 

@@ -16,7 +16,7 @@ use Rattle.def_rules.specs.Steps.{Reaches, Step}
 use Rattle.def_laws.proofs.LargerLaws.{larger_prelude, larger_refl, own_larger}
 use Rattle.def_laws.specs.Depths.{DefersIn, WaitsIn}
 use Rattle.def_laws.proofs.FootprintLaws.{Footprint}
-use Rattle.def_laws.proofs.MovesLaws.{Move, putting, linking, doing, copying, sorting, recording, move_of}
+use Rattle.def_laws.proofs.MovesLaws.{Move, putting, linking, doing, copying, ordering, sorting, recording, move_of}
 use Rattle.def_laws.proofs.OwnLaws.{own_both, own_copied, own_edge, own_first, own_last, own_put, own_stays, tasks_stay}
 use Rattle.def_laws.proofs.TurnsLaws.{waiting_with}
 use Rattle.def_laws.proofs.RunsLaws.{kept_along}
@@ -130,6 +130,8 @@ move_stands a b (copying content copy is) st =
     let own : AreOwn s.map s.targets content s.imports =
     subst (λ c. AreOwn s.map s.targets c s.imports) (sym copy.after) (own_copied s.map s.targets (order s) s.content s.imports st.state copy.source copy.index copy.edge copy.slot copy.stands) in
     subst StandsAt (sym is) (record { state = own; tasks = st.tasks; waiting = st.waiting })
+move_stands a b (ordering macros same is) st =
+    subst StandsAt (sym is) (record { state = st.state; tasks = st.tasks; waiting = λ place waits. st.waiting place (elim waits [ inl macro ↦ inl (macro.0, Contains-permutation macros a.state.macros macro.0 (IsPermutation-sym a.state.macros macros same) macro.1, macro.2) | inr later ↦ inr later ]) })
 move_stands a b (sorting state same is) st =
     let s : State = a.state in
     let own : AreOwn s.map s.targets s.content state.imports =

@@ -13,7 +13,7 @@ use Rattle.def_rules.specs.Recording.{ImportStep}
 use Rattle.def_rules.specs.Settled.{ExplicitStays}
 use Rattle.def_rules.specs.State.{State, Effect, Moment, order}
 use Rattle.def_rules.specs.Steps.{Copies, Reaches, Step}
-use Rattle.def_laws.proofs.MovesLaws.{Move, putting, linking, doing, copying, sorting, recording, move_of}
+use Rattle.def_laws.proofs.MovesLaws.{Move, putting, linking, doing, copying, ordering, sorting, recording, move_of}
 use Rattle.def_laws.proofs.RunsLaws.{along}
 
 -- explicit bindings stay from one table to another
@@ -38,6 +38,7 @@ move_keeps a b (putting place entry rest first is) =
 move_keeps a b (linking source edge rest first is) = subst (λ (m : Moment). ExplicitStays a m) (sym is) (λ at name ns held there explicit. there)
 move_keeps a b (doing gone rest scope depth macros expansions deferred effect first still own fewer foot is) = subst (λ (m : Moment). ExplicitStays a m) (sym is) (same_keeps a.state.content effect.state.content foot.content)
 move_keeps a b (copying content copy is) = subst (λ (m : Moment). ExplicitStays a m) (sym is) (copies_keep a.state content copy)
+move_keeps a b (ordering macros same is) = subst (λ (m : Moment). ExplicitStays a m) (sym is) (λ at name ns held there explicit. there)
 move_keeps a b (sorting state same is) = subst (λ (m : Moment). ExplicitStays a m) (sym is) (same_keeps a.state.content state.content (ap (λ (s : State). s.content) same.rest))
 move_keeps {oracle} a b (recording effect idle step is) = subst (λ (m : Moment). ExplicitStays a m) (sym is) (same_keeps a.state.content effect.state.content (import_content oracle a.state effect step))
 

@@ -26,6 +26,7 @@ use Rattle.def_rules.specs.Attributes.{AttrUse, PassesOver, ReadsDerives, Replac
 use Rattle.def_rules.specs.Deferred.{deferral, deferred_at, deferred_derive, deferred_expansion, expanding_deferred}
 use Rattle.def_rules.specs.Derives.{derive_call, derive_directive, derive_macro, derive_paths, derived, may_derive}
 use Rattle.def_rules.specs.Directives.{ExpansionStep, GivesCall, GivesDerive, MacroStep, Replaces, Stays, Told, Turn, WalksItem, attr_told, call_answer, call_told, called_state, derive_told, expanding, expansion_of, given_state, item_told, list_told, replaced_state, told, told_by, tried_effect, tries, turn_effect, use_told, walked_state}
+use Rattle.def_rules.specs.Fallback.{FallbackStep, attr_reported}
 use Rattle.def_rules.specs.Items.{node_at}
 use Rattle.def_rules.specs.Globs.{Targets}
 use Rattle.def_rules.specs.State.{State, Effect, Site, Visit, only, world}
@@ -244,29 +245,20 @@ module _ (oracle : Oracle) (s : State) (effect : Effect) where
             (expanded_footprint oracle u step.expansion.scope step.expansion.depth u step.expansion refl refl refl refl (waits_alike refl refl refl) (larger_refl u.map) (λ none. none) (omega arith));
       }
 
-  module _ (step : MacroStep oracle s effect) where
-    abbrev d : MacroDirective
-    d = step.directive
-
-    -- what it was told
-    abbrev given : Told
-    given = told oracle s d
-
+  -- what waits leaves or stays, in a state that was told of it
+  module _ (before : List MacroDirective) (d : MacroDirective) (behind : List MacroDirective) (stands : s.macros ≡ before ++ d ∷ behind) (now : State) (same : IsToldOf s now) where
     abbrev left : List MacroDirective
-    left = step.before ++ step.behind
+    left = before ++ behind
 
     among_macros : Contains s.macros d
-    among_macros = subst (λ ds. Contains ds d) (sym step.stands) (among step.before step.behind d)
+    among_macros = subst (λ ds. Contains ds d) (sym stands) (among before behind d)
 
     here : WaitsIn s d.scope
     here = inl (d, among_macros, refl)
 
     -- one of those before and behind it waited
     waited : (x : MacroDirective) → Contains left x → Contains s.macros x
-    waited x h = subst (λ ds. Contains ds x) (sym step.stands) (beside step.before step.behind d x h)
-
-    same : IsToldOf s given.state
-    same = told_same oracle s d
+    waited x h = subst (λ ds. Contains ds x) (sym stands) (beside before behind d x h)
 
     -- what waits once it was given a call
     given_waits : (call : MacroCallId) (at : ModuleId) → WaitsIn (waiting_with s left (s.expansions ++ expansion_of d call ∷ []) s.deferred) at → WaitsIn s at
@@ -305,7 +297,7 @@ module _ (oracle : Oracle) (s : State) (effect : Effect) where
       ]
     ]
 
-    turn : (turn : Turn) → effect ≡ turn_effect given.state step.before d step.behind turn → TurnFootprint s effect
+    turn : (turn : Turn) → effect ≡ turn_effect now before d behind turn → TurnFootprint s effect
     turn Stays does = record {
       scope = d.scope;
       depth = d.depth;
@@ -315,12 +307,12 @@ module _ (oracle : Oracle) (s : State) (effect : Effect) where
       waits = here;
       fewer = λ at waits. waits;
       foot = subst (λ e. Footprint s d.scope d.depth e) (sym does)
-          (map_footprint s d.scope d.depth given.state [] same.content same.targets same.imports same.waits same.larger same.clean (λ targets own. tt) tt (λ rank low. tt));
+          (map_footprint s d.scope d.depth now [] same.content same.targets same.imports same.waits same.larger same.clean (λ targets own. tt) tt (λ rank low. tt));
     }
     turn (GivesCall call) does =
         let more : List Expansion = s.expansions ++ expansion_of d call ∷ [] in
         let u : State = waiting_with s left more s.deferred in
-        let t : State = given_state given.state step.before d step.behind call in
+        let t : State = given_state now before d behind call in
         let made : List (InFile FileAstId × MacroCallId) = (d.position, call) ∷ [] in
         record {
           scope = d.scope;
@@ -332,13 +324,13 @@ module _ (oracle : Oracle) (s : State) (effect : Effect) where
           fewer = given_waits call;
           foot = subst (λ e. Footprint u d.scope d.depth e) (sym does)
               (map_footprint u d.scope d.depth t [] same.content same.targets same.imports (waits_alike refl (ap (λ es. es ++ expansion_of d call ∷ []) same.waits.expansions) same.waits.deferred)
-              (larger_trans s.map given.state.map t.map same.larger (larger_invoking d.scope.index made given.state.map))
-              (λ none. none_failed-invoking d.scope.index made given.state.map (same.clean none)) (λ targets own. tt) tt (λ rank low. tt));
+              (larger_trans s.map now.map t.map same.larger (larger_invoking d.scope.index made now.map))
+              (λ none. none_failed-invoking d.scope.index made now.map (same.clean none)) (λ targets own. tt) tt (λ rank low. tt));
         }
     turn (GivesDerive call) does =
         let more : List Expansion = s.expansions ++ expansion_of d call ∷ [] in
         let u : State = waiting_with s left more s.deferred in
-        let t : State = expanding given.state left d call in
+        let t : State = expanding now left d call in
         record {
           scope = d.scope;
           depth = d.depth;
@@ -354,9 +346,9 @@ module _ (oracle : Oracle) (s : State) (effect : Effect) where
     turn (Replaces call) does =
         let more : List Expansion = freeing.expansions ++ expansion_of d call ∷ [] in
         let u : State = waiting_with s left more freeing.deferred in
-        let t : State = replaced_state given.state step.before d step.behind call in
+        let t : State = replaced_state now before d behind call in
         let made : List (InFile FileAstId × MacroCallId) = (d.position, call) ∷ [] in
-        let told_freed : (expanding_deferred given.state d.position).expansions ≡ freeing.expansions =
+        let told_freed : (expanding_deferred now d.position).expansions ≡ freeing.expansions =
         λ i. same.waits.expansions i ++ map deferred_expansion (unwrap_or (lookup (position_eq d.position) (same.waits.deferred i)) []) in
         record {
           scope = d.scope;
@@ -369,13 +361,13 @@ module _ (oracle : Oracle) (s : State) (effect : Effect) where
           foot = subst (λ e. Footprint u d.scope d.depth e) (sym does)
               (map_footprint u d.scope d.depth t [] same.content same.targets same.imports
               (waits_alike refl (ap (λ es. es ++ expansion_of d call ∷ []) told_freed) (ap (λ es. swap_remove_entry (position_eq d.position) es) same.waits.deferred))
-              (larger_trans s.map given.state.map t.map same.larger (larger_invoking d.scope.index made given.state.map))
-              (λ none. none_failed-invoking d.scope.index made given.state.map (same.clean none)) (λ targets own. tt) tt (λ rank low. tt));
+              (larger_trans s.map now.map t.map same.larger (larger_invoking d.scope.index made now.map))
+              (λ none. none_failed-invoking d.scope.index made now.map (same.clean none)) (λ targets own. tt) tt (λ rank low. tt));
         }
     turn (WalksItem derives written) does =
         let u : State = waiting_with s left s.expansions s.deferred in
-        let t : State = walked_state given.state step.before d step.behind written in
-        let site : Site = item_site given.state d written in
+        let t : State = walked_state now before d behind written in
+        let site : Site = item_site now d written in
         record {
           scope = d.scope;
           depth = d.depth;
@@ -391,6 +383,12 @@ module _ (oracle : Oracle) (s : State) (effect : Effect) where
               (λ rank low. lie_both rank (tries d derives) (Visit site written.item ∷ []) (tries_lie rank d derives) (low, tt)));
         }
 
-    -- a macro that waits has its turn
-    pub asks_footprint : TurnFootprint s effect
-    asks_footprint = turn given.turn step.is
+  -- a macro that waits has its turn
+  pub asks_footprint : MacroStep oracle s effect → TurnFootprint s effect
+  asks_footprint step = turn step.before step.directive step.behind step.stands (told oracle s step.directive).state (told_same oracle s step.directive) (told oracle s step.directive).turn step.is
+
+  -- an item is given up
+  pub falls_footprint : FallbackStep oracle s effect → TurnFootprint s effect
+  falls_footprint step =
+      let reported : State = attr_reported s step.directive step.written in
+      turn step.before step.directive step.behind step.stands reported (told_noted s s.active reported.diagnostics) (WalksItem [] step.written) step.is

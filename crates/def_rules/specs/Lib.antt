@@ -14,6 +14,7 @@ pub mod ExternCrates
 pub mod Rules
 pub mod Imports
 pub mod Recording
+pub mod Fallback
 pub mod Globs
 pub mod Targets
 pub mod Crates

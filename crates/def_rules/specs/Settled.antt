@@ -13,11 +13,19 @@ use Rattle.def_rules.specs.State.{State, Import, Event, PutExplicit, Recorded, M
 use Rattle.def_rules.specs.Directives.{AllStay}
 use Rattle.def_rules.specs.Imports.{is_missing, answer_now, bound_name, keeps_ns}
 use Rattle.def_rules.specs.Recording.{NoneReady}
+use Rattle.def_rules.specs.Waiting.{Attr, Derive, FnLike, MacroDirective, MacroDirectiveKind}
 
--- no import is ready, and each macro that waits stays: none is given a call, and no item is walked without its attribute
+-- what waits is not for an attribute's macro
+abbrev pub IsNoAttribute : MacroDirectiveKind → Type 0
+IsNoAttribute (FnLike written) = Unit {0}
+IsNoAttribute (Attr written) = ⊥
+IsNoAttribute (Derive written) = Unit {0}
+
+-- no import is ready, each macro that waits stays, which is to say that none is given a call, and none waits for an attribute
 pub record IsSettled (oracle : Oracle) (end : State) : Type 0 where
   pub imports : NoneReady oracle end
   pub macros : AllStay oracle end
+  pub attributes : (directive : MacroDirective) → Contains end.macros directive → IsNoAttribute directive.kind
 
 -- each explicit binding that was put, by a declaration, an extern crate or a named import, stands at its place, or one put there before it does
 abbrev pub IsDeclared : List Event → Content Visibility → Type 0

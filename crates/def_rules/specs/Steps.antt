@@ -1,5 +1,5 @@
 -- The machine of a run: one step from a moment to the next, and runs of them.
-use Rattle.std.specs.Prelude.{◌≡◌, List, [], ◌∷◌, Option, None, Some, ℕ, slice_get, Contains}
+use Rattle.std.specs.Prelude.{◌≡◌, List, [], ◌∷◌, Option, None, Some, ℕ, slice_get, Contains, IsPermutation}
 use Rattle.item_tree.specs.declared.name.Name.{Name}
 use Rattle.def_ids.specs.declared.ids.GlobId.{GlobId}
 use Rattle.def_ids.specs.declared.ids.ModuleId.{ModuleId}
@@ -18,9 +18,11 @@ use Rattle.def_globs.specs.Raised.{KeepsDef}
 use Rattle.def_rules.specs.State.{State, Effect, Task, Enter, Visit, TryDerive, Put, AddEdge, Bring, Event, PutExplicit, Moment, after, entered, only, with_state, with_content, order, Rearranges, world}
 use Rattle.def_rules.specs.Derives.{derive_macro}
 use Rattle.def_rules.specs.Directives.{ExpansionStep, MacroStep, tried_effect}
+use Rattle.def_rules.specs.Fallback.{FallbackStep}
 use Rattle.def_rules.specs.Items.{noted_in}
 use Rattle.def_rules.specs.Recording.{ImportStep}
 use Rattle.def_rules.specs.Rules.{Visits}
+use Rattle.def_rules.specs.Waiting.{MacroDirective}
 
 -- a put of a name that no glob brought
 abbrev pub event_of : ModuleId → Entry Visibility → Option GlobId → Option Name → List Event
@@ -59,7 +61,9 @@ pub data Step (oracle : Oracle) (a b : Moment) : Type 0 where
   performs : (task : Task) (rest : List Task) (effect : Effect) → a.tasks ≡ task ∷ rest → Does oracle a.state task effect → b ≡ after a rest effect → Step oracle a b
   -- something is copied along an edge
   copies : (content : Content Visibility) → Copies a.state content → b ≡ with_state a (with_content a.state content) → Step oracle a b
-  -- the imports that are not resolved are put into another order
+  -- the macros that wait are put into another order
+  reorders : (macros : List MacroDirective) → IsPermutation a.state.macros macros → b ≡ with_state a (record a.state { macros = macros }) → Step oracle a b
+  -- so are the imports that are not resolved
   rearranges : (state : State) → Rearranges a.state state → b ≡ with_state a state → Step oracle a b
   -- where nothing is left to do, an import that is ready is recorded
   records : (effect : Effect) → a.tasks ≡ [] → ImportStep oracle a.state effect → b ≡ after a [] effect → Step oracle a b
@@ -67,6 +71,8 @@ pub data Step (oracle : Oracle) (a b : Moment) : Type 0 where
   asks : (effect : Effect) → a.tasks ≡ [] → MacroStep oracle a.state effect → b ≡ after a [] effect → Step oracle a b
   -- the expansion of one that waited is walked
   expands : (effect : Effect) → a.tasks ≡ [] → ExpansionStep oracle a.state effect → b ≡ after a [] effect → Step oracle a b
+  -- or, where the run is stuck, an attribute is given up
+  falls_back : (effect : Effect) → a.tasks ≡ [] → FallbackStep oracle a.state effect → b ≡ after a [] effect → Step oracle a b
 
 -- steps in any order and number
 pub data Reaches (oracle : Oracle) : Moment → Moment → Type 0 where

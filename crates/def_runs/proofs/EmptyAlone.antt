@@ -13,9 +13,9 @@ use Rattle.def_rules.specs.Imports.{unresolved_imports}
 use Rattle.def_rules.specs.Report.{Answer, import_report, macro_report, marked}
 use Rattle.def_rules.specs.Start.{first_site, start}
 use Rattle.def_rules.specs.State.{Site, State, Effect, Enter, Moment, after, entered, only}
-use Rattle.def_rules.specs.Steps.{Does, Step, performs, asks, copies, expands, rearranges, records}
+use Rattle.def_rules.specs.Steps.{Does, Step, performs, asks, copies, expands, rearranges, records, falls_back, reorders}
 use Rattle.def_runs.proofs.Empty.{setting}
-use Rattle.def_runs.proofs.RowLemmas.{NoneWaits, none_asked, none_recorded, none_taken, none_waits_rearranged}
+use Rattle.def_runs.proofs.RowLemmas.{NoneWaits, none_asked, none_given_up, none_recorded, none_taken, none_waits_rearranged, none_waits_reordered}
 use Rattle.def_runs.proofs.Rows.{no_session}
 
 -- where the items of the root stand
@@ -60,6 +60,11 @@ bare_step a b (rearranges s same is) bare = subst IsBareAt (sym is) (record {
     diagnostics = bare.state.diagnostics;
   });
 })
+bare_step a b (reorders macros same is) bare = subst IsBareAt (sym is) (record {
+  tasks = bare.tasks;
+  state = record { map = bare.state.map; content = bare.state.content; waits = none_waits_reordered a.state macros bare.state.waits same; diagnostics = bare.state.diagnostics };
+})
+bare_step a b (falls_back effect idle step is) bare = absurd (none_given_up setting.oracle a.state effect bare.state.waits.1 step)
 bare_step a b (records effect idle step is) bare = absurd (none_recorded setting.oracle a.state effect bare.state.waits.0 step)
 bare_step a b (asks effect idle step is) bare = absurd (none_asked setting.oracle a.state effect bare.state.waits.1 step)
 bare_step a b (expands effect idle step is) bare = absurd (none_taken setting.oracle a.state effect bare.state.waits.2 step)

@@ -28,7 +28,7 @@ use Rattle.def_rules.specs.Recording.{ImportStep}
 use Rattle.def_rules.specs.Report.{Answer, import_report, left_import, may_name_crate, report, unresolved, with_macro_reports}
 use Rattle.def_rules.specs.State.{Setting, State, Effect, Task, Enter, Visit, Put, Bring, AddEdge, Moment, Import, ImportDirective, Recorded, TryDerive}
 use Rattle.def_rules.specs.Waiting.{MacroDirective, WrittenAttr, WrittenDerive}
-use Rattle.def_rules.specs.Steps.{Does, Reaches, Step, asks, copies, event_of, expands, performs, rearranges, records}
+use Rattle.def_rules.specs.Steps.{Does, Reaches, Step, asks, copies, event_of, expands, performs, rearranges, records, falls_back, reorders}
 use Rattle.def_runs.proofs.Plain as plain
 use Rattle.def_runs.proofs.RowLemmas.{none_recorded_unready, none_taken}
 use Rattle.def_runs.proofs.Rows.{no_session, not_recorded}
@@ -169,7 +169,9 @@ no_import_before_its_turn oracle a b task rest p foreign left step happened = at
     at (performs first others effect is does after) =
         task_records_nothing oracle a.state first effect p foreign does (same_end a.events effect.events (Recorded p foreign ∷ []) (sym (ap (λ (m : Moment). m.events) after) ∙ happened))
     at (copies content copy after) = nothing_happened (ap (λ (m : Moment). m.events) after)
+    at (reorders macros same after) = nothing_happened (ap (λ (m : Moment). m.events) after)
     at (rearranges state same after) = nothing_happened (ap (λ (m : Moment). m.events) after)
     at (records effect idle recorded after) = cc
     at (asks effect idle asked after) = cc
     at (expands effect idle taken after) = cc
+    at (falls_back effect idle taken after) = cc

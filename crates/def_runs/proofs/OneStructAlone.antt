@@ -24,9 +24,9 @@ use Rattle.def_rules.specs.Rules.{HandlesByKind, HandlesInSession, VisitsEnabled
 use Rattle.def_rules.specs.Settled.{IsDeclared}
 use Rattle.def_rules.specs.Start.{first_site, start}
 use Rattle.def_rules.specs.State.{Site, State, Effect, Task, Enter, Visit, Event, PutExplicit, Moment, after, with_content, with_state}
-use Rattle.def_rules.specs.Steps.{Does, Step, performs, asks, copies, expands, rearranges, records}
+use Rattle.def_rules.specs.Steps.{Does, Step, performs, asks, copies, expands, rearranges, records, falls_back, reorders}
 use Rattle.def_runs.proofs.OneStruct.{S, setting}
-use Rattle.def_runs.proofs.RowLemmas.{NoneWaits, none_asked, none_recorded, none_taken, none_waits_rearranged}
+use Rattle.def_runs.proofs.RowLemmas.{NoneWaits, none_asked, none_given_up, none_recorded, none_taken, none_waits_rearranged, none_waits_reordered}
 use Rattle.def_runs.proofs.Rows.{module_at, no_session}
 use Rattle.def_runs.proofs.Trees.{node, unit_struct}
 
@@ -146,6 +146,8 @@ goes_on a b (performs task rest effect first does is) way =
     subst IsOnWay (sym is) (record { stage = moves.stage; waits = moves.waits })
 goes_on a b (copies content copy is) way = subst IsOnWay (sym is) (stays a (with_content a.state content) way.waits way)
 goes_on a b (rearranges s same is) way = subst IsOnWay (sym is) (stays a s (none_waits_rearranged a.state s way.waits same) way)
+goes_on a b (reorders macros same is) way = subst IsOnWay (sym is) (stays a (record a.state { macros = macros }) (none_waits_reordered a.state macros way.waits same) way)
+goes_on a b (falls_back effect idle step is) way = absurd (none_given_up setting.oracle a.state effect way.waits.1 step)
 goes_on a b (records effect idle step is) way = absurd (none_recorded setting.oracle a.state effect way.waits.0 step)
 goes_on a b (asks effect idle step is) way = absurd (none_asked setting.oracle a.state effect way.waits.1 step)
 goes_on a b (expands effect idle step is) way = absurd (none_taken setting.oracle a.state effect way.waits.2 step)

@@ -1,5 +1,5 @@
 -- What rows share of their answers: what follows of each run is cited, and only what is special of a row is left to it.
-use Rattle.std.proofs.Common.{◌≡◌, ℕ, List, [], ◌∷◌, ◌++◌, true, false, Some, None, slice_get, refl, sym, subst, ap, ◌∙◌, IsPermutation, Contains, Bool, not, inl, inr}
+use Rattle.std.proofs.Common.{◌&&◌, ◌≡◌, ℕ, List, [], ◌∷◌, ◌++◌, true, false, Some, None, slice_get, refl, sym, subst, ap, ◌∙◌, IsPermutation, Contains, Bool, not, inl, inr}
 use Rattle.std.proofs.lemmas.List.Sorted.{Contains-permutation, IsPermutation-sym}
 use Rattle.std.proofs.lemmas.Bool.{and_parts}
 use Rattle.std.specs.List.{IsDistinct, list_all}
@@ -27,7 +27,9 @@ use Rattle.def_rules.specs.Recording.{ImportStep, NoneReady, import_effect}
 use Rattle.def_rules.specs.Report.{Answer, AreTargets, IsOutcome, marked, report}
 use Rattle.def_rules.specs.Start.{start}
 use Rattle.def_rules.specs.State.{Setting, State, Effect, Moment, ImportDirective, Rearranges, after, order, with_content, with_state}
-use Rattle.def_rules.specs.Waiting.{Expansion, MacroDirective}
+use Rattle.def_rules.specs.Fallback.{FallbackStep}
+use Rattle.def_rules.specs.Settled.{IsNoAttribute, IsSettled}
+use Rattle.def_rules.specs.Waiting.{Attr, Derive, Expansion, FnLike, MacroDirective, MacroDirectiveKind}
 use Rattle.def_rules.specs.Steps.{Reaches, one, asks, copies, expands, records}
 use Rattle.def_rules.specs.Targets.{leaves_out, target_of}
 use Rattle.def_runs.proofs.TableLemmas.{is_false}
@@ -106,9 +108,19 @@ stays (GivesDerive call) = false
 stays (Replaces call) = false
 stays (WalksItem derives written) = false
 
+-- whether what waits is not for an attribute
+abbrev pub waits_otherwise : MacroDirectiveKind → Bool
+waits_otherwise (FnLike written) = true
+waits_otherwise (Attr written) = false
+waits_otherwise (Derive written) = true
+
 -- whether each macro that waits stays, as a test that computes
+abbrev pub all_stay : Oracle → State → Bool
+all_stay oracle s = list_all (λ directive. stays (told oracle s directive).turn) s.macros
+
+-- and whether none waits for an attribute
 abbrev pub each_stays : Oracle → State → Bool
-each_stays oracle s = list_all (λ directive. stays (told oracle s directive).turn) s.macros
+each_stays oracle s = all_stay oracle s && list_all (λ directive. waits_otherwise directive.kind) s.macros
 
 stays_is : (turn : Turn) → stays turn ≡ true → turn ≡ Stays
 stays_is Stays h = refl
@@ -118,9 +130,24 @@ stays_is (Replaces call) h = cc
 stays_is (WalksItem derives written) h = cc
 
 -- each macro that waits stays where the test says so
-pub all_stay_by_test : (oracle : Oracle) (s : State) → each_stays oracle s ≡ true → AllStay oracle s
+pub all_stay_by_test : (oracle : Oracle) (s : State) → all_stay oracle s ≡ true → AllStay oracle s
 all_stay_by_test oracle s passes =
     record { stay = λ directive h. stays_is (told oracle s directive).turn (passes_in (λ d. stays (told oracle s d).turn) s.macros directive passes h) }
+
+otherwise_is : (kind : MacroDirectiveKind) → waits_otherwise kind ≡ true → IsNoAttribute kind
+otherwise_is (FnLike written) h = tt
+otherwise_is (Attr written) h = absurd cc
+otherwise_is (Derive written) h = tt
+
+-- a state is settled where the tests say so
+pub settled_by_tests : (oracle : Oracle) (s : State) → none_is_ready oracle s ≡ true → each_stays oracle s ≡ true → IsSettled oracle s
+settled_by_tests oracle s ready passes =
+    let both = and_parts (all_stay oracle s) (list_all (λ (directive : MacroDirective). waits_otherwise directive.kind) s.macros) passes in
+    record {
+      imports = settled_by_test oracle s ready;
+      macros = all_stay_by_test oracle s both.0;
+      attributes = λ directive h. otherwise_is directive.kind (passes_in (λ (d : MacroDirective). waits_otherwise d.kind) s.macros directive both.1 h);
+    }
 
 -- nothing waits for its turn: no import, no macro and no expansion, nor any derive for its item
 abbrev pub NoneWaits : State → Type 0
@@ -153,6 +180,10 @@ no_element (z ∷ zs) x ys h = cc
 pub none_asked : (oracle : Oracle) (s : State) (effect : Effect) → s.macros ≡ [] → MacroStep oracle s effect → ⊥
 none_asked oracle s effect no_macros step = no_element step.before step.directive step.behind (sym no_macros ∙ step.stands)
 
+-- nor is one given up
+pub none_given_up : (oracle : Oracle) (s : State) (effect : Effect) → s.macros ≡ [] → FallbackStep oracle s effect → ⊥
+none_given_up oracle s effect no_macros step = no_element step.before step.directive step.behind (sym no_macros ∙ step.stands)
+
 -- and no expansion has its turn where none is to be walked
 pub none_taken : (oracle : Oracle) (s : State) (effect : Effect) → s.expansions ≡ [] → ExpansionStep oracle s effect → ⊥
 none_taken oracle s effect no_expansions step = no_element step.before step.expansion step.behind (sym no_expansions ∙ step.stands)
@@ -165,6 +196,10 @@ none_waits_rearranged s t waits same = (
   ap (λ (x : State). x.expansions) same.rest ∙ waits.2,
   ap (λ (x : State). x.deferred) same.rest ∙ waits.3,
 )
+
+-- so it is when the macros are
+pub none_waits_reordered : (s : State) (macros : List MacroDirective) → NoneWaits s → IsPermutation s.macros macros → NoneWaits (record s { macros = macros })
+none_waits_reordered s macros waits same = (waits.0, none_in_any_order macros (subst (λ ms. IsPermutation ms macros) waits.1 same), waits.2, waits.3)
 
 -- what is answered of an end, with this outcome
 abbrev pub answer_of : Oracle → State → Outcome → Answer
@@ -191,7 +226,7 @@ answers w before end outcome runs done expanded ready given shown closed coheren
       declared = declared_along runs refl refl;
       was_put = was_put_along runs refl refl;
       explicit_stays = λ a b run. explicit_stays_along run.goes_on;
-      settled = record { imports = settled; macros = all_stay_by_test w.oracle end.state given };
+      settled = settled_by_tests w.oracle end.state ready given;
       every_namespace = every_namespace_along runs refl refl done settled;
       reported = refl;
     }

@@ -1,4 +1,4 @@
-use Rattle.std.proofs.Common.{[], ◌∷◌, ap, subst, ◌∙◌}
+use Rattle.std.proofs.Common.{[], ◌∷◌, subst}
 use Rattle.def_calls.specs.Shown.{derives_in, macro_directive_of, written_attr_of}
 use Rattle.def_collector.specs.Collector.{state_of}
 use Rattle.def_items.specs.Parts.{directories_of}
@@ -11,18 +11,14 @@ use Rattle.def_rules.specs.State.{State, Visit}
 use Rattle.def_collector.proofs.macro_pass.walk_without.Goals as goal
 
 pub returns-clause-walked : goal.returns-clause-walked
-returns-clause-walked g c = on_ok c.walk_item.result c.walk_item.ensures.run (λ run.
+returns-clause-walked g c = on_ok c.walk_again.result c.walk_again.ensures.run (λ run.
     let oracle = g.D.SourceDatabase.oracle c.args.db.now in
     let s : State = state_of c.args.collector.now c.args.session.now in
     let d = macro_directive_of c.args.directive in
     let written = written_attr_of c.args.list.written in
     let left = c.leave.ensures in
-    let t : State = state_of c.walk_item.new.collector c.walk_item.new.session in
-    let passed : State = state_of (record c.args.collector.now { unresolved_macros = c.leave.new.directives; item_attrs = c.pass_over.new.self }) c.args.session.now in
+    let t : State = state_of c.walk_again.new.collector c.walk_again.new.session in
     let tried : State = state_of c.try_derives.new.collector c.args.session.now in
-    let there : Leads oracle (Visit (item_site s d written) written.item ∷ []) tried [] t =
-    subst (λ dir. Leads oracle (Visit (record (item_site s d written) { directory = dir }) written.item ∷ []) tried [] t)
-    (c.in_ok-dir.ensures ∙ ap (λ dirs. stored_directory (directories_of dirs) d.scope) c.try_derives.ensures.dirs) run in
     record {
       before = left.before;
       behind = left.behind;
@@ -30,5 +26,6 @@ returns-clause-walked g c = on_ok c.walk_item.result c.walk_item.ensures.run (λ
       tried = tried;
       tries = subst (λ u. Tried oracle d (derives_in c.args.list) u tried)
           (λ i. record s { macros = left.left i; skipped = c.in_ok-pass_over.ensures.skipped i; active = c.pass_over.ensures.active i }) c.in_ok-try_derives.ensures.tried;
-      leads = there;
+      leads = subst (λ dirs. Leads oracle (Visit (record (item_site s d written) { directory = stored_directory (directories_of dirs) d.scope }) written.item ∷ []) tried [] t)
+          c.try_derives.ensures.dirs run;
     })

@@ -1,0 +1,19 @@
+use Rattle.std.proofs.Common.{get_or, None, ◌∙◌, Some, ap, arith, refl, subst, sym}
+use Rattle.std.proofs.lemmas.List.{get_or_default, take_all}
+use Rattle.std.proofs.lemmas.Option.{slice_get-get_or}
+use Rattle.def_calls.proofs.FallbackLemmas.{HasNoItem, no_item_more, no_item_yet, where_none}
+use Rattle.def_calls.proofs.fallback.first_item.Goals as goal
+
+pub directives-init : goal.directives-init
+directives-init c = no_item_yet
+
+pub directives-preserved : goal.directives-preserved
+directives-preserved c =
+    let entries = c.args.directives.now in
+    let at = c.directives.at in
+    let entry = get_or entries at None in
+    let other = where_none c.item_at-item.result (sym c.if-is_some.false ∙ c.is_some.ensures) c.item_at-item.ensures.none in
+    no_item_more entries at entry c.directives-test.true (get_or_default entries at None entry c.directives-test.true) (λ d is. other d (slice_get-get_or entries at None c.directives-test.true ∙ ap (λ x. Some x) is)) c.directives.invariant
+
+pub returns-clause-none : goal.returns-clause-none
+returns-clause-none c = subst HasNoItem (take_all c.directives.at c.args.directives.now (omega (arith, c.directives-test.false))) c.directives.invariant
