@@ -23,3 +23,4 @@ pub mod Waiting
 pub mod Attribute
 pub mod Derived
 pub mod Unresolved
+pub mod GivenUp

@@ -27,7 +27,7 @@ use Rattle.def_rules.specs.Recording.{ImportStep, NoneReady, import_effect}
 use Rattle.def_rules.specs.Report.{Answer, AreTargets, IsOutcome, marked, report}
 use Rattle.def_rules.specs.Start.{start}
 use Rattle.def_rules.specs.State.{Setting, State, Effect, Moment, ImportDirective, Rearranges, after, order, with_content, with_state}
-use Rattle.def_rules.specs.Fallback.{FallbackStep}
+use Rattle.def_rules.specs.Fallback.{FallbackStep, IsStuck}
 use Rattle.def_rules.specs.Settled.{IsNoAttribute, IsSettled}
 use Rattle.def_rules.specs.Waiting.{Attr, Derive, Expansion, FnLike, MacroDirective, MacroDirectiveKind}
 use Rattle.def_rules.specs.Steps.{Reaches, one, asks, copies, expands, records}
@@ -246,6 +246,13 @@ coherent_without o left_out c s none = subst (λ ts. IsCoherent o left_out (targ
 raised_without : (o : Order Visibility) (c : Content Visibility) → NoEdge c → (importer : ModuleId) (slot : Slot) → IsRaisedAt o c importer slot
 raised_without o c none importer slot source index edge at =
     let at_none = sym (ap (λ es. slice_get es index) (none source)) ∙ at in absurd cc
+
+-- a state without edges is stuck where no expansion is to be walked and the tests say so
+pub stuck_without : (oracle : Oracle) (s : State) → s.expansions ≡ [] → none_is_ready oracle s ≡ true → all_stay oracle s ≡ true → NoEdge s.content → IsStuck oracle s
+stuck_without oracle s bare ready stay none = record {
+  quiet = record { closed = closed_without (order s) (leaves_out s) s.content none; imports = settled_by_test oracle s ready; expansions = bare };
+  macros = all_stay_by_test oracle s stay;
+}
 
 -- so the answer of a run in which no glob was recorded is right where no expansion is left, no import is ready and no macro is given a call
 pub answers_without : (w : Setting) (before : Session) (end : Moment) (outcome : Outcome) → Reaches w.oracle (start w before) end → end.tasks ≡ [] → end.state.expansions ≡ []
