@@ -8,6 +8,7 @@ mod derives;
 mod examples;
 mod expansions;
 mod extern_crates;
+mod fast_path;
 mod files;
 mod glob_kinds;
 mod kinds;
