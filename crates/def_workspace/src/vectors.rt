@@ -16,7 +16,7 @@ const LATE: CallText = CallText {
 };
 
 /// The vectors in byte order of their names.
-static VECTORS: [Vector; 17] = [
+static VECTORS: [Vector; 18] = [
     Vector {
         name: "attrs",
         files: &[r#"#![recursion_limit = "4"] #![no_core] #![no_std] #![feature(register_tool)]"#],
@@ -57,6 +57,11 @@ static VECTORS: [Vector; 17] = [
     Vector {
         name: "excused",
         files: &["extern crate gone as g; use g::X; use ::g::Y; use self::g::Z;"],
+        ..ALONE
+    },
+    Vector {
+        name: "fallback",
+        files: &["#[nope] #[nix] pub struct S;"],
         ..ALONE
     },
     Vector {

@@ -9,6 +9,7 @@ mod examples;
 mod expansions;
 mod extern_crates;
 mod fast_path;
+mod fallback;
 mod files;
 mod glob_kinds;
 mod kinds;

@@ -58,7 +58,7 @@ const WITH_TESTS: Vector = Vector {
     ..ALONE
 };
 
-static REPLACED: [Row; 7] = [
+static REPLACED: [Row; 6] = [
     (
         Vector {
             name: "the expansion of an attribute macro stands in the place of the item",
@@ -104,43 +104,6 @@ binding 0 T values struct:0 pub decl
 binding 0 late macros macro:0 in:0 import:0.0
 binding 0 m types mod:1 in:0 decl
 binding 1 at macros macro:0 pub decl
-",
-    ),
-    (
-        Vector {
-            name: "or an expansion that an import waits for",
-            files: &[
-                "#[late] pub struct S; use m::at as late; mod m { crate::one!(); }
-                pub macro one {}",
-            ],
-            styles: &[StyleText {
-                file: HirFileId::Macro(MacroCallId(0)),
-                ..AT
-            }],
-            calls: &[
-                CallText {
-                    ast_id: 3,
-                    of: ITEM,
-                    gives: "pub macro at {}",
-                    ..CALL
-                },
-                CallText {
-                    ast_id: 0,
-                    of: SECOND_ITEM,
-                    gives: "pub struct S;",
-                    ..ON_ITEM
-                },
-            ],
-            ..ALONE
-        },
-        "module 0 - crate
-module 1 0 m
-binding 0 S types struct:0 pub decl
-binding 0 S values struct:0 pub decl
-binding 0 late macros macro:1 in:0 import:0.0
-binding 0 m types mod:1 in:0 decl
-binding 0 one macros macro:0 pub decl
-binding 1 at macros macro:1 pub decl
 ",
     ),
     (
@@ -212,15 +175,18 @@ fn attribute_macros_replace_items(rt: HostRuntime) -> Result<(), Fault> {
     expect_rows(&rt, rt.alloc(), &REPLACED)
 }
 
-static LEFT: [Row; 5] = [
+/// Rows of attributes that are no macros, or whose macro is nowhere.
+static GIVEN_UP: [Row; 5] = [
     (
         Vector {
-            name: "an item whose attribute is not known waits",
+            name: "an item whose attribute is not known stands without it",
             files: &["#[nope] pub struct S;"],
             ..ALONE
         },
         "module 0 - crate
-left macro 0 attr nope
+binding 0 S types struct:0 pub decl
+binding 0 S values struct:0 pub decl
+diag unresolved-macro 0 0:0 attr:0 nope
 ",
     ),
     (
@@ -230,8 +196,10 @@ left macro 0 attr nope
             ..ALONE
         },
         "module 0 - crate
+binding 0 S types struct:0 pub decl
+binding 0 S values struct:0 pub decl
 binding 0 at macros macro:0 pub decl
-left macro 0 attr at
+diag unresolved-macro 0 0:1 attr:0 at
 ",
     ),
     (
@@ -252,13 +220,17 @@ binding 0 S values struct:0 pub decl
             ..ALONE
         },
         "module 0 - crate
-left macro 0 attr macro_use::at
-left macro 0 attr self::macro_use
+binding 0 S types struct:0 pub decl
+binding 0 S values struct:0 pub decl
+binding 0 T types struct:1 pub decl
+binding 0 T values struct:1 pub decl
+diag unresolved-macro 0 0:0 attr:0 macro_use::at
+diag unresolved-macro 0 0:1 attr:0 self::macro_use
 ",
     ),
     (
         Vector {
-            name: "the first attribute that may be a macro counts",
+            name: "the first attribute that may be a macro counts, and then those behind it",
             files: &["pub macro at {} #[macro_use] #[nope] #[at] pub struct S;"],
             calls: &[CallText {
                 gives: "pub struct T;",
@@ -267,15 +239,18 @@ left macro 0 attr self::macro_use
             ..WITH_AT
         },
         "module 0 - crate
+binding 0 T types struct:0 pub decl
+binding 0 T values struct:0 pub decl
 binding 0 at macros macro:0 pub decl
-left macro 0 attr nope
+diag unresolved-macro 0 0:1 attr:1 nope
 ",
     ),
 ];
 
+/// An item is walked without an attribute whose macro is not found, and the attribute is reported.
 #[test]
-fn attributes_wait_for_macros(rt: HostRuntime) -> Result<(), Fault> {
-    expect_rows(&rt, rt.alloc(), &LEFT)
+fn attributes_that_are_no_macros_are_given_up(rt: HostRuntime) -> Result<(), Fault> {
+    expect_rows(&rt, rt.alloc(), &GIVEN_UP)
 }
 
 static PASSED_OVER: [Row; 7] = [
@@ -334,9 +309,12 @@ binding 0 other macros macro:0 pub decl
             ..WITH_TESTS
         },
         "module 0 - crate
+binding 0 f values fn:1 in:0 decl
+binding 0 g values fn:0 pub decl
 binding 0 test macros macro:0 pub decl
-left macro 0 attr nope
-left macro 0 attr nix
+diag unresolved-macro 0 0:1 attr:0 nope
+diag unresolved-macro 0 0:2 attr:1 nix
+diag unresolved-macro 0 0:1 attr:2 nix
 ",
     ),
     (
@@ -456,7 +434,7 @@ left import 3 super::t
     ),
     (
         Vector {
-            name: "else each waits for its own",
+            name: "else each waits for its own, and is given up by itself",
             files: &[
                 "#[rustc_builtin_macro] pub macro test {} use test as t;
                 #[path = \"x.rs\"] pub mod a; pub mod n { #[path = \"x.rs\"] pub mod b; }",
@@ -476,9 +454,10 @@ binding 0 test macros macro:0 pub decl
 binding 1 f values fn:0 pub decl
 binding 1 t macros macro:0 in:1 import:1.0
 binding 2 b types mod:3 pub decl
+binding 3 f values fn:1 pub decl
+diag unresolved-macro 3 1:1 attr:0 t
 diag unresolved-import 3 1:0 0
 left import 3 super::t
-left macro 3 attr t
 ",
     ),
 ];

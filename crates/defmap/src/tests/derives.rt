@@ -294,8 +294,10 @@ binding 0 derive macros macro:1 pub decl
         },
         "module 0 - crate
 binding 0 D macros macro:1 pub decl
+binding 0 S types struct:0 pub decl
+binding 0 S values struct:0 pub decl
 binding 0 derive macros macro:0 pub decl
-left macro 0 attr help
+diag unresolved-macro 0 0:2 attr:1 help
 ",
     ),
     (
@@ -312,9 +314,11 @@ left macro 0 attr help
         "module 0 - crate
 binding 0 S types struct:0 pub decl
 binding 0 S values struct:0 pub decl
+binding 0 T types struct:1 pub decl
+binding 0 T values struct:1 pub decl
 binding 0 d types mod:1/0 in:0 extern:0
 binding 0 derive macros macro:1 pub decl
-left macro 0 attr help
+diag unresolved-macro 0 0:3 attr:0 help
 ",
     ),
     (
@@ -368,11 +372,13 @@ binding 0 derive macros macro:1 pub decl
             ..WITH_DERIVE
         },
         "module 0 - crate
+binding 0 A types struct:1 pub decl
+binding 0 A values struct:1 pub decl
 binding 0 S types struct:0 pub decl
 binding 0 S values struct:0 pub decl
 binding 0 d types mod:1/0 in:0 extern:0
 binding 0 derive macros macro:1 pub decl
-left macro 0 attr help
+diag unresolved-macro 0 m0:0 attr:0 help
 ",
     ),
 ];

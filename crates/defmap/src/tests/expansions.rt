@@ -290,3 +290,51 @@ fn a_macro_without_an_end_stops(rt: HostRuntime) -> Result<(), Fault> {
     }
     Ok(())
 }
+
+/// A call of a chain of two macros that call each other, by its number: each gives a struct and a
+/// call of the other one.
+fn in_turn(number: usize) -> CallText {
+    match number.checked_sub(1) {
+        None => CallText {
+            ast_id: 2,
+            gives: "struct A; bar!();",
+            ..CALL
+        },
+        Some(before) if before % 2 == 0 => CallText {
+            file: HirFileId::Macro(MacroCallId(before)),
+            of: MacroId::MacroRules(MacroRulesId(1)),
+            gives: "struct A; foo!();",
+            ..CALL
+        },
+        Some(before) => CallText {
+            file: HirFileId::Macro(MacroCallId(before)),
+            gives: "struct A; bar!();",
+            ..CALL
+        },
+    }
+}
+
+/// Two textual macros, and a call of the first.
+const TWO_MACROS: Vector = Vector {
+    files: &["macro_rules! foo {} macro_rules! bar {} foo!();"],
+    ..ALONE
+};
+
+/// How many calls the root records, and how many structs their expansions declare, where two macros
+/// call each other.
+fn recorded_in_turn(alloc: Global) -> Result<Option<(usize, usize)>, Fault> {
+    let mut workspace = Workspace::new(alloc, &TWO_MACROS)?;
+    for number in 0..140 {
+        workspace.add_call(MacroCallId(number), &in_turn(number))?;
+    }
+    let collected = workspace.collect(&ALONE.crates[0])?;
+    let root = collected.def_map.scope(0);
+    Ok(root.map(|scope| (scope.invocations().len(), scope.declarations().len())))
+}
+
+/// All but the last call that is recorded are expanded.
+#[test]
+fn two_macros_that_call_each_other_stop(rt: HostRuntime) -> Result<(), Fault> {
+    assert_eq!(rt; recorded_in_turn(rt.alloc())?, Some((129, 128)));
+    Ok(())
+}

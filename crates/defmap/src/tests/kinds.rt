@@ -4,7 +4,7 @@
 use crate::tests::rows::{Row, expect_rows, expect_vectors};
 use def_workspace::{ALONE, Fault, Vector};
 
-static ROWS: [Row; 6] = [
+static ROWS: [Row; 7] = [
     (
         Vector {
             name: "a name is bound where its kind stands",
@@ -23,6 +23,14 @@ static ROWS: [Row; 6] = [
             ..ALONE
         },
         "module 0 - crate\nbinding 0 C values const:0 in:0 decl\nbinding 0 O types type:0 in:0 decl\nbinding 0 T values static:0 in:0 decl\nbinding 0 U types union:0 in:0 decl\nbinding 0 g values fn:0 in:0 decl\n",
+    ),
+    (
+        Vector {
+            name: "a visibility whose path leads to no module is public",
+            files: &["pub(in crate::S) struct B; pub struct S;"],
+            ..ALONE
+        },
+        "module 0 - crate\nbinding 0 B types struct:0 pub decl\nbinding 0 B values struct:0 pub decl\nbinding 0 S types struct:1 pub decl\nbinding 0 S values struct:1 pub decl\n",
     ),
     (
         Vector {
