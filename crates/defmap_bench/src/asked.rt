@@ -24,7 +24,7 @@ pub struct Asked {
 }
 
 /// What each word asks for.
-static WORDS: [(&str, Subject); 14] = [
+static WORDS: [(&str, Subject); 15] = [
     ("all", Subject::All),
     ("items", Subject::One(Shape::Items)),
     ("imports", Subject::One(Shape::Imports)),
@@ -36,6 +36,7 @@ static WORDS: [(&str, Subject); 14] = [
     ("call-chain", Subject::One(Shape::CallChain)),
     ("queued", Subject::One(Shape::QueuedCalls)),
     ("derives", Subject::One(Shape::Derives)),
+    ("fallback", Subject::One(Shape::GivenUp)),
     ("trees", Subject::Trees),
     ("tables", Subject::Tables),
     ("globs", Subject::Globs),

@@ -31,6 +31,8 @@ pub enum Shape {
     /// Structs with three derives each, whose macros are found at once. A derive's call is named by
     /// its struct alone, so the three share one expansion, an impl, which is walked three times.
     Derives,
+    /// Structs with an attribute whose macro is not there: each is given up once nothing else moves.
+    GivenUp,
     /// Modules in one another with structs around them, always the same, and no imports: a text
     /// for trees alone.
     Nested,
@@ -92,6 +94,9 @@ static REAL_SIZES: [usize; 4] = [2_550, 10_200, 102_000, 1_020_000];
 
 static PASS_SIZES: [usize; 3] = [402, 2_002, 20_002];
 
+/// The numbers of items of which one is given up after each pass.
+static GIVEN_UP_SIZES: [usize; 2] = [400, 2_000];
+
 impl Shape {
     /// What it is, in words.
     pub fn title(self) -> &'static str {
@@ -109,6 +114,9 @@ impl Shape {
             Shape::CallChain => "a chain of calls: each gives the macro of the next one",
             Shape::QueuedCalls => "calls before their macro: one pass expands them all",
             Shape::Derives => "structs with three derives each",
+            Shape::GivenUp => {
+                "structs whose attributes have no macros: quadratic, so only small sizes"
+            },
             Shape::Nested => "modules in one another with structs around them",
         }
     }
@@ -118,6 +126,7 @@ impl Shape {
         match self {
             Shape::RealCode => REAL_SIZES.as_slice(),
             Shape::OneEachPass => PASS_SIZES.as_slice(),
+            Shape::GivenUp => GIVEN_UP_SIZES.as_slice(),
             _ => THREE_SIZES.as_slice(),
         }
     }
@@ -139,6 +148,7 @@ fn length(plan: Plan) -> usize {
         Shape::Imports => half + 1 + half / USER_LINES * USER_LINES,
         Shape::RealCode => plan.size / REAL_LINES * REAL_LINES,
         Shape::Calls | Shape::CallChain | Shape::QueuedCalls => plan.size.saturating_add(1),
+        Shape::GivenUp => plan.size,
         Shape::Derives => plan.size.saturating_add(2),
         _ => half.saturating_mul(2).saturating_add(SOURCE_LINES),
     }
@@ -358,6 +368,15 @@ fn deriving_line(place: usize) -> Line {
     }
 }
 
+/// A struct with an attribute that names no macro of so many lines.
+fn given_up_line(lines: usize, place: usize) -> Line {
+    root_line(Item::Deriving {
+        number: place,
+        attribute: lines,
+        derived: 0,
+    })
+}
+
 /// What the calls on the line at a place give. Where no calls are written, there is nothing.
 fn given_at(shape: Shape, place: usize) -> Option<Item> {
     match shape {
@@ -381,6 +400,7 @@ fn line_at(plan: Plan, random: &mut Random, open: usize, place: usize) -> Line {
         Shape::CallChain => call_line(place, place.saturating_sub(1)),
         Shape::QueuedCalls => queued_line(plan.size, place),
         Shape::Derives => deriving_line(place),
+        Shape::GivenUp => given_up_line(plan.size, place),
         Shape::Nested => pattern_line(place),
     }
 }
