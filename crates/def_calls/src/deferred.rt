@@ -35,7 +35,8 @@ impl DeferredDerives {
 
     /// Whether none is deferred.
     pub fn is_empty(&self) -> bool
-        ensures { result ≡ true → deferrals_of self.now ≡ [] }
+        ensures none { result ≡ true → deferrals_of self.now ≡ [] }
+        ensures told { deferrals_of self.now ≡ [] → result ≡ true }
     {
         self.by_item.is_empty()
     }

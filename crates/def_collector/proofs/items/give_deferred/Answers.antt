@@ -14,7 +14,7 @@ use Rattle.def_collector.proofs.items.give_deferred.Goals as goal
 
 pub returns-then-is_empty-clause-gave : goal.returns-then-is_empty-clause-gave
 returns-then-is_empty-clause-gave g c =
-    gave_nothing (g.D.SourceDatabase.oracle c.args.db.now) (state_of c.args.collector.now c.args.session.now) (site_of c.args.site) c.args.node.now (c.is_empty.ensures c.if-is_empty.true)
+    gave_nothing (g.D.SourceDatabase.oracle c.args.db.now) (state_of c.args.collector.now c.args.session.now) (site_of c.args.site) c.args.node.now (c.is_empty.ensures.none c.if-is_empty.true)
 
 pub returns-in_default-take-clause-gave : goal.returns-in_default-take-clause-gave
 returns-in_default-take-clause-gave g c =
