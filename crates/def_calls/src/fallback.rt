@@ -1,5 +1,5 @@
 //! Attributes whose macros are not found: which one is given up, and what becomes of its place.
-ghost use Rattle.std.specs.Prelude.{◌≡◌, ◌++◌, ◌∷◌, [], Some, Contains, IfNone, IfSome, IsPermutation, OnOk, slice_get};
+ghost use Rattle.std.specs.Prelude.{◌≡◌, ◌++◌, ◌∷◌, [], Some, Contains, IfNone, IfSome, IsPermutation, OnOk, slice_get, take};
 ghost use Rattle.def_calls.specs.Shown.{kind_of, macro_directive_of, macros_in, written_attr_of};
 ghost use Rattle.def_rules.specs.Fallback.{attr_diagnostic};
 ghost use Rattle.def_rules.specs.Settled.{IsNoAttribute};
@@ -23,6 +23,7 @@ pub struct WaitingItem<'a> {
 pub fn first_item<'a>(directives: &[Option<MacroDirective<'a>>]) -> Option<WaitingItem<'a>>
     ensures here { IfSome result (λ item. slice_get directives.now item.at ≡ Some (Some item.directive)) }
     ensures attr { IfSome result (λ item. kind_of item.directive.kind ≡ waits.Attr (written_attr_of item.written)) }
+    ensures first { IfSome result (λ item. (d : waits.MacroDirective) → Contains (macros_in (take item.at directives.now)) d → IsNoAttribute d.kind) }
     ensures none { IfNone result ((d : waits.MacroDirective) → Contains (macros_in directives.now) d → IsNoAttribute d.kind) }
 {
     'directives: for at in 0..directives.len() {
@@ -36,6 +37,7 @@ pub fn first_item<'a>(directives: &[Option<MacroDirective<'a>>]) -> Option<Waiti
 
 /// The item that waits for the macro of an attribute at a place, if one does.
 fn item_at<'a>(directives: &[Option<MacroDirective<'a>>], at: usize) -> Option<WaitingItem<'a>>
+    ensures place { IfSome result (λ item. item.at ≡ at) }
     ensures here { IfSome result (λ item. slice_get directives.now item.at ≡ Some (Some item.directive)) }
     ensures attr { IfSome result (λ item. kind_of item.directive.kind ≡ waits.Attr (written_attr_of item.written)) }
     ensures none { IfNone result ((d : MacroDirective) →

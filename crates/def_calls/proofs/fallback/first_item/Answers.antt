@@ -1,6 +1,6 @@
-use Rattle.std.proofs.Common.{get_or, None, ◌∙◌, Some, ap, arith, refl, subst, sym}
+use Rattle.std.proofs.Common.{get_or, take, None, ◌∙◌, Some, ap, arith, subst, sym}
 use Rattle.std.proofs.lemmas.List.{get_or_default, take_all}
-use Rattle.std.proofs.lemmas.Option.{slice_get-get_or}
+use Rattle.std.proofs.lemmas.Option.{IfSome_then, slice_get-get_or}
 use Rattle.def_calls.proofs.FallbackLemmas.{HasNoItem, no_item_more, no_item_yet, where_none}
 use Rattle.def_calls.proofs.fallback.first_item.Goals as goal
 
@@ -14,6 +14,10 @@ directives-preserved c =
     let entry = get_or entries at None in
     let other = where_none c.item_at-item.result (sym c.if-is_some.false ∙ c.is_some.ensures) c.item_at-item.ensures.none in
     no_item_more entries at entry c.directives-test.true (get_or_default entries at None entry c.directives-test.true) (λ d is. other d (slice_get-get_or entries at None c.directives-test.true ∙ ap (λ x. Some x) is)) c.directives.invariant
+
+pub returns-then-is_some-clause-first : goal.returns-then-is_some-clause-first
+returns-then-is_some-clause-first c =
+    IfSome_then c.item_at-item.result c.item_at-item.ensures.place (λ item same. subst (λ at. HasNoItem (take at c.args.directives.now)) (sym same) c.directives.invariant)
 
 pub returns-clause-none : goal.returns-clause-none
 returns-clause-none c = subst HasNoItem (take_all c.directives.at c.args.directives.now (omega (arith, c.directives-test.false))) c.directives.invariant
