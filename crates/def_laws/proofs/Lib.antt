@@ -28,6 +28,9 @@ pub mod CallsLaws
 pub mod ListLaws
 pub mod AddedLaws
 pub mod RunsLaws
+pub mod DeferredKeysLaws
+pub mod QueuedLaws
+pub mod DeferredLeftLaws
 pub mod FailedLaws
 pub mod StaysLaws
 pub mod DeclaredLaws
