@@ -23,9 +23,8 @@ use Rattle.def_steps.specs.Shown.{directive_of}
 use Rattle.def_rules.specs.Crates.{deps_by_name, is_proc_macro_crate}
 use Rattle.def_rules.specs.Globs.{Targets}
 use Rattle.def_rules.specs.Headline.{Answers}
-use Rattle.def_rules.specs.Settled.{IsSettled}
 use Rattle.def_rules.specs.Report.{Answer, with_macro_reports}
-use Rattle.def_laws.specs.Finished.{NoneFailed, IsFinished}
+use Rattle.def_laws.specs.Finished.{NoneFailed, IsAtRest, IsFinished}
 use Rattle.def_rules.specs.Start.{first_tasks, seeded_state, started}
 use Rattle.def_rules.specs.State as rules
 use Rattle.def_rules.specs.Waiting as waits
@@ -71,7 +70,7 @@ module _ (w : Setting) (before : Session) (s : State) (same : s ≡ seeded_state
   begun_sound = subst (λ x. IsSoundWith (first_tasks w.oracle x.map w.tree) (started w.oracle w.tree x)) (sym same) (begins_sound w before given fresh)
 
   -- what was collected and finished answers, once its macros were reported
-  pub collected_answers : (after : Session) (t u : State) (answer : Answer) → Collects w.oracle (first_tasks w.oracle s.map w.tree) (started w.oracle w.tree s) [] t → IsSoundWith [] t → IsSettled w.oracle t → t.expansions ≡ [] → t.session ≡ after
+  pub collected_answers : (after : Session) (t u : State) (answer : Answer) → Collects w.oracle (first_tasks w.oracle s.map w.tree) (started w.oracle w.tree s) [] t → IsSoundWith [] t → IsAtRest w.oracle t → t.expansions ≡ [] → t.session ≡ after
       → u ≡ with_macro_reports w.oracle t → IsFinished u answer → Answers w before after answer
   collected_answers after t u answer collects sound settled expanded session reported finished =
       answers w before after answer t (subst (λ x. Collects w.oracle (first_tasks w.oracle x.map w.tree) (started w.oracle w.tree x) [] t) same collects)

@@ -7,10 +7,11 @@ use Rattle.def_rules.specs.Calls.{deepest}
 use Rattle.def_rules.specs.Directives.{AllStay, walked_state}
 use Rattle.def_rules.specs.Fallback.{IsStuck, attr_reported}
 use Rattle.def_rules.specs.Recording.{NoneReady}
-use Rattle.def_rules.specs.Settled.{IsNoAttribute, IsSettled}
+use Rattle.def_rules.specs.Settled.{IsNoAttribute}
 use Rattle.def_rules.specs.State.{State, Visit}
 use Rattle.def_rules.specs.Waiting.{Attr, MacroDirective, WrittenAttr}
 use Rattle.def_laws.specs.Depths.{OnlyInvokes, waiting_work}
+use Rattle.def_laws.specs.Finished.{IsAtRest}
 use Rattle.def_laws.specs.Runs.{Collects, Leads}
 use Rattle.def_laws.specs.Sound.{IsSoundWith}
 use Rattle.def_laws.proofs.PassLaws.{collects_given_up, collects_ordered, given_up_lighter, given_up_state, none_ready_same, ordered_work, tried_none}
@@ -24,8 +25,8 @@ stuck_then oracle s t sound ready turns bare stay = record {
   macros = stay;
 }
 
--- and settled where none waits for an attribute
-pub settled_then : (oracle : Oracle) (s t : State) → IsStuck oracle s → t ≡ s → ((d : MacroDirective) → Contains t.macros d → IsNoAttribute d.kind) → IsSettled oracle t
+-- and at rest where none waits for an attribute
+pub settled_then : (oracle : Oracle) (s t : State) → IsStuck oracle s → t ≡ s → ((d : MacroDirective) → Contains t.macros d → IsNoAttribute d.kind) → IsAtRest oracle t
 settled_then oracle s t stuck same none =
     record { imports = subst (NoneReady oracle) (sym same) stuck.quiet.imports; macros = subst (AllStay oracle) (sym same) stuck.macros; attributes = none }
 

@@ -3,10 +3,11 @@ ghost use Rattle.std.specs.Prelude.{◌≡◌, ◌<◌, [], false, true, Contain
 ghost use Rattle.def_interner.specs.Session.{AddsLocations, session_of};
 ghost use Rattle.def_collector.specs.Collector.{state_of};
 ghost use Rattle.def_collector.specs.Passes.{HasMoved};
+ghost use Rattle.def_laws.specs.Finished.{IsAtRest};
 ghost use Rattle.def_laws.specs.Sound.{IsSoundWith};
 ghost use Rattle.def_rules.specs.Fallback.{IsStuck};
 ghost use Rattle.def_rules.specs.Recording.{NoneReady};
-ghost use Rattle.def_rules.specs.Settled.{IsNoAttribute, IsSettled};
+ghost use Rattle.def_rules.specs.Settled.{IsNoAttribute};
 ghost use Rattle.def_rules.specs.Waiting.{MacroDirective};
 
 use crate::collector::DefCollector;
@@ -30,7 +31,7 @@ pub fn move_on<'a, D: SourceDatabase>(
         HasMoved (D.oracle db.now) (state_of collector.old session.old) moved (state_of collector.new session.new)) }
     ensures expanded { OnOk result (collector.new.expansions.items ≡ []) }
     ensures settled { IfOk result (λ moved. moved ≡ false →
-        IsSettled (D.oracle db.now) (state_of collector.new session.new)) }
+        IsAtRest (D.oracle db.now) (state_of collector.new session.new)) }
     ensures session { AddsLocations (session_of session.old) (session_of session.new) }
 {
     if resolve_macros(collector, db, session)? {

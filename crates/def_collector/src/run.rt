@@ -11,13 +11,12 @@ ghost use Rattle.def_map.specs.DefMaps as whole;
 ghost use Rattle.def_map.specs.Fresh.{IsFresh};
 ghost use Rattle.def_modules.specs.Locals.{local_view};
 ghost use Rattle.def_modules.specs.Maps.{map_state};
-ghost use Rattle.def_laws.specs.Finished.{shown};
+ghost use Rattle.def_laws.specs.Finished.{IsAtRest, shown};
 ghost use Rattle.def_collector.specs.Collector.{state_of};
 ghost use Rattle.def_collector.specs.Setting.{setting_of};
 ghost use Rattle.def_rules.specs.Headline.{Answers};
 ghost use Rattle.def_rules.specs.Recording.{NoneReady};
 ghost use Rattle.def_rules.specs.Report.{macro_report, with_macro_reports};
-ghost use Rattle.def_rules.specs.Settled.{IsSettled};
 ghost use Rattle.def_rules.specs.Start.{first_depth, first_tasks, first_tree};
 ghost use Rattle.def_rules.specs.Start.{seeded_state, started};
 ghost use Rattle.def_laws.specs.Runs.{Collects, Leads};
@@ -132,7 +131,7 @@ fn collect<'a, D: SourceDatabase>(
         [] (state_of collector.new session.new)) }
     ensures sound { OnOk result (IsSoundWith [] (state_of collector.new session.new)) }
     ensures expanded { OnOk result (collector.new.expansions.items ≡ []) }
-    ensures settled { OnOk result (IsSettled (D.oracle db.now) (state_of collector.new session.new)) }
+    ensures settled { OnOk result (IsAtRest (D.oracle db.now) (state_of collector.new session.new)) }
     ensures session { AddsLocations (session_of session.old) (session_of session.new) }
 {
     seed_with_top_level(collector, db, session, tree_id)?;
@@ -192,7 +191,7 @@ fn resolution_loop<'a, D: SourceDatabase>(
         [] (state_of collector.old session.old) [] (state_of collector.new session.new)) }
     ensures sound { OnOk result (IsSoundWith [] (state_of collector.new session.new)) }
     ensures expanded { OnOk result (collector.new.expansions.items ≡ []) }
-    ensures settled { OnOk result (IsSettled (D.oracle db.now) (state_of collector.new session.new)) }
+    ensures settled { OnOk result (IsAtRest (D.oracle db.now) (state_of collector.new session.new)) }
     ensures session { AddsLocations (session_of session.old) (session_of session.new) }
 {
     import_passes(collector, db, session)?;

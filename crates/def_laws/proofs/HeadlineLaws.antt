@@ -7,22 +7,22 @@ use Rattle.def_laws.specs.Sound.{IsSoundWith}
 use Rattle.def_rules.specs.Targets.{leaves_out, target_of}
 use Rattle.def_rules.specs.Headline.{Answers}
 use Rattle.def_rules.specs.Report.{Answer, with_macro_reports}
-use Rattle.def_laws.specs.Finished.{NoneFailed, IsFinished}
-use Rattle.def_rules.specs.Settled.{IsSettled}
+use Rattle.def_laws.specs.Finished.{NoneFailed, IsAtRest, IsFinished}
 use Rattle.def_rules.specs.Start.{first_tasks, seeded_state, start, started}
 use Rattle.def_rules.specs.State.{Setting, State, Moment, order}
 use Rattle.def_laws.specs.Runs.{Collects, at}
 use Rattle.def_rules.specs.Steps.{Reaches}
 use Rattle.def_laws.proofs.DeclaredLaws.{declared_along, was_put_along}
+use Rattle.def_laws.proofs.DeferredLeftLaws.{none_deferred_along}
 use Rattle.def_laws.proofs.EveryNamespaceLaws.{every_namespace_along}
 use Rattle.def_laws.proofs.FailedLaws.{none_failed_along}
 use Rattle.def_laws.proofs.StaysLaws.{explicit_stays_along}
 
 -- where a run from the seeded map leads to an end at which nothing is left to do, and no import or macro gives anything, what is answered of that end, with its macros reported, is right
-pub answers : (w : Setting) (before after : Session) (answer : Answer) (t : State) → Collects w.oracle (first_tasks w.oracle w.seeded w.tree) (started w.oracle w.tree (seeded_state w before)) [] t → IsSettled w.oracle t → t.expansions ≡ [] → t.session ≡ after → NoneFailed w.seeded
+pub answers : (w : Setting) (before after : Session) (answer : Answer) (t : State) → Collects w.oracle (first_tasks w.oracle w.seeded w.tree) (started w.oracle w.tree (seeded_state w before)) [] t → IsAtRest w.oracle t → t.expansions ≡ [] → t.session ≡ after → NoneFailed w.seeded
     → IsSoundWith (first_tasks w.oracle w.seeded w.tree) (started w.oracle w.tree (seeded_state w before)) → IsSoundWith [] t
     → IsFinished (with_macro_reports w.oracle t) answer → Answers w before after answer
-answers w before after answer t collects settled expanded session clean begun ended finished =
+answers w before after answer t collects rest expanded session clean begun ended finished =
     record {
       run = record { end = end; runs = runs; done = refl; expanded = expanded };
       session = session;
@@ -39,8 +39,8 @@ answers w before after answer t collects settled expanded session clean begun en
       declared = declared_along runs refl refl;
       was_put = was_put_along runs refl refl;
       explicit_stays = λ a b run. explicit_stays_along run.goes_on;
-      settled = settled;
-      every_namespace = every_namespace_along runs refl refl refl settled.imports;
+      settled = record { imports = rest.imports; macros = rest.macros; attributes = rest.attributes; deferred = none_deferred_along w before end runs refl rest.attributes };
+      every_namespace = every_namespace_along runs refl refl refl rest.imports;
       reported = finished.reported;
     }
   where

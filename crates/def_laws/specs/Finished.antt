@@ -1,13 +1,18 @@
 -- What is answered at the end.
-use Rattle.std.specs.Prelude.{◌≡◌, false, All}
+use Rattle.std.specs.Prelude.{◌≡◌, false, All, Contains}
 use Rattle.item_tree.specs.declared.name.Name.{Name}
 use Rattle.def_map.specs.DefMaps as whole
 use Rattle.def_modules.specs.Locals.{local_view}
 use Rattle.def_modules.specs.MapState.{MapState}
+use Rattle.def_oracle.specs.Oracle.{Oracle}
 use Rattle.def_rules.specs.declared.outcome.Collected.{Collected}
+use Rattle.def_rules.specs.Directives.{AllStay}
 use Rattle.def_rules.specs.Imports.{unresolved_imports}
+use Rattle.def_rules.specs.Recording.{NoneReady}
+use Rattle.def_rules.specs.Settled.{IsNoAttribute}
 use Rattle.def_rules.specs.State.{State}
 use Rattle.def_rules.specs.Report.{Answer, marked, IsOutcome, with_import_reports}
+use Rattle.def_rules.specs.Waiting.{MacroDirective}
 
 -- all that is answered
 abbrev pub shown : Collected → Answer
@@ -23,6 +28,12 @@ shown c =
 -- no name is marked as failed
 abbrev pub NoneFailed : MapState → Type 0
 NoneFailed m = All (λ d. (name : Name) → d.failed name ≡ false) m.modules
+
+-- no import is ready, each macro that waits stays, and none waits for an attribute, so that a run that ends here is settled
+pub record IsAtRest (oracle : Oracle) (end : State) : Type 0 where
+  pub imports : NoneReady oracle end
+  pub macros : AllStay oracle end
+  pub attributes : (directive : MacroDirective) → Contains end.macros directive → IsNoAttribute directive.kind
 
 -- what is answered of this state: failed names are marked, what is left over is answered, and its imports are reported
 pub record IsFinished (end : State) (answer : Answer) : Type 0 where

@@ -1,5 +1,5 @@
 -- What holds of a run and of its end.
-use Rattle.std.specs.Prelude.{◌≡◌, ◌⊎◌, true, false, List, ◌∷◌, ◌++◌, Some, Contains, IsSome}
+use Rattle.std.specs.Prelude.{◌≡◌, ◌⊎◌, true, false, List, [], ◌∷◌, ◌++◌, Some, Contains, IsSome}
 use Rattle.item_tree.specs.declared.name.Name.{Name}
 use Rattle.def_ids.specs.declared.ids.ModuleId.{ModuleId}
 use Rattle.def_bindings.specs.declared.bindings.Binding.{Binding}
@@ -21,11 +21,13 @@ IsNoAttribute (FnLike written) = Unit {0}
 IsNoAttribute (Attr written) = ⊥
 IsNoAttribute (Derive written) = Unit {0}
 
--- no import is ready, each macro that waits stays, which is to say that none is given a call, and none waits for an attribute
+-- no import is ready, each macro that waits stays, which is to say that none is given a call, none waits for an attribute, and no derive is deferred
 pub record IsSettled (oracle : Oracle) (end : State) : Type 0 where
   pub imports : NoneReady oracle end
   pub macros : AllStay oracle end
   pub attributes : (directive : MacroDirective) → Contains end.macros directive → IsNoAttribute directive.kind
+  -- and no derive is deferred any longer
+  pub deferred : end.deferred ≡ []
 
 -- each explicit binding that was put, by a declaration, an extern crate or a named import, stands at its place, or one put there before it does
 abbrev pub IsDeclared : List Event → Content Visibility → Type 0

@@ -2,6 +2,8 @@
 use Rattle.std.proofs.Common.{◌≡◌, Bool, true, false, Some, None, List, [], ◌∷◌, ◌++◌, map, refl, sym, subst, ap, ◌∙◌, Contains, lit<, append-nil, Option}
 use Rattle.std.specs.List.{flat_map}
 use Rattle.item_tree.specs.declared.name.Name.{Name}
+use Rattle.item_tree.specs.declared.ids.FileAstId.{FileAstId}
+use Rattle.item_tree.specs.declared.ids.InFile.{InFile}
 use Rattle.item_tree.specs.declared.ids.MacroCallId.{MacroCallId}
 use Rattle.def_ids.specs.declared.ids.GlobId.{GlobId}
 use Rattle.def_ids.specs.declared.ids.ModuleId.{ModuleId}
@@ -19,6 +21,7 @@ use Rattle.def_oracle.specs.Oracle.{Oracle}
 use Rattle.def_laws.proofs.FootprintLaws.{visits_footprint}
 use Rattle.def_laws.proofs.TurnsLaws.{tries_footprint}
 use Rattle.def_laws.proofs.StaysLaws.{explicit_stays_along}
+use Rattle.def_rules.specs.declared.deferred.DeferredDerive.{DeferredDerive}
 use Rattle.def_rules.specs.declared.diagnostics.DefDiagnostic.{DefDiagnostic}
 use Rattle.def_rules.specs.declared.outcome.LeftImport.{LeftImport}
 use Rattle.def_rules.specs.Directives.{ExpansionStep, GivesCall, GivesDerive, WalksItem, told}
@@ -27,7 +30,7 @@ use Rattle.def_rules.specs.Imports.{answer_now, is_ready, no_namespaces, unresol
 use Rattle.def_rules.specs.Recording.{ImportStep}
 use Rattle.def_rules.specs.Report.{Answer, import_report, left_import, may_name_crate, report, unresolved, with_macro_reports}
 use Rattle.def_rules.specs.State.{Setting, State, Effect, Task, Enter, Visit, Put, Bring, AddEdge, Moment, Import, ImportDirective, Recorded, TryDerive}
-use Rattle.def_rules.specs.Waiting.{MacroDirective, WrittenAttr, WrittenDerive}
+use Rattle.def_rules.specs.Waiting.{Deferrals, MacroDirective, WrittenAttr, WrittenDerive}
 use Rattle.def_rules.specs.Steps.{Does, Reaches, Step, asks, copies, event_of, expands, performs, rearranges, records, falls_back, reorders}
 use Rattle.def_runs.proofs.Plain as plain
 use Rattle.def_runs.proofs.RowLemmas.{none_recorded_unready, none_taken}
@@ -71,6 +74,11 @@ no_derive_is_left_that_is_given_a_call w before after answer answers directive c
 no_item_is_left_that_is_walked : (w : Setting) (before after : Session) (answer : Answer) (answers : Answers w before after answer) (directive : MacroDirective) (derives : List WrittenDerive) (written : WrittenAttr)
     → Contains answers.run.end.state.macros directive → (told w.oracle answers.run.end.state directive).turn ≡ WalksItem derives written → ⊥
 no_item_is_left_that_is_walked w before after answer answers directive derives written left walks = let stays = answers.settled.macros.stay directive left in cc
+
+-- nor a derive that is still deferred
+no_derive_is_left_deferred : (w : Setting) (before after : Session) (answer : Answer) (answers : Answers w before after answer) (position : InFile FileAstId) (derives : List DeferredDerive) (others : Deferrals)
+    → answers.run.end.state.deferred ≡ (position, derives) ∷ others → ⊥
+no_derive_is_left_deferred w before after answer answers position derives others left = let none = answers.settled.deferred in cc
 
 -- nor an expansion that is still to be walked or dropped
 no_expansion_is_left : (w : Setting) (before after : Session) (answer : Answer) (answers : Answers w before after answer) (effect : Effect) → ExpansionStep w.oracle answers.run.end.state effect → ⊥

@@ -16,6 +16,7 @@ use Rattle.def_globs.proofs.ListLaws.{first_in, in_cases, none_in}
 use Rattle.def_globs.specs.Raised.{IsRaisedAt}
 use Rattle.def_oracle.specs.Oracle.{Oracle}
 use Rattle.def_laws.proofs.DeclaredLaws.{declared_along, was_put_along}
+use Rattle.def_laws.proofs.DeferredLeftLaws.{none_deferred_along}
 use Rattle.def_laws.proofs.EveryNamespaceLaws.{every_namespace_along}
 use Rattle.def_laws.proofs.StaysLaws.{explicit_stays_along}
 use Rattle.def_rules.specs.declared.outcome.Outcome.{Outcome}
@@ -139,14 +140,18 @@ otherwise_is (FnLike written) h = tt
 otherwise_is (Attr written) h = absurd cc
 otherwise_is (Derive written) h = tt
 
--- a state is settled where the tests say so
-pub settled_by_tests : (oracle : Oracle) (s : State) → none_is_ready oracle s ≡ true → each_stays oracle s ≡ true → IsSettled oracle s
-settled_by_tests oracle s ready passes =
-    let both = and_parts (all_stay oracle s) (list_all (λ (directive : MacroDirective). waits_otherwise directive.kind) s.macros) passes in
+-- the end of a run is settled where the tests say so
+settled_by_tests : (w : Setting) (before : Session) (end : Moment) → Reaches w.oracle (start w before) end → end.tasks ≡ [] → none_is_ready w.oracle end.state ≡ true → each_stays w.oracle end.state ≡ true → IsSettled w.oracle end.state
+settled_by_tests w before end runs done ready passes =
+    let s : State = end.state in
+    let both = and_parts (all_stay w.oracle s) (list_all (λ (directive : MacroDirective). waits_otherwise directive.kind) s.macros) passes in
+    let otherwise : (directive : MacroDirective) → Contains s.macros directive → IsNoAttribute directive.kind =
+    λ directive h. otherwise_is directive.kind (passes_in (λ (d : MacroDirective). waits_otherwise d.kind) s.macros directive both.1 h) in
     record {
-      imports = settled_by_test oracle s ready;
-      macros = all_stay_by_test oracle s both.0;
-      attributes = λ directive h. otherwise_is directive.kind (passes_in (λ (d : MacroDirective). waits_otherwise d.kind) s.macros directive both.1 h);
+      imports = settled_by_test w.oracle s ready;
+      macros = all_stay_by_test w.oracle s both.0;
+      attributes = otherwise;
+      deferred = none_deferred_along w before end runs done otherwise;
     }
 
 -- nothing waits for its turn: no import, no macro and no expansion, nor any derive for its item
@@ -226,7 +231,7 @@ answers w before end outcome runs done expanded ready given shown closed coheren
       declared = declared_along runs refl refl;
       was_put = was_put_along runs refl refl;
       explicit_stays = λ a b run. explicit_stays_along run.goes_on;
-      settled = settled_by_tests w.oracle end.state ready given;
+      settled = settled_by_tests w before end runs done ready given;
       every_namespace = every_namespace_along runs refl refl done settled;
       reported = refl;
     }
