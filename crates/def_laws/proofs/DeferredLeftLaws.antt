@@ -575,9 +575,14 @@ first_no_tries w = by (tree_cfg w.oracle (first_tree w.oracle w.seeded.id w.tree
     by None = walk_no_tries w.oracle site ids
     by (Some cfg) = tt
 
+-- along a run each position at which derives are deferred is that of an item that is to be visited, or that waits for an attribute
+pub awaited_along : (w : Setting) (before : Session) (end : Moment) → Reaches w.oracle (start w before) end → IsAwaited w.oracle end.tasks end.state
+awaited_along w before end run =
+    let first : IsAwaited w.oracle (start w before).tasks (start w before).state = awaited_empty w.oracle (first_tasks w.oracle w.seeded w.tree) (first_no_tries w) in
+    kept_along {oracle = w.oracle} (IsAwaitedAt w.oracle) (step_awaited w.oracle) run first
+
 -- where a run has nothing left to do, and nothing that waits for an attribute, no derive is deferred
 pub none_deferred_along : (w : Setting) (before : Session) (end : Moment) → Reaches w.oracle (start w before) end → end.tasks ≡ [] → ((d : MacroDirective) → Contains end.state.macros d → IsNoAttribute d.kind) → end.state.deferred ≡ []
 none_deferred_along w before end run done none =
-    let first : IsAwaited w.oracle (start w before).tasks (start w before).state = awaited_empty w.oracle (first_tasks w.oracle w.seeded w.tree) (first_no_tries w) in
-    let last : IsAwaited w.oracle end.tasks end.state = kept_along {oracle = w.oracle} (IsAwaitedAt w.oracle) (step_awaited w.oracle) run first in
+    let last : IsAwaited w.oracle end.tasks end.state = awaited_along w before end run in
     none_awaited w.oracle end.state.macros end.state.deferred none (subst (λ tasks. IsAwaited w.oracle tasks end.state) done last)
