@@ -1,56 +1,65 @@
--- What waits for macros, in a list whose places may be empty.
-use Rattle.std.proofs.Common.{◌≡◌, ◌+◌, ◌<◌, ◌≤◌, ℕ, List, [], ◌∷◌, ◌++◌, length, map, take, get_or, slice_get, slice_set, Option, Some, None, refl, sym, ap, ◌∙◌, append-nil}
+-- What waits for macros, in order.
+use Rattle.std.proofs.Common.{◌≡◌, ◌+◌, ◌<◌, ◌≤◌, ℕ, zero, suc, List, [], ◌∷◌, ◌++◌, length, map, take, get_or, slice_get, Some, refl, sym, ap, ◌∙◌}
+use Rattle.std.specs.Prelude.{Bool, true, false, cond, filter, IsSome, OnSome, Option, None}
+use Rattle.std.specs.List.{remove}
+use Rattle.std.proofs.lemmas.List.Elements.{filter-append}
 use Rattle.std.proofs.lemmas.List.{map-append, take_all, take_more}
 use Rattle.def_calls.specs.declared.directives.MacroDirective.{MacroDirective}
-use Rattle.def_calls.specs.Shown.{macro_directive_of, macros_in}
+use Rattle.def_calls.specs.Shown.{IsLeft, macro_directive_of, macros_in}
 use Rattle.def_rules.specs.declared.outcome.LeftMacro.{LeftMacro}
 use Rattle.def_rules.specs.Report.{left_macro}
-use Rattle.def_rules.specs.Waiting as waits
-use Rattle.def_steps.proofs.ImportListsLaws.{Around, around, present-nil, present_pushed, present_same}
 
--- what waits at an entry
-abbrev pub entry_macros : Option MacroDirective → List waits.MacroDirective
-entry_macros None = []
-entry_macros (Some d) = macro_directive_of d ∷ []
+-- what waits first stands before the others
+pub first_is : {X : Type 0} (xs : List X) (x : X) → slice_get xs 0 ≡ Some x → (rest : List X) × (xs ≡ x ∷ rest)
+first_is [] x at = absurd (cc at)
+first_is (y ∷ xs) x at = let same : y ≡ x = cc in (xs, ap (λ z. z ∷ xs) same)
 
-pub no_macros : (entries : List (Option MacroDirective)) → entries ≡ [] → macros_in entries ≡ []
-no_macros entries none = ap macros_in none ∙ ap (map macro_directive_of) (present-nil MacroDirective)
+-- what follows where there is something
+pub some_then : {X P : Type 0} (o : Option X) → IsSome o → OnSome o P → P
+some_then None is p = absurd (cc is)
+some_then (Some x) is p = p
 
-macros_push : (entries : List (Option MacroDirective)) (entry : Option MacroDirective) → macros_in (entries ++ entry ∷ []) ≡ macros_in entries ++ entry_macros entry
-macros_push entries None = ap (map macro_directive_of) (present_same entries) ∙ sym (append-nil (macros_in entries))
-macros_push entries (Some d) = present_pushed macro_directive_of entries (entries ++ Some d ∷ []) d refl
+-- those of a list up to one more that pass a test
+pub filter_more : {X : Type 0} (test : X → Bool) (xs : List X) (i : ℕ) (x : X) → i < length xs → x ≡ get_or xs i x → filter test (take (i + 1) xs) ≡ filter test (take i xs) ++ filter test (x ∷ [])
+filter_more test xs i x within is = ap (filter test) (take_more xs i x within ∙ ap (λ e. take i xs ++ e ∷ []) (sym is)) ∙ filter-append test (take i xs) (x ∷ [])
 
--- one entry more
-pub macros_more : (entries : List (Option MacroDirective)) (i : ℕ) (entry : Option MacroDirective) → i < length entries → entry ≡ get_or entries i entry → macros_in (take (i + 1) entries) ≡ macros_in (take i entries) ++ entry_macros entry
-macros_more entries i entry within is =
-    ap macros_in (take_more entries i entry within ∙ ap (λ e. take i entries ++ e ∷ []) (sym is)) ∙ macros_push (take i entries) entry
+pub filter_one : {X : Type 0} (test : X → Bool) (x : X) → test x ≡ true → filter test (x ∷ []) ≡ x ∷ []
+filter_one test x passes = ap (λ b. cond b (x ∷ []) []) passes
+
+pub filter_none : {X : Type 0} (test : X → Bool) (x : X) → test x ≡ false → filter test (x ∷ []) ≡ []
+filter_none test x passes = ap (λ b. cond b (x ∷ []) []) passes
+
+-- one more waits
+pub macros_push : (ds : List MacroDirective) (d : MacroDirective) → macros_in (ds ++ d ∷ []) ≡ macros_in ds ++ macro_directive_of d ∷ []
+macros_push ds d = map-append macro_directive_of ds (d ∷ [])
+
+pub macros_more : (ds : List MacroDirective) (i : ℕ) (d : MacroDirective) → i < length ds → d ≡ get_or ds i d → macros_in (take (i + 1) ds) ≡ macros_in (take i ds) ++ macro_directive_of d ∷ []
+macros_more ds i d within is = ap macros_in (take_more ds i d within ∙ ap (λ e. take i ds ++ e ∷ []) (sym is)) ∙ macros_push (take i ds) d
 
 -- all of them
-pub macros_all : (entries : List (Option MacroDirective)) (i : ℕ) → length entries ≤ i → macros_in (take i entries) ≡ macros_in entries
-macros_all entries i all = ap macros_in (take_all i entries all)
+pub macros_all : (ds : List MacroDirective) (i : ℕ) → length ds ≤ i → macros_in (take i ds) ≡ macros_in ds
+macros_all ds i all = ap macros_in (take_all i ds all)
 
--- what is left over at one entry more
-pub left_more : (left left' : List LeftMacro) (entries : List (Option MacroDirective)) (i : ℕ) (entry : Option MacroDirective) → left ≡ map left_macro (macros_in (take i entries)) → i < length entries → entry ≡ get_or entries i entry
-    → left' ≡ left ++ map left_macro (entry_macros entry) → left' ≡ map left_macro (macros_in (take (i + 1) entries))
-left_more left left' entries i entry so_far within is adds =
+-- what is left over at one more
+pub left_more : (left left' : List LeftMacro) (ds : List MacroDirective) (i : ℕ) (d : MacroDirective) → left ≡ map left_macro (macros_in (take i ds)) → i < length ds → d ≡ get_or ds i d
+    → left' ≡ left ++ left_macro (macro_directive_of d) ∷ [] → left' ≡ map left_macro (macros_in (take (i + 1) ds))
+left_more left left' ds i d so_far within is adds =
     adds
-    ∙ ap (λ l. l ++ map left_macro (entry_macros entry)) so_far
-    ∙ sym (map-append left_macro (macros_in (take i entries)) (entry_macros entry))
-    ∙ ap (map left_macro) (sym (macros_more entries i entry within is))
+    ∙ ap (λ l. l ++ left_macro (macro_directive_of d) ∷ []) so_far
+    ∙ sym (map-append left_macro (macros_in (take i ds)) (macro_directive_of d ∷ []))
+    ∙ ap (map left_macro) (sym (macros_more ds i d within is))
 
 -- one that waits stands between others, and these stay where it leaves
-pub record Between (entries : List (Option MacroDirective)) (i : ℕ) (d : MacroDirective) : Type 0 where
-  pub before : List waits.MacroDirective
-  pub behind : List waits.MacroDirective
-  pub stands : macros_in entries ≡ before ++ macro_directive_of d ∷ behind
-  pub left : macros_in (slice_set entries i None) ≡ before ++ behind
-
-pub between : (entries : List (Option MacroDirective)) (i : ℕ) (d : MacroDirective) → slice_get entries i ≡ Some (Some d) → Between entries i d
-between entries i d here =
-    let all : Around entries i d = around entries i d here in
+pub between : (ds : List MacroDirective) (i : ℕ) (d : MacroDirective) → slice_get ds i ≡ Some d → IsLeft (macros_in ds) (macro_directive_of d) (macros_in (remove ds i))
+between [] i d at = absurd (cc at)
+between (x ∷ xs) zero d at =
+    let same : x ≡ d = cc in
+    record { before = []; behind = macros_in xs; stands = ap (λ y. macro_directive_of y ∷ macros_in xs) same; left = refl }
+between (x ∷ xs) (suc i) d at =
+    let rest = between xs i d at in
     record {
-      before = map macro_directive_of all.before;
-      behind = map macro_directive_of all.after;
-      stands = ap (map macro_directive_of) all.all ∙ map-append macro_directive_of all.before (d ∷ all.after);
-      left = ap (map macro_directive_of) all.without ∙ map-append macro_directive_of all.before all.after;
+      before = macro_directive_of x ∷ rest.before;
+      behind = rest.behind;
+      stands = ap (λ l. macro_directive_of x ∷ l) rest.stands;
+      left = ap (λ l. macro_directive_of x ∷ l) rest.left;
     }

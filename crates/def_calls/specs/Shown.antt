@@ -1,5 +1,5 @@
 -- Calls that are written or wait for their macros, as the rules see them.
-use Rattle.std.specs.Prelude.{◌≡◌, Bool, true, false, List, ◌∷◌, ◌++◌, map, Option}
+use Rattle.std.specs.Prelude.{◌≡◌, Bool, true, false, List, [], ◌∷◌, ◌++◌, map}
 use Rattle.def_calls.specs.declared.attrs.AttrUse.{AttrUse}
 use Rattle.def_calls.specs.declared.attrs.AttrUse.TheVariants.{PassesOver, ReadsDerives, ReplacesItem}
 use Rattle.def_calls.specs.declared.attrs.WrittenAttr.{WrittenAttr}
@@ -16,7 +16,6 @@ use Rattle.def_modules.specs.Maps.{map_state}
 use Rattle.def_rules.specs.Attributes as attributes
 use Rattle.def_rules.specs.Derives.{derives_from}
 use Rattle.def_rules.specs.Directives.{Told, Turn, Stays, GivesCall, GivesDerive, Replaces, WalksItem, turn_effect}
-use Rattle.def_steps.specs.ImportLists.{present}
 use Rattle.def_rules.specs.State as rules
 use Rattle.def_rules.specs.Waiting as waits
 
@@ -46,9 +45,9 @@ kind_of (Derive written) = waits.Derive (written_derive_of written)
 abbrev pub macro_directive_of : MacroDirective → waits.MacroDirective
 macro_directive_of d = record { scope = d.module_id; container = d.container; position = d.position; depth = d.depth; kind = kind_of d.kind }
 
--- what waits for macros, in a list whose places may be empty
-abbrev pub macros_in : List (Option MacroDirective) → List waits.MacroDirective
-macros_in entries = map macro_directive_of (present entries)
+-- what waits for macros
+abbrev pub macros_in : List MacroDirective → List waits.MacroDirective
+macros_in directives = map macro_directive_of directives
 
 -- an expansion that is to be walked
 abbrev pub expansion_shown : Expansion → waits.Expansion
@@ -59,7 +58,7 @@ abbrev pub deferrals_of : DeferredDerives → waits.Deferrals
 deferrals_of deferred = deferred.by_item.entries
 
 -- the state with this map, and in which these wait
-abbrev pub with_waiting : rules.State → MapData → List (Option MacroDirective) → List Expansion → rules.State
+abbrev pub with_waiting : rules.State → MapData → List MacroDirective → List Expansion → rules.State
 with_waiting s m directives expansions = record s { map = map_state m; macros = macros_in directives; expansions = map expansion_shown expansions }
 
 -- whether what was told leaves
@@ -70,12 +69,11 @@ leaves (GivesDerive call) = true
 leaves (Replaces call) = true
 leaves (WalksItem derives written) = true
 
--- what waits for a macro had its turn, in which this was told
+-- what waited first had its turn, in which this was told
 pub record IsTurned (s : rules.State) (d : waits.MacroDirective) (given : Told) (t : rules.State) : Type 0 where
-  pub before : List waits.MacroDirective
-  pub behind : List waits.MacroDirective
-  pub stands : s.macros ≡ before ++ d ∷ behind
-  pub is : t ≡ (turn_effect given.state before d behind given.turn).state
+  pub others : List waits.MacroDirective
+  pub stands : s.macros ≡ d ∷ others
+  pub is : t ≡ (turn_effect given.state [] d others given.turn).state
 
 -- one that waited left the others
 pub record IsLeft (macros : List waits.MacroDirective) (d : waits.MacroDirective) (others : List waits.MacroDirective) : Type 0 where

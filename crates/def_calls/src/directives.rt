@@ -1,6 +1,7 @@
 //! Calls as they are written, calls and items that wait for macros, and calls that were made.
-ghost use Rattle.std.specs.Prelude.{◌≡◌, ◌++◌, ◌∷◌, [], false, Some, map, slice_get, IfOk, OnOk};
-ghost use Rattle.def_calls.specs.Shown.{IsLeft, IsTurned, expansion_shown, kind_of, leaves, macro_directive_of, macros_in, with_waiting, written_derive_of};
+ghost use Rattle.std.specs.Prelude.{◌≡◌, ◌++◌, ◌∷◌, [], List, false, not, Some, map, slice_get, filter, IfOk, OnOk};
+ghost use Rattle.def_calls.specs.declared.directives.MacroDirective.{MacroDirective as Directive};
+ghost use Rattle.def_calls.specs.Shown.{IsTurned, expansion_shown, kind_of, leaves, macro_directive_of, macros_in, with_waiting, written_derive_of};
 ghost use Rattle.def_modules.specs.Maps.{map_state};
 ghost use Rattle.def_items.specs.Parts.{site_of};
 ghost use Rattle.def_rules.specs.Calls.{invoking, waiting};
@@ -39,7 +40,7 @@ pub enum MacroDirectiveKind<'a> {
 }
 
 /// What waits for a macro: the module and the container in which the items of its expansion are to
-/// stand, its position, and how deep its expansion lies.
+/// stand, its position, how deep its expansion lies, and whether it had a turn and stays.
 #[derive(Clone, Copy)]
 pub struct MacroDirective<'a> {
     pub module_id: ModuleId,
@@ -47,6 +48,7 @@ pub struct MacroDirective<'a> {
     pub position: InFile<FileAstId>,
     pub depth: u32,
     pub kind: MacroDirectiveKind<'a>,
+    pub asked: bool,
 }
 
 impl<'a> MacroDirective<'a> {
@@ -73,6 +75,7 @@ impl<'a> MacroDirective<'a> {
         MacroDirective {
             depth: deeper(self.depth),
             kind: MacroDirectiveKind::Derive(written),
+            asked: false,
             ..*self
         }
     }
@@ -92,7 +95,7 @@ pub struct Expansion {
 /// Lets an item wait for a macro, whose expansion is to stand one level deeper. On `Err` nothing but
 /// safety is promised.
 pub fn queue_macro<'a>(
-    directives: &mut Vec<Option<MacroDirective<'a>>>,
+    directives: &mut VecDeque<MacroDirective<'a>>,
     site: Site<'_>,
     node: &ItemNode,
     kind: MacroDirectiveKind<'a>,
@@ -100,28 +103,28 @@ pub fn queue_macro<'a>(
     ensures { OnOk result (macros_in directives.new.items
         ≡ macros_in directives.old.items ++ waiting (site_of site.entry) node.now (kind_of kind.entry) ∷ []) }
 {
-    directives.push(Some(MacroDirective {
+    directives.push_back(MacroDirective {
         module_id: site.module_id,
         container: site.container,
         position: site.position(node),
         depth: deeper(site.depth),
         kind,
-    }))?;
+        asked: false,
+    })?;
     Ok(())
 }
 
-/// Gives a call that waits its answer: the calls that were made for its arguments are recorded, and
-/// with a call of its own it leaves, and its expansion is to be walked. Answers whether it was given
-/// one. On `Err` nothing but safety is promised.
+/// Gives a call that waits first its answer: the calls that were made for its arguments are recorded,
+/// and with a call of its own it leaves, and its expansion is to be walked. Answers whether it was
+/// given one. On `Err` nothing but safety is promised.
 pub fn settle_call<'a>(
     def_map: &mut MapData,
-    directives: &mut Vec<Option<MacroDirective<'a>>>,
+    directives: &mut VecDeque<MacroDirective<'a>>,
     expansions: &mut VecDeque<Expansion>,
-    i: usize,
     directive: MacroDirective<'a>,
     answer: &Result<CallAnswer, UnresolvedMacro>,
 ) -> Result<bool, AllocError>
-    requires { slice_get directives.old.items i ≡ Some (Some directive) }
+    requires { slice_get directives.old.items 0 ≡ Some directive }
     ensures turned { OnOk result ((s : State) →
         let d = macro_directive_of directive.entry in
         let before = with_waiting s def_map.old directives.old.items expansions.old.items in
@@ -136,42 +139,77 @@ pub fn settle_call<'a>(
     let Some(call) = answer.value else {
         return Ok(false);
     };
-    give_call(def_map, directives, expansions, i, directive, call)?;
+    give_call(def_map, directives, expansions, directive, call)?;
     Ok(true)
 }
 
-/// Gives what waits a call: it leaves, the call is recorded, and its expansion is to be walked. On
-/// `Err` nothing but safety is promised.
+/// Gives what waits first a call: it leaves, the call is recorded, and its expansion is to be walked.
+/// On `Err` nothing but safety is promised.
 pub fn give_call<'a>(
     def_map: &mut MapData,
-    directives: &mut Vec<Option<MacroDirective<'a>>>,
+    directives: &mut VecDeque<MacroDirective<'a>>,
     expansions: &mut VecDeque<Expansion>,
-    i: usize,
     directive: MacroDirective<'a>,
     call: MacroCallId,
 ) -> Result<(), AllocError>
-    requires { slice_get directives.old.items i ≡ Some (Some directive) }
+    requires { slice_get directives.old.items 0 ≡ Some directive }
     ensures { OnOk result ((s : State) →
         let before = with_waiting s def_map.old directives.old.items expansions.old.items in
         IsTurned before (macro_directive_of directive.entry) (record { state = before; turn = GivesCall call })
         (with_waiting s def_map.new directives.new.items expansions.new.items)) }
 {
     def_map.add_macro_invoc(directive.module_id.index, directive.position, call)?;
-    leave(directives, i, directive);
+    leave(directives, directive);
     expansions.push_back(directive.expansion(call))?;
     Ok(())
 }
 
-/// Lets what waits leave.
-pub fn leave<'a>(
-    directives: &mut Vec<Option<MacroDirective<'a>>>,
-    i: usize,
-    directive: MacroDirective<'a>,
-)
-    requires { slice_get directives.old.items i ≡ Some (Some directive) }
-    ensures { IsLeft (macros_in directives.old.items) (macro_directive_of directive.entry) (macros_in directives.new.items) }
+/// Lets what waits first leave.
+pub fn leave<'a>(directives: &mut VecDeque<MacroDirective<'a>>, directive: MacroDirective<'a>)
+    requires { slice_get directives.old.items 0 ≡ Some directive }
+    ensures { directives.old.items ≡ directive.entry ∷ directives.new.items }
 {
-    directives[i] = None;
+    directives.pop_front();
+}
+
+/// Lets what waits first stay: it goes behind the others, as one that had its turn. On `Err` nothing
+/// but safety is promised.
+pub fn stay<'a>(
+    directives: &mut VecDeque<MacroDirective<'a>>,
+    directive: MacroDirective<'a>,
+) -> Result<(), AllocError>
+    requires { slice_get directives.old.items 0 ≡ Some directive }
+    ensures { OnOk result ((others : List Directive) → directives.old.items ≡ directive.entry ∷ others →
+        macros_in directives.new.items ≡ macros_in others ++ macro_directive_of directive.entry ∷ []) }
+{
+    leave(directives, directive);
+    let asked = MacroDirective {
+        asked: true,
+        ..directive
+    };
+    directives.push_back(asked)?;
+    Ok(())
+}
+
+/// Puts what had its turn and stays before what was queued meanwhile, each in order. On `Err` nothing
+/// but safety is promised.
+pub fn put_asked_first<'a>(
+    alloc: Global,
+    directives: &mut VecDeque<MacroDirective<'a>>,
+) -> Result<(), AllocError>
+    ensures { OnOk result (directives.new.items
+        ≡ filter (λ d. d.asked) directives.old.items ++ filter (λ d. not d.asked) directives.old.items) }
+{
+    let mut queued = VecDeque::new(alloc);
+    'directives: for i in 0..directives.len() {
+        let directive = directives[i];
+        if !directive.asked {
+            queued.push_back(directive)?;
+        }
+    }
+    directives.retain(|directive| directive.asked);
+    directives.append(&mut queued)?;
+    Ok(())
 }
 
 /// Records calls in a module, each at its position. On `Err` nothing but safety is promised.
@@ -191,15 +229,13 @@ pub fn record_calls(
 /// The macros that are left over, in order.
 pub fn left_macros(
     alloc: Global,
-    directives: &[Option<MacroDirective<'_>>],
+    directives: &VecDeque<MacroDirective<'_>>,
 ) -> Result<Vec<LeftMacro>, AllocError>
-    ensures { IfOk result (λ left. left.items ≡ map left_macro (macros_in directives.now)) }
+    ensures { IfOk result (λ left. left.items ≡ map left_macro (macros_in directives.now.items)) }
 {
     let mut left = Vec::new(alloc);
-    'directives: for entry in directives {
-        if let Some(directive) = entry {
-            left.push(left_macro(directive)?)?;
-        }
+    'directives: for i in 0..directives.len() {
+        left.push(left_macro(&directives[i])?)?;
     }
     Ok(left)
 }

@@ -1,6 +1,7 @@
 //! Attributes whose macros are not found: which one is given up, and what becomes of its place.
-ghost use Rattle.std.specs.Prelude.{◌≡◌, ◌++◌, ◌∷◌, [], Some, Contains, IfNone, IfSome, IsPermutation, OnOk, slice_get, take};
-ghost use Rattle.def_calls.specs.Shown.{kind_of, macro_directive_of, macros_in, written_attr_of};
+ghost use Rattle.std.specs.Prelude.{◌≡◌, ◌≤◌, ◌++◌, ◌∷◌, [], List, Some, Contains, IfNone, IfSome, IsPermutation, OnOk, length, slice_get, take};
+ghost use Rattle.std.specs.List.{insert};
+ghost use Rattle.def_calls.specs.Shown.{IsLeft, kind_of, macro_directive_of, macros_in, written_attr_of};
 ghost use Rattle.def_rules.specs.Fallback.{attr_diagnostic};
 ghost use Rattle.def_rules.specs.Settled.{IsNoAttribute};
 ghost use Rattle.def_rules.specs.Waiting as waits;
@@ -10,6 +11,7 @@ use crate::attrs::WrittenAttr;
 use crate::directives::{MacroDirective, MacroDirectiveKind};
 use def_rules::{DefDiagnostic, DefDiagnosticKind, LeftMacroKind};
 use std::alloc::AllocError;
+use std::collections::VecDeque;
 
 /// An item that waits for the macro of an attribute: its place among what waits, and it.
 #[derive(Clone, Copy)]
@@ -20,11 +22,11 @@ pub struct WaitingItem<'a> {
 }
 
 /// The first item that waits for the macro of an attribute.
-pub fn first_item<'a>(directives: &[Option<MacroDirective<'a>>]) -> Option<WaitingItem<'a>>
-    ensures here { IfSome result (λ item. slice_get directives.now item.at ≡ Some (Some item.directive)) }
+pub fn first_item<'a>(directives: &VecDeque<MacroDirective<'a>>) -> Option<WaitingItem<'a>>
+    ensures here { IfSome result (λ item. slice_get directives.now.items item.at ≡ Some item.directive) }
     ensures attr { IfSome result (λ item. kind_of item.directive.kind ≡ waits.Attr (written_attr_of item.written)) }
-    ensures first { IfSome result (λ item. (d : waits.MacroDirective) → Contains (macros_in (take item.at directives.now)) d → IsNoAttribute d.kind) }
-    ensures none { IfNone result ((d : waits.MacroDirective) → Contains (macros_in directives.now) d → IsNoAttribute d.kind) }
+    ensures first { IfSome result (λ item. (d : waits.MacroDirective) → Contains (macros_in (take item.at directives.now.items)) d → IsNoAttribute d.kind) }
+    ensures none { IfNone result ((d : waits.MacroDirective) → Contains (macros_in directives.now.items) d → IsNoAttribute d.kind) }
 {
     'directives: for at in 0..directives.len() {
         let item = item_at(directives, at);
@@ -36,14 +38,14 @@ pub fn first_item<'a>(directives: &[Option<MacroDirective<'a>>]) -> Option<Waiti
 }
 
 /// The item that waits for the macro of an attribute at a place, if one does.
-fn item_at<'a>(directives: &[Option<MacroDirective<'a>>], at: usize) -> Option<WaitingItem<'a>>
+fn item_at<'a>(directives: &VecDeque<MacroDirective<'a>>, at: usize) -> Option<WaitingItem<'a>>
     ensures place { IfSome result (λ item. item.at ≡ at) }
-    ensures here { IfSome result (λ item. slice_get directives.now item.at ≡ Some (Some item.directive)) }
+    ensures here { IfSome result (λ item. slice_get directives.now.items item.at ≡ Some item.directive) }
     ensures attr { IfSome result (λ item. kind_of item.directive.kind ≡ waits.Attr (written_attr_of item.written)) }
     ensures none { IfNone result ((d : MacroDirective) →
-        slice_get directives.now at ≡ Some (Some d) → IsNoAttribute (kind_of d.kind)) }
+        slice_get directives.now.items at ≡ Some d → IsNoAttribute (kind_of d.kind)) }
 {
-    let Some(Some(directive)) = directives.get(at) else {
+    let Some(directive) = directives.get(at) else {
         return None;
     };
     match directive.kind {
@@ -78,17 +80,35 @@ pub fn report_attr(
     Ok(())
 }
 
-/// Lets the last of what waits take a place that one left.
-pub fn fill_gap<'a>(directives: &mut Vec<Option<MacroDirective<'a>>>, at: usize)
-    ensures { IsPermutation (macros_in directives.old.items) (macros_in directives.new.items) }
+/// Lets what waits at a place leave; the others stay in order.
+pub fn take_out<'a>(
+    directives: &mut VecDeque<MacroDirective<'a>>,
+    at: usize,
+    directive: MacroDirective<'a>,
+)
+    requires { slice_get directives.old.items at ≡ Some directive }
+    ensures { IsLeft (macros_in directives.old.items) (macro_directive_of directive.entry) (macros_in directives.new.items) }
 {
-    let Some(None) = directives.get(at) else {
-        return;
-    };
-    let Some(last) = directives.pop() else {
-        return;
-    };
-    if let Some(gap) = directives.get_mut(at) {
-        *gap = last;
+    directives.remove(at);
+}
+
+/// Lets the last of what waits take the place of one that left, if there is any behind it. On `Err`
+/// nothing but safety is promised.
+pub fn fill_gap<'a>(
+    directives: &mut VecDeque<MacroDirective<'a>>,
+    at: usize,
+) -> Result<(), AllocError>
+    ensures filled { OnOk result ((before : List MacroDirective) (last : MacroDirective) →
+        directives.old.items ≡ before ++ last ∷ [] → at ≤ length before → directives.new.items ≡ insert before at last) }
+    ensures same { OnOk result (length directives.old.items ≤ at → directives.new.items ≡ directives.old.items) }
+    ensures order { OnOk result (IsPermutation (macros_in directives.old.items) (macros_in directives.new.items)) }
+{
+    if directives.len() <= at {
+        return Ok(());
     }
+    let Some(last) = directives.pop_back() else {
+        return Ok(());
+    };
+    directives.insert(at, last)?;
+    Ok(())
 }

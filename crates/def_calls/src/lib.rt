@@ -25,10 +25,11 @@ pub use derives::{
 };
 pub use directives::{
     Expansion, MacroDirective, MacroDirectiveKind, WrittenCall, give_call, leave, left_macros,
-    queue_macro, record_calls, report_left_call, report_left_derive, settle_call,
+    put_asked_first, queue_macro, record_calls, report_left_call, report_left_derive, settle_call,
+    stay,
 };
 pub use early_resolver::EarlyResolver;
-pub use fallback::{WaitingItem, fill_gap, first_item, report_attr};
+pub use fallback::{WaitingItem, fill_gap, first_item, report_attr, take_out};
 pub use impls::{DerivedItem, give_impls};
 pub use item_attrs::ItemAttrs;
 pub use path_resolver::PathResolver;

@@ -24,12 +24,12 @@ use Rattle.def_rules.specs.Crates.{deps_by_name, is_proc_macro_crate}
 use Rattle.def_rules.specs.Globs.{Targets}
 use Rattle.def_rules.specs.Headline.{Answers}
 use Rattle.def_rules.specs.Report.{Answer, with_macro_reports}
-use Rattle.def_laws.specs.Finished.{NoneFailed, IsAtRest, IsFinished}
+use Rattle.def_laws.specs.Finished.{NoneFailed, IsFinished}
 use Rattle.def_rules.specs.Start.{first_tasks, seeded_state, started}
 use Rattle.def_rules.specs.State as rules
 use Rattle.def_rules.specs.Waiting as waits
 use Rattle.def_rules.specs.State.{Setting, State}
-use Rattle.def_laws.specs.Runs.{Collects}
+use Rattle.def_collector.specs.Passes.{Ends}
 use Rattle.def_laws.specs.Sound.{IsSoundWith}
 use Rattle.def_laws.proofs.BegunLaws.{begins_sound}
 use Rattle.def_laws.proofs.HeadlineLaws.{answers}
@@ -70,8 +70,9 @@ module _ (w : Setting) (before : Session) (s : State) (same : s ≡ seeded_state
   begun_sound = subst (λ x. IsSoundWith (first_tasks w.oracle x.map w.tree) (started w.oracle w.tree x)) (sym same) (begins_sound w before given fresh)
 
   -- what was collected and finished answers, once its macros were reported
-  pub collected_answers : (after : Session) (t u : State) (answer : Answer) → Collects w.oracle (first_tasks w.oracle s.map w.tree) (started w.oracle w.tree s) [] t → IsSoundWith [] t → IsAtRest w.oracle t → t.expansions ≡ [] → t.session ≡ after
-      → u ≡ with_macro_reports w.oracle t → IsFinished u answer → Answers w before after answer
-  collected_answers after t u answer collects sound settled expanded session reported finished =
-      answers w before after answer t (subst (λ x. Collects w.oracle (first_tasks w.oracle x.map w.tree) (started w.oracle w.tree x) [] t) same collects)
-      settled expanded session (none_seeded w.seeded given fresh) (begins_sound w before given fresh) sound (subst (λ x. IsFinished x answer) reported finished)
+  pub collected_answers : (after : Session) (t u : State) (answer : Answer) (limit_met : Bool) → Ends w.oracle (first_tasks w.oracle s.map w.tree) (started w.oracle w.tree s) limit_met t → IsSoundWith [] t → t.expansions ≡ [] → t.session ≡ after
+      → u ≡ with_macro_reports w.oracle t → IsFinished u limit_met answer → Answers w before after answer
+  collected_answers after t u answer limit_met ended sound expanded session reported finished =
+      let ends : Ends w.oracle (first_tasks w.oracle w.seeded w.tree) (started w.oracle w.tree (seeded_state w before)) limit_met t = subst (λ x. Ends w.oracle (first_tasks w.oracle x.map w.tree) (started w.oracle w.tree x) limit_met t) same ended in
+      answers w before after answer t limit_met ends.run ends.rounds ends.holds ends.limit ends.rest
+      expanded session (none_seeded w.seeded given fresh) (begins_sound w before given fresh) sound (subst (λ x. IsFinished x limit_met answer) reported finished)

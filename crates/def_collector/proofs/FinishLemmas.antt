@@ -162,15 +162,15 @@ targets_listed targets listed all unique =
 -- The answer
 
 -- the answer is that of the end, whose unresolved imports were gone through in two lists
-pub finished : (end : State) (answer : Answer) (m1 m : MapState) (imports1 imports : List LeftImport) (said1 diagnostics : List DefDiagnostic) (first second : List (Option ImportDirective))
+pub finished : (end : State) (limit_met : Bool) (answer : Answer) (m1 m : MapState) (imports1 imports : List LeftImport) (said1 diagnostics : List DefDiagnostic) (first second : List (Option ImportDirective))
     → end.imports ≡ directives_in first ++ directives_in second
     → m1 ≡ marked_each (unresolved_in first) end.map → m ≡ marked_each (unresolved_in second) m1
     → imports1 ≡ map left_import (unresolved_in first) → imports ≡ imports1 ++ map left_import (unresolved_in second)
     → said1 ≡ end.diagnostics ++ flat_map (import_report end.missing_crates) (unresolved_in first) → diagnostics ≡ said1 ++ flat_map (import_report end.missing_crates) (unresolved_in second)
     → answer.map ≡ m → answer.content ≡ end.content → answer.local ≡ end.local → answer.diagnostics ≡ diagnostics
-    → answer.outcome.imports.items ≡ imports → answer.outcome.macros.items ≡ map left_macro end.macros → AreEdges end.content answer.outcome.edges.items → AreTargets end.targets (map shown_targets answer.outcome.targets.items) → answer.outcome.limit_met ≡ false
-    → IsFinished end answer
-finished end answer m1 m imports1 imports said1 diagnostics first second all marks1 marks left1 left reports1 reports marking content local said lefts macros edges targets limit = record {
+    → answer.outcome.imports.items ≡ imports → answer.outcome.macros.items ≡ map left_macro end.macros → AreEdges end.content answer.outcome.edges.items → AreTargets end.targets (map shown_targets answer.outcome.targets.items) → answer.outcome.limit_met ≡ limit_met
+    → IsFinished end limit_met answer
+finished end limit_met answer m1 m imports1 imports said1 diagnostics first second all marks1 marks left1 left reports1 reports marking content local said lefts macros edges targets limit = record {
   map = λ none. marking ∙ marks ∙ ap (marked_each (unresolved_in second)) marks1 ∙ sym (marked_each-append (unresolved_in first) (unresolved_in second) end.map) ∙ ap (λ ps. marked_each ps end.map) (sym both)
       ∙ marked_together (unresolved_imports end.imports) end.map none;
   content = content;
@@ -180,8 +180,8 @@ finished end answer m1 m imports1 imports said1 diagnostics first second all mar
     macros = macros;
     edges = edges;
     targets = targets;
-    limit = limit;
   };
+  limit = limit;
   reported =
       said
       ∙ reports

@@ -10,3 +10,4 @@ mod TurnLemmas
 mod DeriveLemmas
 pub mod GivenLemmas
 pub mod FallbackLemmas
+mod LoopLemmas

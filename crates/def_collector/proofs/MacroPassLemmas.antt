@@ -1,14 +1,13 @@
 -- A pass over the macros that wait: turns in a row, and the expansions behind them.
-use Rattle.std.proofs.Common.{◌≡◌, ◌<◌, ◌≤◌, ◌+◌, ◌^◌, ℕ, Bool, true, false, true≢false, List, [], ◌∷◌, length, map, slice_get, Option, Some, None, is_some, ◌++◌, Result, Ok, Err, get_or, refl, sym, ap, subst, ◌∙◌, append-nil, append_assoc, take, arith, inl, inr, Vec}
+use Rattle.std.proofs.Common.{◌≡◌, ◌<◌, ◌≤◌, ◌+◌, ◌^◌, ℕ, Bool, true, false, true≢false, Contains, List, [], ◌∷◌, length, map, slice_get, Option, Some, ◌++◌, Result, Ok, Err, get_or, refl, sym, ap, subst, ◌∙◌, append-nil, append_assoc, take, arith}
 use Rattle.std.specs.List.{flat_map}
-use Rattle.std.specs.Option.{option_map_or}
-use Rattle.std.specs.Prelude.{IfOk, OnOk, option_and_then}
-use Rattle.std.proofs.lemmas.Grind.{flat_map-append}
+use Rattle.std.specs.Prelude.{IfOk, IsPermutation, OnOk, filter, not}
+use Rattle.std.specs.declared.collections.VecDeque.{VecDeque}
 use Rattle.std.specs.declared.alloc.Global.{Global}
-use Rattle.std.proofs.lemmas.Bool.{cases_lt}
-use Rattle.std.proofs.lemmas.List.{get_or_default, length-map}
-use Rattle.std.proofs.lemmas.List.Elements.{All-contains, All-map}
-use Rattle.std.proofs.lemmas.Option.{slice_get-get_or, slice_get_within}
+use Rattle.std.proofs.lemmas.List.{flat_map_more, get_or_default, length-map}
+use Rattle.std.proofs.lemmas.List.Elements.{All-append, All-cons, All-contains, All-nil}
+use Rattle.std.proofs.lemmas.List.Sorted.{IsPermutation-filter_both, IsPermutation-map, IsPermutation-sym, IsPermutation-to_front}
+use Rattle.std.proofs.lemmas.Option.{slice_get-get_or}
 use Rattle.def_calls.specs.declared.directives.Expansion.{Expansion}
 use Rattle.def_calls.specs.declared.directives.MacroDirective.{MacroDirective}
 use Rattle.def_calls.specs.Shown.{expansion_shown, macro_directive_of, macros_in}
@@ -16,23 +15,25 @@ use Rattle.def_interner.specs.declared.interner.Interner.{Interner}
 use Rattle.def_map.specs.Oracle.{Oracle}
 use Rattle.def_collector.specs.declared.collector.DefCollector.{DefCollector}
 use Rattle.def_collector.specs.Collector.{state_of}
-use Rattle.def_collector.specs.Passes.{HadTurns}
-use Rattle.def_rules.specs.Directives.{AllStay, Stays, answer_in, told}
+use Rattle.def_collector.specs.Passes.{GetsStuck, HadTurn, HadTurns, HasLeft, HasStayed, MakesRound, OnlyAsked}
+use Rattle.def_rules.specs.Directives.{Stays, answer_in, told}
+use Rattle.def_rules.specs.Fallback.{IsQuiet}
+use Rattle.def_rules.specs.Recording.{NoneReady}
 use Rattle.def_rules.specs.State as rules
+use Rattle.def_rules.specs.State.{State, world}
 use Rattle.def_rules.specs.Waiting as waits
-use Rattle.def_rules.specs.State.{world}
 use Rattle.def_laws.specs.Depths.{waiting_work}
 use Rattle.def_laws.specs.Performs.{IsExpanded}
-use Rattle.def_laws.specs.Runs.{Collects}
-use Rattle.def_laws.proofs.PassLaws.{all_stay_same, collects_expanded, expanded_lighter, turn_same}
-use Rattle.def_collector.proofs.TurnLemmas.{no_turns, turns_kept, turns_left}
-use Rattle.def_calls.proofs.WaitingLemmas.{entry_macros, macros_all, macros_more, no_macros}
+use Rattle.def_laws.specs.Runs.{Collects, InTurns}
+use Rattle.def_laws.specs.Sound.{IsSoundWith}
+use Rattle.def_laws.proofs.PassLaws.{collects_asked, collects_expanded, collects_ordered, expanded_lighter, expansions_same, invokes_ordered, invokes_refl, invokes_trans, none_ready_same, turn_same, work_same}
+use Rattle.def_laws.proofs.RoundsLaws.{round_made, turns_begin, turns_leave, turns_on, turns_stay}
+use Rattle.def_laws.proofs.StepsLaws.{collects_refl, collects_sound, collects_trans}
+use Rattle.def_calls.proofs.WaitingLemmas.{macros_all, macros_more}
 use Rattle.def_oracle.specs.declared.source_database.CallAnswer.{CallAnswer}
 use Rattle.def_oracle.specs.declared.source_database.UnresolvedMacro.{UnresolvedMacro}
 use Rattle.def_paths.specs.Sources.{World}
 use Rattle.def_rules.specs.Report.{answer_report, kind_report, macro_report, with_macro_reports}
-use Rattle.def_steps.specs.ImportLists.{present}
-use Rattle.def_steps.proofs.ImportListsLaws.{present-all}
 
 -- Results and lists
 
@@ -45,30 +46,17 @@ both_ok (Err e) p q f = q
 pub read_at : {X : Type 0} (xs : List X) (i : ℕ) (shown known : X) → i < length xs → shown ≡ get_or xs i shown → shown ≡ known → slice_get xs i ≡ Some known
 read_at xs i shown known within read is = slice_get-get_or xs i shown within ∙ ap (λ x. Some x) (sym read ∙ is)
 
+-- within a list an element stands at each place
+there : {X : Type 0} (xs : List X) (i : ℕ) → i < length xs → (x : X) × (slice_get xs i ≡ Some x) × (x ≡ get_or xs i x)
+there [] i within = absurd (omega (arith, within))
+there (y ∷ ys) i within = (get_or (y ∷ ys) i y, slice_get-get_or (y ∷ ys) i y within, get_or_default (y ∷ ys) i y (get_or (y ∷ ys) i y) within)
+
 -- at one place stands one element
 pub one_at : {X : Type 0} (o : Option X) (x y : X) → o ≡ Some x → o ≡ Some y → x ≡ y
 one_at o x y first second = let twice : Some x ≡ Some y = sym first ∙ second in cc
 
 pub same_some : {X : Type 0} {x y : X} → Some x ≡ Some y → x ≡ y
 same_some same = cc
-
--- what an entry of a list is, where it is there and not empty
-pub entry_is : {X : Type 0} (o : Option (Option X)) (x : X) → option_and_then (λ entry. entry) o ≡ Some x → o ≡ Some (Some x)
-entry_is None x is = absurd (cc is)
-entry_is (Some None) x is = absurd (cc is)
-entry_is (Some (Some y)) x is = ap (λ entry. Some entry) is
-
--- an empty place has nothing that is given a call
-pub nothing_at : (xs : List (Option MacroDirective)) (i : ℕ) (d : MacroDirective) → slice_get xs i ≡ Some None → slice_get xs i ≡ Some (Some d) → ⊥
-nothing_at xs i d none here = let wrong : None ≡ Some d = one_at (slice_get xs i) None (Some d) none here in cc
-
-nothing_of : {X : Type 0} (o : Option X) → is_some o ≡ false → o ≡ None
-nothing_of None none = refl
-nothing_of (Some x) none = absurd cc
-
-something_of : {X : Type 0} (o : Option X) → is_some o ≡ true → (x : X) × (o ≡ Some x)
-something_of None some = absurd cc
-something_of (Some x) some = (x, refl)
 
 -- no expansion is shown where none is there, and the other way round
 pub none_shown : (xs : List Expansion) → map expansion_shown xs ≡ [] → xs ≡ []
@@ -79,68 +67,134 @@ pub bare_after : (old new : List Expansion) → map expansion_shown new ≡ map 
 bare_after old new same bare = none_shown new (same ∙ ap (map expansion_shown) bare)
 
 -- fewer wait than a machine can number
-present_few : (xs : List (Option MacroDirective)) → length (present xs) ≤ length xs
-unfolding present
-present_few [] = omega arith
-present_few (None ∷ xs) = let rest = present_few xs in omega (arith, rest)
-present_few (Some x ∷ xs) = let rest = present_few xs in omega (arith, rest)
-
-pub few_macros : (v : Vec (Option MacroDirective) Global) → length (macros_in v.items) < 2 ^ 64
+pub few_macros : (v : VecDeque MacroDirective Global) → length (macros_in v.items) < 2 ^ 64
 few_macros v =
-    let shown = length-map (present v.items) macro_directive_of in
-    let most = present_few v.items in
+    let shown = length-map v.items macro_directive_of in
     let within = v.ok.0 in
-    let cap = v.ok.1 in
-    let small = v.small in
-    omega (arith, shown, most, within, cap, small)
+    let cap = v.small.1 in
+    let small = v.small.0 in
+    omega (arith, shown, within, cap, small)
 
 -- Turns in a row
 
--- what is known once the places up to one had their turns
-pub record AskedSoFar (oracle : Oracle) (first : Interner) (start : DefCollector) (session : Interner) (c : DefCollector) (moved : Bool) (i : ℕ) : Type 0 where
-  pub turns : HadTurns oracle (state_of start first) moved (state_of c session)
-  pub same : moved ≡ false → c.unresolved_macros.items ≡ start.unresolved_macros.items
-  pub none : moved ≡ false → (index : ℕ) → index < i → (d : MacroDirective) → slice_get start.unresolved_macros.items index ≡ Some (Some d)
-      → (told oracle (state_of start first) (macro_directive_of d)).turn ≡ Stays
+-- none
+pub no_turns : (oracle : Oracle) (s : State) → HadTurns oracle s s.macros false s
+no_turns oracle s = record {
+  run = collects_refl [] s;
+  turns = turns_begin s;
+  rest = [];
+  macros = sym (append-nil s.macros);
+  fewer = λ yes. absurd (true≢false (sym yes));
+  still = λ no. invokes_refl s;
+  stay = λ no. All-nil (λ d. (told oracle s d).turn ≡ Stays);
+}
 
-pub asked_none : (oracle : Oracle) (session : Interner) (c : DefCollector) → AskedSoFar oracle session c session c false 0
-asked_none oracle session c = record { turns = no_turns oracle (state_of c session); same = λ was. refl; none = λ was index before. absurd (omega (arith, before)) }
+module _ (oracle : Oracle) (start s t : State) (left : List waits.MacroDirective) (moved : Bool) where
+  -- as much waits as at first, or less
+  no_more : (so_far : HadTurns oracle start left moved s) (was : Bool) → moved ≡ was → waiting_work s ≤ waiting_work start
+  no_more so_far true is = let less = so_far.fewer is in omega (arith, less)
+  no_more so_far false is = let same = work_same oracle start s (so_far.still is) in omega (arith, same)
 
-module _ (oracle : Oracle) (first : Interner) (start : DefCollector) (session : Interner) (c : DefCollector) (moved : Bool) (next_session : Interner) (next : DefCollector) (i : ℕ) (so_far : AskedSoFar oracle first start session c moved i) where
-  -- one that left
-  pub asked_given : HadTurns oracle (state_of c session) true (state_of next next_session) → AskedSoFar oracle first start next_session next true (i + 1)
-  asked_given turns = record {
-    turns = turns_left oracle (state_of start first) (state_of c session) (state_of next next_session) moved so_far.turns turns;
-    same = λ was. absurd (true≢false was);
-    none = λ was. absurd (true≢false was);
-  }
+module _ (oracle : Oracle) (start s t : State) (d : waits.MacroDirective) (left : List waits.MacroDirective) (moved : Bool) (so_far : HadTurns oracle start (d ∷ left) moved s) where
+  -- one leaves
+  pub turns_left : HasLeft oracle s t → HadTurns oracle start left true t
+  turns_left has =
+      let both : has.first ∷ has.others ≡ d ∷ (left ++ so_far.rest) = sym has.stands ∙ so_far.macros in
+      let same : d ≡ has.first = cc in
+      let others : has.others ≡ left ++ so_far.rest = cc in
+      let turns : InTurns so_far.run.runs (has.first ∷ left) moved = subst (λ x. InTurns so_far.run.runs (x ∷ left) moved) same so_far.turns in
+      let asked = collects_asked oracle s [] has.first has.others has.stands in
+      record {
+        run = collects_trans (collects_trans so_far.run asked) has.rest;
+        turns = turns_on (collects_trans so_far.run asked) (turns_leave so_far.run has.first turns has.others has.stands has.turn) has.rest;
+        rest = so_far.rest ++ has.more;
+        macros = has.macros ∙ ap (λ ds. ds ++ has.more) others ∙ append_assoc left so_far.rest has.more;
+        fewer = λ yes. let most = no_more oracle start s t (d ∷ left) moved so_far moved refl in let less = has.fewer in omega (arith, less, most);
+        still = λ no. absurd (true≢false no);
+        stay = λ no. absurd (true≢false no);
+      }
 
-  -- one that stays
-  pub asked_kept : HadTurns oracle (state_of c session) false (state_of next next_session) → next.unresolved_macros.items ≡ c.unresolved_macros.items
-      → ((d : MacroDirective) → slice_get c.unresolved_macros.items i ≡ Some (Some d) → (told oracle (state_of c session) (macro_directive_of d)).turn ≡ Stays)
-      → AskedSoFar oracle first start next_session next moved (i + 1)
-  asked_kept turns same none = record {
-    turns = turns_kept oracle (state_of start first) (state_of c session) (state_of next next_session) moved so_far.turns turns;
-    same = λ was. same ∙ so_far.same was;
-    none = λ was index before d here. elim (cases_lt index i) [
-      | inl earlier ↦ so_far.none was index earlier d here
-      | inr after ↦
-          let at : index ≡ i = omega (arith, before, after) in
-          sym (turn_same oracle (state_of start first) (state_of c session) (so_far.turns.still was) (macro_directive_of d))
-          ∙ none d (ap (λ xs. slice_get xs i) (so_far.same was) ∙ subst (λ k. slice_get start.unresolved_macros.items k ≡ Some (Some d)) at here)
-    ];
-  }
+  -- one stays
+  pub turns_kept : HasStayed oracle s t → HadTurns oracle start left moved t
+  turns_kept has =
+      let both : has.first ∷ has.others ≡ d ∷ (left ++ so_far.rest) = sym has.stands ∙ so_far.macros in
+      let same : d ≡ has.first = cc in
+      let others : has.others ≡ left ++ so_far.rest = cc in
+      let turns : InTurns so_far.run.runs (has.first ∷ left) moved = subst (λ x. InTurns so_far.run.runs (x ∷ left) moved) same so_far.turns in
+      let waits : Contains s.macros has.first = subst (λ ds. Contains ds has.first) (sym has.stands) (0, omega arith, refl) in
+      let as_much = work_same oracle s t has.asked.only in
+      record {
+        run = collects_trans so_far.run has.asked.run;
+        turns = turns_on so_far.run (turns_stay so_far.run has.first turns waits has.asked.turn) has.asked.run;
+        rest = so_far.rest ++ has.first ∷ [];
+        macros = has.macros ∙ ap (λ ds. ds ++ has.first ∷ []) others ∙ append_assoc left so_far.rest (has.first ∷ []);
+        fewer = λ yes. let less = so_far.fewer yes in omega (arith, less, as_much);
+        still = λ no. invokes_trans start s t (so_far.still no) has.asked.only;
+        stay = λ no.
+            All-append (λ x. (told oracle start x).turn ≡ Stays) so_far.rest (has.first ∷ []) (so_far.stay no)
+            (All-cons (λ x. (told oracle start x).turn ≡ Stays) has.first [] (sym (turn_same oracle start s (so_far.still no) has.first) ∙ has.asked.turn) (All-nil (λ x. (told oracle start x).turn ≡ Stays)));
+      }
 
--- where all had their turns and none left, each stays
-pub all_stay_after : (oracle : Oracle) (first : Interner) (start : DefCollector) (session : Interner) (c : DefCollector) (i : ℕ) → AskedSoFar oracle first start session c false i → length start.unresolved_macros.items ≤ i → AllStay oracle (state_of c session)
-all_stay_after oracle first start session c i so_far all =
-    all_stay_same oracle (state_of start first) (state_of c session) (so_far.turns.still refl)
-    (record {
-      stay = λ d there. All-contains (λ x. (told oracle (state_of start first) x).turn ≡ Stays) (macros_in start.unresolved_macros.items) d
-          (All-map (λ x. (told oracle (state_of start first) x).turn ≡ Stays) macro_directive_of (present start.unresolved_macros.items)
-          (present-all (λ x. (told oracle (state_of start first) (macro_directive_of x)).turn ≡ Stays) start.unresolved_macros.items
-          (λ index x here. so_far.none refl index (let within = slice_get_within start.unresolved_macros.items index (Some x) here in omega (arith, within, all)) x here))) there;
-    })
+-- the first left
+pub had_turn_left : (oracle : Oracle) (s t : State) → HasLeft oracle s t → HadTurn oracle s true t
+had_turn_left oracle s t left = record { stayed = λ no. absurd (true≢false no); left = λ yes. left }
+
+-- or stays
+pub had_turn_stayed : (oracle : Oracle) (s t : State) → HasStayed oracle s t → HadTurn oracle s false t
+had_turn_stayed oracle s t stayed = record { stayed = λ no. stayed; left = λ yes. absurd (true≢false (sym yes)) }
+
+-- one that was asked and stays goes behind the others
+pub stays_behind : (oracle : Oracle) (s u t : rules.State) (d : waits.MacroDirective) (others : List waits.MacroDirective) → s.macros ≡ d ∷ others → OnlyAsked oracle s d u → u.macros ≡ d ∷ others → t ≡ record u { macros = others ++ d ∷ [] }
+    → HasStayed oracle s t
+stays_behind oracle s u t d others stands asked same is =
+    let order : IsPermutation u.macros (others ++ d ∷ []) = subst (λ ds. IsPermutation ds (others ++ d ∷ [])) (sym same) (IsPermutation-sym (others ++ d ∷ []) (d ∷ others) (IsPermutation-to_front others d)) in
+    record {
+      first = d;
+      others = others;
+      stands = stands;
+      asked = subst (OnlyAsked oracle s d) (sym is) (record {
+        turn = asked.turn;
+        run = collects_trans asked.run (collects_ordered oracle u (others ++ d ∷ []) order);
+        only = invokes_trans s u (record u { macros = others ++ d ∷ [] }) asked.only (invokes_ordered u (others ++ d ∷ []) order);
+      });
+      macros = ap (λ (x : rules.State). x.macros) is;
+    }
+
+-- those that had their turn go before the others
+pub asked_first_order : (old new : List MacroDirective) → new ≡ filter (λ (d : MacroDirective). d.asked) old ++ filter (λ (d : MacroDirective). not d.asked) old → IsPermutation (macros_in old) (macros_in new)
+asked_first_order old new is =
+    let asked = λ (d : MacroDirective). d.asked in
+    let waits = λ (d : MacroDirective). not d.asked in
+    subst (λ ds. IsPermutation (macros_in old) (macros_in ds)) (sym is) (IsPermutation-map macro_directive_of old (filter asked old ++ filter waits old) (IsPermutation-filter_both asked waits (λ d. refl) old))
+
+-- What a pass leaves
+
+-- where all had their turns and none left, the state is stuck
+module _ (oracle : Oracle) (s t : State) (sound : IsSoundWith [] s) (ready : NoneReady oracle s) (bare : s.expansions ≡ []) where
+  pub gets_stuck : HadTurns oracle s [] false t → GetsStuck oracle s t
+  gets_stuck turns =
+      let still = turns.still refl in
+      record {
+        run = turns.run;
+        stuck = record {
+          quiet = record { closed = (collects_sound turns.run sound).sound.closed; imports = none_ready_same oracle s t still ready; expansions = expansions_same oracle s t still ∙ bare };
+          macros = record {
+            stay = λ d there. turn_same oracle s t still d ∙ All-contains (λ x. (told oracle s x).turn ≡ Stays) turns.rest d (turns.stay refl) (subst (λ ds. Contains ds d) turns.macros there);
+          };
+        };
+        as_much = work_same oracle s t still;
+      }
+
+  -- where one left, what is done behind the turns makes a round of them
+  pub makes_round : HadTurns oracle s [] true t → (u v : State) → Collects oracle [] t [] u → waiting_work u ≤ waiting_work t → Collects oracle [] u [] v → waiting_work v ≤ waiting_work u → MakesRound oracle s v
+  makes_round turns u v ordered as_much walked no_more =
+      let quiet : IsQuiet oracle s = record { closed = sound.sound.closed; imports = ready; expansions = bare } in
+      let first = collects_trans turns.run ordered in
+      record {
+        run = collects_trans first walked;
+        round = round_made s v (collects_trans first walked) quiet (turns_on first (turns_on turns.run turns.turns ordered) walked);
+        fewer = let less = turns.fewer refl in omega (arith, less, as_much, no_more);
+      }
 
 -- Expansions
 
@@ -160,42 +214,33 @@ pub call_report : (oracle : Oracle) (s : rules.State) (w : World) (d : waits.Mac
 call_report oracle s w d written answer kind same gives =
     ap (answer_report d) (gives ∙ ap (λ x. answer_in x s.map d written) same) ∙ sym (ap (kind_report oracle s d) kind)
 
--- what was reported of the entries up to one
+-- what was reported of those that are left over up to one
 pub record ReportedSoFar (oracle : Oracle) (session : Interner) (start c : DefCollector) (i : ℕ) : Type 0 where
   pub frame : c ≡ record start { diagnostics = c.diagnostics }
   pub told : c.diagnostics.items ≡ start.diagnostics.items ++ flat_map (macro_report oracle (state_of start session)) (macros_in (take i start.unresolved_macros.items))
 
 pub reported_none : (oracle : Oracle) (session : Interner) (c : DefCollector) → ReportedSoFar oracle session c c 0
-reported_none oracle session c = record {
-  frame = refl;
-  told = sym (append-nil c.diagnostics.items) ∙ ap (λ ds. c.diagnostics.items ++ flat_map (macro_report oracle (state_of c session)) ds) (sym (no_macros [] refl));
-}
+reported_none oracle session c = record { frame = refl; told = sym (append-nil c.diagnostics.items) }
 
 module _ (oracle : Oracle) (session : Interner) (start c next : DefCollector) (i : ℕ) (so_far : ReportedSoFar oracle session start c i) (within : i < length start.unresolved_macros.items)
     (frame : next ≡ record c { diagnostics = next.diagnostics })
-    (told : (entry : Option MacroDirective) → slice_get c.unresolved_macros.items i ≡ Some entry
-    → next.diagnostics.items ≡ c.diagnostics.items ++ option_map_or (λ d. macro_report oracle (state_of c session) (macro_directive_of d)) entry []) where
-  reports_alike : (d : MacroDirective) → macro_report oracle (state_of c session) (macro_directive_of d) ≡ macro_report oracle (state_of start session) (macro_directive_of d)
-  reports_alike d = ap (λ (x : DefCollector). macro_report oracle (state_of x session) (macro_directive_of d)) so_far.frame
-
-  entry_told : (entry : Option MacroDirective) → option_map_or (λ d. macro_report oracle (state_of c session) (macro_directive_of d)) entry [] ≡ flat_map (macro_report oracle (state_of start session)) (entry_macros entry)
-  entry_told None = refl
-  entry_told (Some d) = reports_alike d ∙ sym (append-nil (macro_report oracle (state_of start session) (macro_directive_of d)))
-
-  -- one entry more
+    (told : (d : MacroDirective) → slice_get c.unresolved_macros.items i ≡ Some d → next.diagnostics.items ≡ c.diagnostics.items ++ macro_report oracle (state_of c session) (macro_directive_of d)) where
+  -- one more
   pub reported_more : ReportedSoFar oracle session start next (i + 1)
   reported_more =
-      let entries = start.unresolved_macros.items in
-      let entry : Option MacroDirective = get_or entries i None in
-      let here : slice_get c.unresolved_macros.items i ≡ Some entry = ap (λ (x : DefCollector). slice_get x.unresolved_macros.items i) so_far.frame ∙ slice_get-get_or entries i None within in
-      let more : macros_in (take (i + 1) entries) ≡ macros_in (take i entries) ++ entry_macros entry = macros_more entries i entry within (get_or_default entries i None entry within) in
+      let all = start.unresolved_macros.items in
+      let report = macro_report oracle (state_of start session) in
+      let found = there all i within in
+      let d : MacroDirective = found.0 in
+      let at : slice_get c.unresolved_macros.items i ≡ Some d = ap (λ (x : DefCollector). slice_get x.unresolved_macros.items i) so_far.frame ∙ found.1 in
+      let more : macros_in (take (i + 1) all) ≡ macros_in (take i all) ++ macro_directive_of d ∷ [] = macros_more all i d within found.2 in
       record {
         frame = frame ∙ ap (λ (x : DefCollector). record x { diagnostics = next.diagnostics }) so_far.frame;
-        told = told entry here
-            ∙ ap (λ l. c.diagnostics.items ++ l) (entry_told entry)
-            ∙ ap (λ l. l ++ flat_map (macro_report oracle (state_of start session)) (entry_macros entry)) so_far.told
-            ∙ append_assoc start.diagnostics.items (flat_map (macro_report oracle (state_of start session)) (macros_in (take i entries))) (flat_map (macro_report oracle (state_of start session)) (entry_macros entry))
-            ∙ ap (λ l. start.diagnostics.items ++ l) (sym (flat_map-append (macro_report oracle (state_of start session)) (macros_in (take i entries)) (entry_macros entry)) ∙ ap (flat_map (macro_report oracle (state_of start session))) (sym more));
+        told = told d at
+            ∙ ap (λ (x : DefCollector). c.diagnostics.items ++ macro_report oracle (state_of x session) (macro_directive_of d)) so_far.frame
+            ∙ ap (λ l. l ++ report (macro_directive_of d)) so_far.told
+            ∙ append_assoc start.diagnostics.items (flat_map report (macros_in (take i all))) (report (macro_directive_of d))
+            ∙ ap (λ l. start.diagnostics.items ++ l) (flat_map_more report [] (macros_in (take i all)) (macro_directive_of d) ∙ ap (flat_map report) (sym more));
       }
 
 -- all of them

@@ -1,10 +1,10 @@
 -- The turn of a macro that waits.
-use Rattle.std.proofs.Common.{◌≡◌, ◌<◌, ◌≤◌, ◌^◌, Bool, true, false, true≢false, List, [], ◌∷◌, ◌++◌, length, Option, Some, None, Result, Ok, Err, refl, sym, ap, subst, ◌∙◌, arith}
+use Rattle.std.proofs.Common.{◌≡◌, ◌<◌, ◌≤◌, ◌^◌, Bool, true, false, true≢false, List, [], ◌∷◌, length, Option, Some, None, Result, Ok, Err, append-nil, refl, sym, ap, subst, ◌∙◌}
 use Rattle.def_ids.specs.declared.ids.ModuleId.{ModuleId}
 use Rattle.def_interner.specs.declared.macro_def.MacroDefId.{MacroDefId}
 use Rattle.item_tree.specs.declared.ids.MacroCallId.{MacroCallId}
-use Rattle.def_calls.specs.Shown.{IsLeft, IsTurned, leaves}
-use Rattle.def_collector.specs.Passes.{HadTurns, IsWalked}
+use Rattle.def_calls.specs.Shown.{IsTurned, leaves}
+use Rattle.def_collector.specs.Passes.{HasLeft, IsAsked, IsWalked, OnlyAsked}
 use Rattle.def_oracle.specs.declared.source_database.CallAnswer.{CallAnswer}
 use Rattle.def_oracle.specs.declared.source_database.UnresolvedMacro.{UnresolvedMacro}
 use Rattle.def_map.specs.Oracle.{Oracle}
@@ -18,83 +18,77 @@ use Rattle.def_rules.specs.Waiting.{Attr, Derive, FnLike, MacroDirective, Writte
 use Rattle.def_laws.specs.Depths.{OnlyInvokes, waiting_work}
 use Rattle.def_laws.specs.Performs.{Tried}
 use Rattle.def_laws.specs.Runs.{Collects, Leads}
-use Rattle.def_laws.proofs.PassLaws.{collects_derived, collects_given, collects_replaced, collects_stays, collects_walked, derived_lighter, given_lighter, replaced_lighter, invokes_refl, invokes_trans, only_invokes, walked_lighter, work_same}
-use Rattle.def_laws.proofs.StepsLaws.{collects_refl, collects_trans}
-
--- Turns
-
--- none
-pub no_turns : (oracle : Oracle) (s : State) → HadTurns oracle s false s
-no_turns oracle s = record { run = collects_refl [] s; fewer = λ was. absurd (true≢false (sym was)); still = λ was. invokes_refl s }
-
-module _ (oracle : Oracle) (s t u : State) (moved : Bool) (before : HadTurns oracle s moved t) where
-  no_more : (was : Bool) → moved ≡ was → waiting_work t ≤ waiting_work s
-  no_more true is = let less = before.fewer is in omega (arith, less)
-  no_more false is = let same = work_same oracle s t (before.still is) in omega (arith, same)
-
-  -- turns, and one that leaves
-  pub turns_left : HadTurns oracle t true u → HadTurns oracle s true u
-  turns_left last = record {
-    run = collects_trans before.run last.run;
-    fewer = λ was. let most = no_more moved refl in let less = last.fewer refl in omega (arith, less, most);
-    still = λ was. absurd (true≢false was);
-  }
-
-  -- turns, and one that stays
-  pub turns_kept : HadTurns oracle t false u → HadTurns oracle s moved u
-  turns_kept last = record {
-    run = collects_trans before.run last.run;
-    fewer = λ was. let less = before.fewer was in let same = work_same oracle t u (last.still refl) in omega (arith, less, same);
-    still = λ was. invokes_trans s t u (before.still was) (last.still refl);
-  }
-
--- What does not leave stays
-
-pub stays_of : (turn : Turn) → leaves turn ≡ false → turn ≡ Stays
-stays_of Stays none = refl
-stays_of (GivesCall call) none = absurd (cc none)
-stays_of (GivesDerive call) none = absurd (cc none)
-stays_of (Replaces call) none = absurd (cc none)
-stays_of (WalksItem derives written) none = absurd (cc none)
+use Rattle.def_laws.proofs.PassLaws.{collects_stays, derived_lighter, given_lighter, invokes_refl, only_invokes, queued, queued_behind, replaced_lighter, rest_by, walked_lighter, walked_rest}
+use Rattle.def_laws.proofs.StepsLaws.{collects_refl}
 
 -- One that is asked
 
+-- it stays
+pub had_stayed : (oracle : Oracle) (s : State) (d : MacroDirective) (t : State) → OnlyAsked oracle s d t → IsAsked oracle s d false t
+had_stayed oracle s d t asked = record { stayed = λ no. asked; left = λ yes. absurd (true≢false (sym yes)) }
+
+-- it leaves
+pub had_left : (oracle : Oracle) (s : State) (d : MacroDirective) (t : State) → HasLeft oracle s t → IsAsked oracle s d true t
+had_left oracle s d t left = record { stayed = λ no. absurd (true≢false no); left = λ yes. left }
+
+-- where nothing is done, it stays
+pub had_nothing : (oracle : Oracle) (s : State) (d : MacroDirective) → (told oracle s d).turn ≡ Stays → IsAsked oracle s d false s
+had_nothing oracle s d turn = had_stayed oracle s d s (record { turn = turn; run = collects_refl [] s; only = invokes_refl s })
+
 module _ (oracle : Oracle) (s s' t : State) (d : MacroDirective) (given : Told) (is : given ≡ told oracle s d) (alike : s'.macros ≡ s.macros) (turned : IsTurned s' d given t) where
-  stands : s.macros ≡ turned.before ++ d ∷ turned.behind
+  stands : s.macros ≡ d ∷ turned.others
   stands = sym alike ∙ turned.stands
 
-  now : (turn : Turn) → given.turn ≡ turn → t ≡ (turn_effect (told oracle s d).state turned.before d turned.behind turn).state
+  now : (turn : Turn) → given.turn ≡ turn → t ≡ (turn_effect (told oracle s d).state [] d turned.others turn).state
   now turn which =
       turned.is
-      ∙ ap (λ x. (turn_effect given.state turned.before d turned.behind x).state) which
-      ∙ ap (λ (x : Told). (turn_effect x.state turned.before d turned.behind turn).state) is
+      ∙ ap (λ x. (turn_effect given.state [] d turned.others x).state) which
+      ∙ ap (λ (x : Told). (turn_effect x.state [] d turned.others turn).state) is
 
   was : (turn : Turn) → given.turn ≡ turn → (told oracle s d).turn ≡ turn
   was turn which = ap (λ (x : Told). x.turn) (sym is) ∙ which
 
   -- it stays
-  pub had_stayed : given.turn ≡ Stays → HadTurns oracle s false t
-  had_stayed which = record {
-    run = subst (λ u. Collects oracle [] s [] u) (sym (now Stays which)) (collects_stays oracle s turned.before d turned.behind stands (was Stays which));
-    fewer = λ no. absurd (true≢false (sym no));
-    still = λ no. subst (OnlyInvokes s) (sym (now Stays which)) (only_invokes oracle s turned.before d turned.behind stands (was Stays which));
-  }
+  pub turn_stayed : given.turn ≡ Stays → IsAsked oracle s d false t
+  turn_stayed which = had_stayed oracle s d t (record {
+    turn = was Stays which;
+    run = subst (λ u. Collects oracle [] s [] u) (sym (now Stays which)) (collects_stays oracle s [] d turned.others stands (was Stays which));
+    only = subst (OnlyInvokes s) (sym (now Stays which)) (only_invokes oracle s [] d turned.others stands (was Stays which));
+  })
 
   -- it is given a call
-  pub had_call : (call : MacroCallId) → given.turn ≡ GivesCall call → HadTurns oracle s true t
-  had_call call which = record {
-    run = subst (λ u. Collects oracle [] s [] u) (sym (now (GivesCall call) which)) (collects_given oracle s turned.before d turned.behind stands call (was (GivesCall call) which));
-    fewer = λ yes. subst (λ u. waiting_work u < waiting_work s) (sym (now (GivesCall call) which)) (given_lighter oracle s turned.before d turned.behind stands call);
-    still = λ yes. absurd (true≢false yes);
-  }
+  pub turn_called : (call : MacroCallId) → given.turn ≡ GivesCall call → IsAsked oracle s d true t
+  turn_called call which =
+      let told_so = was (GivesCall call) which in
+      let is_now = now (GivesCall call) which in
+      let u : State = (turn_effect (told oracle s d).state [] d turned.others (GivesCall call)).state in
+      had_left oracle s d t (record {
+        first = d;
+        others = turned.others;
+        stands = stands;
+        turn = λ stays. cc (told_so, stays);
+        rest = rest_by oracle s [] d turned.others stands (GivesCall call) told_so t (subst (λ x. Collects oracle [] u [] x) (sym is_now) (collects_refl [] u));
+        more = [];
+        macros = ap (λ (x : State). x.macros) is_now ∙ sym (append-nil turned.others);
+        fewer = subst (λ u. waiting_work u < waiting_work s) (sym is_now) (given_lighter oracle s [] d turned.others stands call);
+      })
 
   -- its attribute is given one
-  pub had_replaced : (call : MacroCallId) → given.turn ≡ Replaces call → HadTurns oracle s true t
-  had_replaced call which = record {
-    run = subst (λ u. Collects oracle [] s [] u) (sym (now (Replaces call) which)) (collects_replaced oracle s turned.before d turned.behind stands call (was (Replaces call) which));
-    fewer = λ yes. subst (λ u. waiting_work u < waiting_work s) (sym (now (Replaces call) which)) (replaced_lighter oracle s turned.before d turned.behind stands call);
-    still = λ yes. absurd (true≢false yes);
-  }
+  pub turn_replaced : (call : MacroCallId) → given.turn ≡ Replaces call → IsAsked oracle s d true t
+  turn_replaced call which =
+      let told_so = was (Replaces call) which in
+      let is_now = now (Replaces call) which in
+      let u : State = (turn_effect (told oracle s d).state [] d turned.others (Replaces call)).state in
+      had_left oracle s d t (record {
+        first = d;
+        others = turned.others;
+        stands = stands;
+        turn = λ stays. cc (told_so, stays);
+        rest = rest_by oracle s [] d turned.others stands (Replaces call) told_so t (subst (λ x. Collects oracle [] u [] x) (sym is_now) (collects_refl [] u));
+        more = [];
+        macros = ap (λ (x : State). x.macros) is_now ∙ sym (append-nil turned.others);
+        fewer = subst (λ u. waiting_work u < waiting_work s) (sym is_now) (replaced_lighter oracle s [] d turned.others stands call);
+      })
 
 -- the macro that a derive finds
 pub derive_found : (oracle : Oracle) (s : State) (at : ModuleId) (written : WrittenDerive) (w : World) (known found : Option MacroDefId) → w ≡ world oracle s → known ≡ derive_macro w at written → known ≡ found
@@ -110,23 +104,28 @@ module _ (oracle : Oracle) (s t : State) (d : MacroDirective) (written : Written
   pub derive_stays : (w : World) (found : Option MacroDefId) → w ≡ world oracle s → found ≡ derive_macro w d.scope written → found ≡ None → (told oracle s d).turn ≡ Stays
   derive_stays w found same finds none = ap (λ (x : Told). x.turn) (derive_by w found same finds ∙ ap (derive_told oracle s d written) none)
 
-  module _ (w : World) (known : Option MacroDefId) (found : MacroDefId) (same : w ≡ world oracle s) (finds : known ≡ derive_macro w d.scope written) (some : known ≡ Some found) (left : IsLeft s.macros d t.macros) where
+  module _ (w : World) (known : Option MacroDefId) (found : MacroDefId) (same : w ≡ world oracle s) (finds : known ≡ derive_macro w d.scope written) (some : known ≡ Some found) (others : List MacroDirective) (stands : s.macros ≡ d ∷ others) where
     abbrev given_call : MacroCallId
     given_call = derive_call oracle s d written found
 
     given_is : told oracle s d ≡ given_told oracle s d written found given_call
     given_is = derive_by w known same finds ∙ ap (derive_told oracle s d written) some
 
-    pub had_derive : t ≡ expanding (derived oracle s d written found given_call) (left.before ++ left.behind) d given_call → HadTurns oracle s true t
-    had_derive now =
+    pub turn_derived : t ≡ expanding (derived oracle s d written found given_call) others d given_call → IsAsked oracle s d true t
+    turn_derived now =
         let turn : (told oracle s d).turn ≡ GivesDerive given_call = ap (λ (x : Told). x.turn) given_is in
-        let here : t ≡ expanding (told oracle s d).state (left.before ++ left.behind) d given_call =
-        now ∙ ap (λ (x : Told). expanding x.state (left.before ++ left.behind) d given_call) (sym given_is) in
-        record {
-          run = subst (λ u. Collects oracle [] s [] u) (sym here) (collects_derived oracle s left.before d left.behind left.stands given_call turn);
-          fewer = λ yes. subst (λ u. waiting_work u < waiting_work s) (sym here) (derived_lighter oracle s left.before d left.behind left.stands given_call);
-          still = λ yes. absurd (true≢false yes);
-        }
+        let u : State = expanding (told oracle s d).state others d given_call in
+        let here : t ≡ u = now ∙ ap (λ (x : Told). expanding x.state others d given_call) (sym given_is) in
+        had_left oracle s d t (record {
+          first = d;
+          others = others;
+          stands = stands;
+          turn = λ stays. cc (turn, stays);
+          rest = rest_by oracle s [] d others stands (GivesDerive given_call) turn t (subst (λ x. Collects oracle [] u [] x) (sym here) (collects_refl [] u));
+          more = [];
+          macros = ap (λ (x : State). x.macros) here ∙ sym (append-nil others);
+          fewer = subst (λ u. waiting_work u < waiting_work s) (sym here) (derived_lighter oracle s [] d others stands given_call);
+        })
 
 -- an item is walked without its attribute
 module _ (oracle : Oracle) (s s' t : State) (d : MacroDirective) (derives : List WrittenDerive) (written : WrittenAttr) (is : told oracle s d ≡ record { state = s'; turn = WalksItem derives written }) (alike : s'.macros ≡ s.macros)
@@ -137,25 +136,30 @@ module _ (oracle : Oracle) (s s' t : State) (d : MacroDirective) (derives : List
   walks : given.turn ≡ WalksItem derives written
   walks = ap (λ (x : Told). x.turn) is
 
-  item_stands : s.macros ≡ walked.before ++ d ∷ walked.behind
+  item_stands : s.macros ≡ d ∷ walked.others
   item_stands = sym alike ∙ walked.stands
 
   -- as it was told
   abbrev again : State → Task
   again x = Visit (item_site x d written) written.item
 
-  tries : Tried oracle d derives (walked_state given.state walked.before d walked.behind written) walked.tried
-  tries = subst (λ (x : Told). Tried oracle d derives (walked_state x.state walked.before d walked.behind written) walked.tried) (sym is) walked.tries
+  tries : Tried oracle d derives (walked_state given.state [] d walked.others written) walked.tried
+  tries = subst (λ (x : Told). Tried oracle d derives (walked_state x.state [] d walked.others written) walked.tried) (sym is) walked.tries
 
   leads : Leads oracle (again given.state ∷ []) walked.tried [] t
   leads = subst (λ (x : Told). Leads oracle (again x.state ∷ []) walked.tried [] t) (sym is) walked.leads
 
-  pub had_walk : d.depth ≤ deepest → length derives < 2 ^ 64 → length t.macros < 2 ^ 64 → HadTurns oracle s true t
-  had_walk most short few = record {
-    run = collects_walked oracle s walked.before d walked.behind item_stands derives written walks walked.tried t tries leads;
-    fewer = λ yes. walked_lighter oracle s walked.before d walked.behind item_stands derives written walks walked.tried t tries leads most short few;
-    still = λ yes. absurd (true≢false yes);
-  }
+  pub turn_walked : d.depth ≤ deepest → length derives < 2 ^ 64 → length t.macros < 2 ^ 64 → IsAsked oracle s d true t
+  turn_walked most short few = had_left oracle s d t (record {
+    first = d;
+    others = walked.others;
+    stands = item_stands;
+    turn = λ stays. cc (walks, stays);
+    rest = rest_by oracle s [] d walked.others item_stands (WalksItem derives written) walks t (walked_rest oracle s [] d walked.others item_stands derives written walks walked.tried t tries leads);
+    more = queued oracle s [] d walked.others item_stands derives written walks walked.tried t tries leads;
+    macros = queued_behind oracle s [] d walked.others item_stands derives written walks walked.tried t tries leads;
+    fewer = walked_lighter oracle s [] d walked.others item_stands derives written walks walked.tried t tries leads most short few;
+  })
 
 -- What is told
 
@@ -165,21 +169,17 @@ module _ (oracle : Oracle) (s : State) (d : MacroDirective) where
     call_is = ap (call_told s d) (gives ∙ ap (λ x. answer_in x s.map d written) same) ∙ sym (ap (told_by oracle s d) kind)
 
     module _ (t : State) (turned : IsTurned s d (call_told s d answer) t) where
-      by_value : (value : Option MacroCallId) → (call_told s d answer).turn ≡ given_turn value → (moved : Bool) → moved ≡ leaves (call_told s d answer).turn → HadTurns oracle s moved t
-      by_value None turn moved known = subst (λ m. HadTurns oracle s m t) (sym (known ∙ ap leaves turn)) (had_stayed oracle s s t d (call_told s d answer) call_is refl turned turn)
-      by_value (Some call) turn moved known = subst (λ m. HadTurns oracle s m t) (sym (known ∙ ap leaves turn)) (had_call oracle s s t d (call_told s d answer) call_is refl turned call turn)
+      by_value : (value : Option MacroCallId) → (call_told s d answer).turn ≡ given_turn value → (moved : Bool) → moved ≡ leaves (call_told s d answer).turn → IsAsked oracle s d moved t
+      by_value None turn moved known = subst (λ m. IsAsked oracle s d m t) (sym (known ∙ ap leaves turn)) (turn_stayed oracle s s t d (call_told s d answer) call_is refl turned turn)
+      by_value (Some call) turn moved known = subst (λ m. IsAsked oracle s d m t) (sym (known ∙ ap leaves turn)) (turn_called oracle s s t d (call_told s d answer) call_is refl turned call turn)
 
-      by_answer : (shown : Result CallAnswer UnresolvedMacro) → answer ≡ shown → (moved : Bool) → moved ≡ leaves (call_told s d answer).turn → HadTurns oracle s moved t
+      by_answer : (shown : Result CallAnswer UnresolvedMacro) → answer ≡ shown → (moved : Bool) → moved ≡ leaves (call_told s d answer).turn → IsAsked oracle s d moved t
       by_answer (Ok told) is moved known = by_value told.value (ap (λ a. (call_told s d a).turn) is) moved known
       by_answer (Err unresolved) is moved known = by_value None (ap (λ a. (call_told s d a).turn) is) moved known
 
       -- a call is asked
-      pub had_answer : (moved : Bool) → moved ≡ leaves (call_told s d answer).turn → HadTurns oracle s moved t
-      had_answer moved known = by_answer answer refl moved known
-
-    -- one that is given no call stays
-    pub call_stays : (moved : Bool) → moved ≡ leaves (call_told s d answer).turn → moved ≡ false → (told oracle s d).turn ≡ Stays
-    call_stays moved known was = ap (λ (x : Told). x.turn) (sym call_is) ∙ stays_of (call_told s d answer).turn (sym known ∙ was)
+      pub turn_answered : (moved : Bool) → moved ≡ leaves (call_told s d answer).turn → IsAsked oracle s d moved t
+      turn_answered moved known = by_answer answer refl moved known
 
   module _ (written : WrittenAttr) (kind : d.kind ≡ Attr written) where
     -- an item is told by whether its attribute is a helper

@@ -5,7 +5,15 @@ use Rattle.std.proofs.lemmas.List.Sums.{sum_by-cons}
 use Rattle.std.proofs.lemmas.List.Elements.{All-append, All-cons, All-head, All-nil, All-same, All-tail}
 use Rattle.std.proofs.lemmas.Option.{slice_get_cases}
 use Rattle.item_tree.specs.declared.ids.ModItemId.{ModItemId}
+use Rattle.item_tree.specs.declared.ids.SyntaxContext.{SyntaxContext}
+use Rattle.item_tree.specs.declared.items.ExpandTo.{ExpandTo}
 use Rattle.item_tree.specs.declared.items.ItemNode.{ItemNode}
+use Rattle.item_tree.specs.declared.items.ModContents.{ModContents}
+use Rattle.item_tree.specs.declared.items.ModItemKind.{ModItemKind}
+use Rattle.item_tree.specs.declared.items.ModItemKind.TheVariants.{ExternBlock, MacroCall, Mod}
+use Rattle.item_tree.specs.declared.items.RawVisibility.{RawVisibility}
+use Rattle.item_tree.specs.declared.mod_path.ModPath.{ModPath}
+use Rattle.item_tree.specs.declared.name.Name.{Name}
 use Rattle.item_tree.specs.declared.tree.ItemTree.{ItemTree}
 use Rattle.item_tree.specs.Trees.{item_at}
 use Rattle.std.specs.declared.alloc.Global.{Global}
@@ -17,7 +25,7 @@ use Rattle.def_map.specs.Oracle.{Oracle}
 use Rattle.def_items.specs.declared.lists.Frame.{Frame}
 use Rattle.def_items.specs.declared.lists.ItemList.{ItemList}
 use Rattle.def_items.specs.Parts.{list_site, tree_in}
-use Rattle.def_collector.specs.Walk.{AreKnown, agenda_of, frame_tasks, inner_of, is_frame_known, is_known, list_tasks, walk_measure}
+use Rattle.def_collector.specs.Walk.{AreKnown, agenda_of, frame_tasks, inner_of, is_frame_known, is_known, list_tasks, opens_list, walk_measure}
 use Rattle.def_items.specs.Lists.{IsBegun, behind, brought_into, left_of, listed}
 use Rattle.def_laws.specs.Work.{task_work, work}
 use Rattle.def_rules.specs.Items.{diagnostic, node_at, ordered, visits, walk}
@@ -235,3 +243,11 @@ visited_disabled oracle s told site id item disabled cfg found known is more =
 pub not_disabled : (before : DefCollector) (told : Vec DefDiagnostic Global) (disabled : Option CfgExpr) → disabled ≡ None → (is_some disabled ≡ false → told ≡ before.diagnostics)
     → record before { diagnostics = told } ≡ before
 not_disabled before told disabled none same = ap (λ d. record before { diagnostics = d }) (same (ap is_some none))
+
+-- an item of no other kind opens no list
+pub opens_none : (kind : ModItemKind) → ((name : Name) (raw : RawVisibility) (contents : ModContents) → kind ≡ Mod name raw contents → ⊥) → ((children : List ModItemId) → kind ≡ ExternBlock children → ⊥)
+    → ((path : ModPath) (expand_to : ExpandTo) (ctxt : SyntaxContext) → kind ≡ MacroCall path expand_to ctxt → ⊥) → opens_list kind ≡ false
+opens_none (Mod name raw contents) no_module no_block no_call = absurd (no_module name raw contents refl)
+opens_none (ExternBlock children) no_module no_block no_call = absurd (no_block children refl)
+opens_none (MacroCall path expand_to ctxt) no_module no_block no_call = absurd (no_call path expand_to ctxt refl)
+opens_none _ no_module no_block no_call = refl

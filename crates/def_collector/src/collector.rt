@@ -49,8 +49,8 @@ pub struct DefCollector<'a> {
     pub item_attrs: ItemAttrs,
     /// Builtin derives that are not expanded, until their items are handled or replaced.
     pub deferred_builtin_derives: DeferredDerives,
-    /// What waits for its macro. What left leaves `None`.
-    pub unresolved_macros: Vec<Option<MacroDirective<'a>>>,
+    /// What waits for its macro, in order. In a pass, what stays goes behind the others.
+    pub unresolved_macros: VecDeque<MacroDirective<'a>>,
     /// The expansions of what was given a call, until they are walked.
     pub expansions: VecDeque<Expansion>,
     pub diagnostics: Vec<DefDiagnostic>,

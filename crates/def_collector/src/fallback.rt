@@ -1,57 +1,31 @@
 //! Fallback: where nothing moves any longer, an item that waits for an attribute is given up.
-ghost use Rattle.std.specs.Prelude.{◌≡◌, ◌<◌, [], false, true, Contains, IfOk, OnOk};
+ghost use Rattle.std.specs.Prelude.{◌≡◌, [], false, true, Contains, IfOk, OnOk};
 ghost use Rattle.def_interner.specs.Session.{AddsLocations, session_of};
 ghost use Rattle.def_collector.specs.Collector.{state_of};
-ghost use Rattle.def_collector.specs.Passes.{HasMoved};
-ghost use Rattle.def_laws.specs.Finished.{IsAtRest};
-ghost use Rattle.def_laws.specs.Sound.{IsSoundWith};
+ghost use Rattle.def_collector.specs.Passes.{GivesUp};
 ghost use Rattle.def_rules.specs.Fallback.{IsStuck};
-ghost use Rattle.def_rules.specs.Recording.{NoneReady};
 ghost use Rattle.def_rules.specs.Settled.{IsNoAttribute};
 ghost use Rattle.def_rules.specs.Waiting.{MacroDirective};
 
 use crate::collector::DefCollector;
-use crate::macro_pass::{resolve_macros, walk_again};
-use def_calls::{WaitingItem, fill_gap, first_item, leave, report_attr};
+use crate::macro_pass::walk_again;
+use def_calls::{WaitingItem, fill_gap, first_item, report_attr, take_out};
 use def_interner::Interner;
 use def_map::SourceDatabase;
 use std::alloc::AllocError;
 
-/// Lets each macro that waits have its turn, and where none leaves, gives an item up that waits for an
-/// attribute. Answers whether something moved. On `Err` nothing but safety is promised.
-pub fn move_on<'a, D: SourceDatabase>(
-    collector: &mut DefCollector<'a>,
-    db: &'a D,
-    session: &mut Interner,
-) -> Result<bool, AllocError>
-    requires sound { IsSoundWith [] (state_of collector.old session.old) }
-    requires ready { NoneReady (D.oracle db.now) (state_of collector.old session.old) }
-    requires bare { collector.old.expansions.items ≡ [] }
-    ensures moved { IfOk result (λ moved.
-        HasMoved (D.oracle db.now) (state_of collector.old session.old) moved (state_of collector.new session.new)) }
-    ensures expanded { OnOk result (collector.new.expansions.items ≡ []) }
-    ensures settled { IfOk result (λ moved. moved ≡ false →
-        IsAtRest (D.oracle db.now) (state_of collector.new session.new)) }
-    ensures session { AddsLocations (session_of session.old) (session_of session.new) }
-{
-    if resolve_macros(collector, db, session)? {
-        return Ok(true);
-    }
-    fall_back(collector, db, session)
-}
-
 /// Gives up the first item that waits for an attribute, if one does: the attribute is reported, and the
 /// item is walked without it. What waits last then takes its place. Answers whether there was one. On
 /// `Err` nothing but safety is promised.
-fn fall_back<'a, D: SourceDatabase>(
+pub fn fall_back<'a, D: SourceDatabase>(
     collector: &mut DefCollector<'a>,
     db: &'a D,
     session: &mut Interner,
 ) -> Result<bool, AllocError>
     requires stuck { IsStuck (D.oracle db.now) (state_of collector.old session.old) }
     requires bare { collector.old.expansions.items ≡ [] }
-    ensures moved { IfOk result (λ moved.
-        HasMoved (D.oracle db.now) (state_of collector.old session.old) moved (state_of collector.new session.new)) }
+    ensures given_up { IfOk result (λ moved. moved ≡ true →
+        GivesUp (D.oracle db.now) (state_of collector.old session.old) (state_of collector.new session.new)) }
     ensures expanded { OnOk result (collector.new.expansions.items ≡ []) }
     ensures none { IfOk result (λ moved. moved ≡ false →
         (d : MacroDirective) → Contains (state_of collector.new session.new).macros d → IsNoAttribute d.kind) }
@@ -59,7 +33,7 @@ fn fall_back<'a, D: SourceDatabase>(
         state_of collector.new session.new ≡ state_of collector.old session.old) }
     ensures session { AddsLocations (session_of session.old) (session_of session.new) }
 {
-    let Some(item) = first_item(collector.unresolved_macros.as_slice()) else {
+    let Some(item) = first_item(&collector.unresolved_macros) else {
         return Ok(false);
     };
     let WaitingItem {
@@ -68,11 +42,11 @@ fn fall_back<'a, D: SourceDatabase>(
         written,
     } = item;
     report_attr(&mut collector.diagnostics, &directive, written)?;
-    leave(&mut collector.unresolved_macros, at, directive);
+    take_out(&mut collector.unresolved_macros, at, directive);
     let file = directive.position.file;
     let item_attrs = &mut collector.item_attrs;
     item_attrs.pass_over(file, written.item, written.attr_id)?;
     walk_again(collector, db, session, directive, written)?;
-    fill_gap(&mut collector.unresolved_macros, at);
+    fill_gap(&mut collector.unresolved_macros, at)?;
     Ok(true)
 }

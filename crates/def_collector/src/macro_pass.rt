@@ -1,18 +1,19 @@
 //! Macros that wait: each pass lets each of them have its turn, and walks the expansions of those that
 //! are given a call.
-ghost use Rattle.std.specs.Prelude.{◌≡◌, ◌<◌, ◌≤◌, ◌^◌, ◌∷◌, [], false, Some, length, option_and_then, slice_get, IfOk, OnOk};
+ghost use Rattle.std.specs.Prelude.{◌≡◌, ◌<◌, ◌≤◌, ◌^◌, ◌∷◌, [], true, false, Some, length, slice_get, IfOk, OnOk};
 ghost use Rattle.def_calls.specs.Shown.{IsTurned, derives_in, expansion_shown, kind_of, macro_directive_of, written_attr_of, written_derive_of, written_of};
-ghost use Rattle.def_calls.specs.declared.directives.MacroDirective.{MacroDirective as Directive};
 ghost use Rattle.def_interner.specs.declared.interner.Interner.{Interner};
 ghost use Rattle.def_interner.specs.Session.{AddsLocations, session_of};
 ghost use Rattle.def_collector.specs.Collector.{state_of};
-ghost use Rattle.def_collector.specs.Passes.{HadTurns, IsWalked};
+ghost use Rattle.def_collector.specs.Passes.{GetsStuck, HadTurn, HadTurns, IsAsked, IsWalked, MakesRound};
 ghost use Rattle.def_laws.specs.Depths.{waiting_work};
 ghost use Rattle.def_laws.specs.Performs.{IsExpanded, Tried};
 ghost use Rattle.def_laws.specs.Runs.{Collects, Leads};
+ghost use Rattle.def_laws.specs.Sound.{IsSoundWith};
 ghost use Rattle.def_rules.specs.Attributes.{ReadsDerives, ReplacesItem, activated, item_site};
 ghost use Rattle.def_rules.specs.Derives as rule;
-ghost use Rattle.def_rules.specs.Directives.{AllStay, Stays, WalksItem, told, tried_effect, use_told};
+ghost use Rattle.def_rules.specs.Directives.{WalksItem, tried_effect, use_told};
+ghost use Rattle.def_rules.specs.Recording.{NoneReady};
 ghost use Rattle.def_rules.specs.State as rules;
 ghost use Rattle.def_rules.specs.Waiting as waits;
 
@@ -23,13 +24,12 @@ use def_calls::{
     AttrUse, DeriveList, Expansion, MacroDirective, MacroDirectiveKind, WrittenAttr, WrittenCall,
     WrittenDerive, attr_call, attr_macro, attr_use, call_answer, call_derive, deferred_derive,
     derive_macro, derive_paths, expand_deferred, give_call, give_derive, is_helper, leave,
-    record_list, settle_call, stored_dir,
+    put_asked_first, record_list, settle_call, stay, stored_dir,
 };
 use def_interner::{Interner, MacroDefId};
 use def_items::ItemList;
 use def_map::SourceDatabase;
 use def_rules::DefDiagnostic;
-use def_steps::drop_left;
 use std::alloc::AllocError;
 
 /// Lets each macro that waits have its turn, in order, and then walks the expansions of those that
@@ -40,105 +40,105 @@ pub fn resolve_macros<'a, D: SourceDatabase>(
     db: &'a D,
     session: &mut Interner,
 ) -> Result<bool, AllocError>
-    requires { collector.old.expansions.items ≡ [] }
-    ensures turns { IfOk result (λ moved.
-        HadTurns (D.oracle db.now) (state_of collector.old session.old) moved (state_of collector.new session.new)) }
+    requires sound { IsSoundWith [] (state_of collector.old session.old) }
+    requires ready { NoneReady (D.oracle db.now) (state_of collector.old session.old) }
+    requires bare { collector.old.expansions.items ≡ [] }
+    ensures round { IfOk result (λ moved. moved ≡ true →
+        MakesRound (D.oracle db.now) (state_of collector.old session.old) (state_of collector.new session.new)) }
+    ensures stuck { IfOk result (λ moved. moved ≡ false →
+        GetsStuck (D.oracle db.now) (state_of collector.old session.old) (state_of collector.new session.new)) }
     ensures expanded { OnOk result (collector.new.expansions.items ≡ []) }
-    ensures none { IfOk result (λ moved. moved ≡ false →
-        AllStay (D.oracle db.now) (state_of collector.new session.new)) }
     ensures session { AddsLocations (session_of session.old) (session_of session.new) }
 {
     if !ask_macros(collector, db, session)? {
         return Ok(false);
     }
-    drop_left(&mut collector.unresolved_macros);
+    put_asked_first(collector.alloc, &mut collector.unresolved_macros)?;
     walk_expansions(collector, db, session)?;
     Ok(true)
 }
 
-/// Lets each macro that waits have its turn, in order. Answers whether one left. On `Err` nothing
-/// but safety is promised.
+/// Lets each macro that waits have its turn, in order; what stays goes behind what is queued
+/// meanwhile. Answers whether one left. On `Err` nothing but safety is promised.
 fn ask_macros<'a, D: SourceDatabase>(
     collector: &mut DefCollector<'a>,
     db: &'a D,
     session: &mut Interner,
 ) -> Result<bool, AllocError>
     ensures turns { IfOk result (λ moved.
-        HadTurns (D.oracle db.now) (state_of collector.old session.old) moved (state_of collector.new session.new)) }
-    ensures none { IfOk result (λ moved. moved ≡ false →
-        AllStay (D.oracle db.now) (state_of collector.new session.new)) }
+        HadTurns (D.oracle db.now) (state_of collector.old session.old) [] moved (state_of collector.new session.new)) }
     ensures session { AddsLocations (session_of session.old) (session_of session.new) }
 {
     let mut moved = false;
     'asked: for i in 0..collector.unresolved_macros.len() {
-        if ask_macro(collector, db, session, i)? {
+        if ask_macro(collector, db, session)? {
             moved = true;
         }
     }
     Ok(moved)
 }
 
-/// Lets what waits at a place of the list have its turn, if something does. Answers whether it left.
-/// On `Err` nothing but safety is promised.
+/// Lets the macro that waits first have its turn: it leaves, or goes behind the others. Answers
+/// whether it left. On `Err` nothing but safety is promised.
 fn ask_macro<'a, D: SourceDatabase>(
     collector: &mut DefCollector<'a>,
     db: &'a D,
     session: &mut Interner,
-    i: usize,
 ) -> Result<bool, AllocError>
+    requires { 0 < length collector.old.unresolved_macros.items }
     ensures turn { IfOk result (λ moved.
-        HadTurns (D.oracle db.now) (state_of collector.old session.old) moved (state_of collector.new session.new)) }
-    ensures same { IfOk result (λ moved. moved ≡ false →
-        collector.new.unresolved_macros.items ≡ collector.old.unresolved_macros.items) }
-    ensures none { IfOk result (λ moved. moved ≡ false → (d : Directive) →
-        slice_get collector.old.unresolved_macros.items i ≡ Some (Some d) →
-        (told (D.oracle db.now) (state_of collector.old session.old) (macro_directive_of d)).turn ≡ Stays) }
+        HadTurn (D.oracle db.now) (state_of collector.old session.old) moved (state_of collector.new session.new)) }
     ensures session { AddsLocations (session_of session.old) (session_of session.new) }
 {
-    let Some(directive) = waiting_at(collector.unresolved_macros.as_slice(), i) else {
-        return Ok(false);
-    };
+    let directive = collector.unresolved_macros[0];
+    if ask_directive(collector, db, session, directive)? {
+        return Ok(true);
+    }
+    stay(&mut collector.unresolved_macros, directive)?;
+    Ok(false)
+}
+
+/// Asks for what waits first, by its kind. Answers whether it left. On `Err` nothing but safety is
+/// promised.
+fn ask_directive<'a, D: SourceDatabase>(
+    collector: &mut DefCollector<'a>,
+    db: &'a D,
+    session: &mut Interner,
+    directive: MacroDirective<'a>,
+) -> Result<bool, AllocError>
+    requires { slice_get collector.old.unresolved_macros.items 0 ≡ Some directive }
+    ensures asked { IfOk result (λ moved.
+        IsAsked (D.oracle db.now) (state_of collector.old session.old) (macro_directive_of directive.entry) moved (state_of collector.new session.new)) }
+    ensures same { IfOk result (λ moved. moved ≡ false →
+        collector.new.unresolved_macros.items ≡ collector.old.unresolved_macros.items) }
+    ensures session { AddsLocations (session_of session.old) (session_of session.new) }
+{
     match directive.kind {
         MacroDirectiveKind::FnLike(written) => {
-            ask_call(collector, db, session, i, directive, written)
+            ask_call(collector, db, session, directive, written)
         }
-        MacroDirectiveKind::Attr(written) => {
-            ask_attr(collector, db, session, i, directive, written)
-        }
+        MacroDirectiveKind::Attr(written) => ask_attr(collector, db, session, directive, written),
         MacroDirectiveKind::Derive(written) => {
-            ask_derive(collector, db, session, i, directive, written)
+            ask_derive(collector, db, session, directive, written)
         }
     }
 }
 
-/// What waits at a place of the list, if something does.
-fn waiting_at<'a>(directives: &[Option<MacroDirective<'a>>], i: usize) -> Option<MacroDirective<'a>>
-    ensures { result ≡ option_and_then (λ entry. entry) (slice_get directives.now i) }
-{
-    match directives.get(i) {
-        Some(entry) => *entry,
-        None => None,
-    }
-}
-
-/// Asks for a call that waits. With a call it leaves, and its expansion is to be walked. Answers
+/// Asks for a call that waits first. With a call it leaves, and its expansion is to be walked. Answers
 /// whether it was given one. On `Err` nothing but safety is promised.
 fn ask_call<'a, D: SourceDatabase>(
     collector: &mut DefCollector<'a>,
     db: &D,
     session: &Interner,
-    i: usize,
     directive: MacroDirective<'a>,
     written: WrittenCall<'a>,
 ) -> Result<bool, AllocError>
-    requires here { slice_get collector.old.unresolved_macros.items i ≡ Some (Some directive) }
+    requires here { slice_get collector.old.unresolved_macros.items 0 ≡ Some directive }
     requires kind { kind_of directive.kind ≡ waits.FnLike (written_of written) }
-    ensures turn { IfOk result (λ moved.
-        HadTurns (D.oracle db.now) (state_of collector.old session.now) moved (state_of collector.new session.now)) }
+    ensures asked { IfOk result (λ moved.
+        IsAsked (D.oracle db.now) (state_of collector.old session.now) (macro_directive_of directive.entry) moved (state_of collector.new session.now)) }
     ensures same { IfOk result (λ moved. moved ≡ false →
         collector.new.unresolved_macros.items ≡ collector.old.unresolved_macros.items) }
-    ensures none { IfOk result (λ moved. moved ≡ false →
-        (told (D.oracle db.now) (state_of collector.old session.now) (macro_directive_of directive.entry)).turn ≡ Stays) }
 {
     let world = collector.world(db, session);
     let answer = call_answer(
@@ -152,30 +152,26 @@ fn ask_call<'a, D: SourceDatabase>(
         &mut collector.def_map,
         &mut collector.unresolved_macros,
         &mut collector.expansions,
-        i,
         directive,
         &answer,
     )
 }
 
-/// Asks for a derive that waits. With a call it leaves, and its expansion is to be walked. Answers
+/// Asks for a derive that waits first. With a call it leaves, and its expansion is to be walked. Answers
 /// whether its macro was found. On `Err` nothing but safety is promised.
 fn ask_derive<'a, D: SourceDatabase>(
     collector: &mut DefCollector<'a>,
     db: &D,
     session: &Interner,
-    i: usize,
     directive: MacroDirective<'a>,
     written: WrittenDerive<'a>,
 ) -> Result<bool, AllocError>
-    requires here { slice_get collector.old.unresolved_macros.items i ≡ Some (Some directive) }
+    requires here { slice_get collector.old.unresolved_macros.items 0 ≡ Some directive }
     requires kind { kind_of directive.kind ≡ waits.Derive (written_derive_of written) }
-    ensures turn { IfOk result (λ moved.
-        HadTurns (D.oracle db.now) (state_of collector.old session.now) moved (state_of collector.new session.now)) }
+    ensures asked { IfOk result (λ moved.
+        IsAsked (D.oracle db.now) (state_of collector.old session.now) (macro_directive_of directive.entry) moved (state_of collector.new session.now)) }
     ensures same { IfOk result (λ moved. moved ≡ false →
         collector.new.unresolved_macros.items ≡ collector.old.unresolved_macros.items) }
-    ensures none { IfOk result (λ moved. moved ≡ false →
-        (told (D.oracle db.now) (state_of collector.old session.now) (macro_directive_of directive.entry)).turn ≡ Stays) }
 {
     let world = collector.world(db, session);
     let Some(found) = derive_macro(&world, directive.module_id, written) else {
@@ -183,7 +179,7 @@ fn ask_derive<'a, D: SourceDatabase>(
     };
     let def_map = &mut collector.def_map;
     let call = give_derive(def_map, db, &directive, written, found)?;
-    leave(&mut collector.unresolved_macros, i, directive);
+    leave(&mut collector.unresolved_macros, directive);
     collector.expansions.push_back(directive.expansion(call))?;
     Ok(true)
 }
@@ -195,23 +191,20 @@ fn ask_attr<'a, D: SourceDatabase>(
     collector: &mut DefCollector<'a>,
     db: &'a D,
     session: &mut Interner,
-    i: usize,
     directive: MacroDirective<'a>,
     written: WrittenAttr<'a>,
 ) -> Result<bool, AllocError>
-    requires here { slice_get collector.old.unresolved_macros.items i ≡ Some (Some directive) }
+    requires here { slice_get collector.old.unresolved_macros.items 0 ≡ Some directive }
     requires kind { kind_of directive.kind ≡ waits.Attr (written_attr_of written) }
-    ensures turn { IfOk result (λ moved.
-        HadTurns (D.oracle db.now) (state_of collector.old session.old) moved (state_of collector.new session.new)) }
+    ensures asked { IfOk result (λ moved.
+        IsAsked (D.oracle db.now) (state_of collector.old session.old) (macro_directive_of directive.entry) moved (state_of collector.new session.new)) }
     ensures same { IfOk result (λ moved. moved ≡ false →
         collector.new.unresolved_macros.items ≡ collector.old.unresolved_macros.items) }
-    ensures none { IfOk result (λ moved. moved ≡ false →
-        (told (D.oracle db.now) (state_of collector.old session.old) (macro_directive_of directive.entry)).turn ≡ Stays) }
     ensures session { AddsLocations (session_of session.old) (session_of session.new) }
 {
     if is_helper(&collector.def_map, directive.position, written.attr) {
         let list = DeriveList::empty(written);
-        walk_without(collector, db, session, i, directive, list)?;
+        walk_without(collector, db, session, directive, list)?;
         return Ok(true);
     }
     let world = collector.world(db, session);
@@ -221,16 +214,16 @@ fn ask_attr<'a, D: SourceDatabase>(
     match attr_use(db, collector.def_map.tree.map.krate, found) {
         AttrUse::PassesOver => {
             let list = DeriveList::empty(written);
-            walk_without(collector, db, session, i, directive, list)?;
+            walk_without(collector, db, session, directive, list)?;
             Ok(true)
         }
         AttrUse::ReadsDerives => {
             let list = read_derives(collector, db, directive, written, found)?;
-            walk_without(collector, db, session, i, directive, list)?;
+            walk_without(collector, db, session, directive, list)?;
             Ok(true)
         }
         AttrUse::ReplacesItem => {
-            replace_item(collector, db, i, directive, written, found)?;
+            replace_item(collector, db, directive, written, found)?;
             Ok(true)
         }
     }
@@ -286,12 +279,11 @@ fn read_derives<'a, D: SourceDatabase>(
 fn replace_item<'a, D: SourceDatabase>(
     collector: &mut DefCollector<'a>,
     db: &D,
-    i: usize,
     directive: MacroDirective<'a>,
     written: WrittenAttr<'a>,
     found: MacroDefId,
 ) -> Result<(), AllocError>
-    requires { slice_get collector.old.unresolved_macros.items i ≡ Some (Some directive) }
+    requires { slice_get collector.old.unresolved_macros.items 0 ≡ Some directive }
     ensures { OnOk result ((session : Interner) → let s = state_of collector.old session in let d = macro_directive_of directive.entry in
         IsTurned (activated s d.position written.entry.attr_id) d (use_told (D.oracle db.now) s d (written_attr_of written.entry) found ReplacesItem) (state_of collector.new session)) }
 {
@@ -307,7 +299,6 @@ fn replace_item<'a, D: SourceDatabase>(
         &mut collector.def_map,
         &mut collector.unresolved_macros,
         &mut collector.expansions,
-        i,
         directive,
         call,
     )
@@ -319,18 +310,17 @@ fn walk_without<'a, D: SourceDatabase>(
     collector: &mut DefCollector<'a>,
     db: &'a D,
     session: &mut Interner,
-    i: usize,
     directive: MacroDirective<'a>,
     list: DeriveList<'a>,
 ) -> Result<(), AllocError>
-    requires { slice_get collector.old.unresolved_macros.items i ≡ Some (Some directive) }
+    requires { slice_get collector.old.unresolved_macros.items 0 ≡ Some directive }
     ensures walked { OnOk result (IsWalked (D.oracle db.now) (state_of collector.old session.old)
         (macro_directive_of directive.entry) (derives_in list.entry) (written_attr_of list.entry.written) (state_of collector.new session.new)) }
     ensures depth { directive.entry.depth < 2 ^ 32 }
     ensures few { OnOk result (length list.entry.paths.now < 2 ^ 64) }
     ensures session { AddsLocations (session_of session.old) (session_of session.new) }
 {
-    leave(&mut collector.unresolved_macros, i, directive);
+    leave(&mut collector.unresolved_macros, directive);
     let written = list.written;
     let file = directive.position.file;
     let item_attrs = &mut collector.item_attrs;
@@ -414,7 +404,7 @@ fn try_derive<'a, D: SourceDatabase>(
     let waiting = directive.derive(written);
     let world = collector.world(db, session);
     let Some(found) = derive_macro(&world, directive.module_id, written) else {
-        collector.unresolved_macros.push(Some(waiting))?;
+        collector.unresolved_macros.push_back(waiting)?;
         return Ok(());
     };
     let def_map = &mut collector.def_map;

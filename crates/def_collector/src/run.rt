@@ -1,7 +1,6 @@
 //! A whole run: what is known of a crate is read, its items are walked, and imports are recorded and
 //! macros expanded until nothing moves.
-ghost use Rattle.std.specs.Prelude.{◌≡◌, ◌<◌, ◌++◌, [], Option, Some, length, is_some, option_map, slice_get, IfOk, OnOk};
-ghost use Rattle.std.specs.Option.{option_map_or};
+ghost use Rattle.std.specs.Prelude.{◌≡◌, ◌<◌, ◌++◌, [], Some, length, is_some, option_map, slice_get, IfOk, OnOk};
 ghost use Rattle.def_calls.specs.Shown.{macro_directive_of};
 ghost use Rattle.def_calls.specs.declared.directives.MacroDirective.{MacroDirective};
 ghost use Rattle.item_tree.specs.declared.ids.TreeId.{TreeId};
@@ -11,20 +10,22 @@ ghost use Rattle.def_map.specs.DefMaps as whole;
 ghost use Rattle.def_map.specs.Fresh.{IsFresh};
 ghost use Rattle.def_modules.specs.Locals.{local_view};
 ghost use Rattle.def_modules.specs.Maps.{map_state};
-ghost use Rattle.def_laws.specs.Finished.{IsAtRest, shown};
+ghost use Rattle.def_laws.specs.Finished.{shown};
 ghost use Rattle.def_collector.specs.Collector.{state_of};
+ghost use Rattle.def_collector.specs.Passes.{Ends};
 ghost use Rattle.def_collector.specs.Setting.{setting_of};
 ghost use Rattle.def_rules.specs.Headline.{Answers};
 ghost use Rattle.def_rules.specs.Recording.{NoneReady};
 ghost use Rattle.def_rules.specs.Report.{macro_report, with_macro_reports};
 ghost use Rattle.def_rules.specs.Start.{first_depth, first_tasks, first_tree};
 ghost use Rattle.def_rules.specs.Start.{seeded_state, started};
-ghost use Rattle.def_laws.specs.Runs.{Collects, Leads};
+ghost use Rattle.def_laws.specs.Runs.{Leads};
 ghost use Rattle.def_laws.specs.Sound.{IsSoundWith};
 
 use crate::collector::DefCollector;
-use crate::fallback::move_on;
+use crate::fallback::fall_back;
 use crate::imports::resolve_imports;
+use crate::macro_pass::resolve_macros;
 use crate::seeding::seed;
 use crate::stack::walk;
 use def_calls::{
@@ -42,6 +43,9 @@ use indexmap::IndexMap;
 use item_tree::{HirFileId, TreeId};
 use std::alloc::{AllocError, Global};
 use std::collections::VecDeque;
+
+/// How many rounds a run may make: passes over the macros in which one leaves.
+const FIXED_POINT_LIMIT: u32 = 8192;
 
 /// Collects the definitions of a crate or a block into its seeded map.
 ///
@@ -70,9 +74,9 @@ pub fn collect_defs<D: SourceDatabase>(
     ensures session { AddsLocations (session_of session.old) (session_of session.new) }
 {
     let mut collector = begin(alloc, db, def_map, crate_local)?;
-    collect(&mut collector, db, session, tree_id)?;
+    let limit_met = collect(&mut collector, db, session, tree_id)?;
     report_macros(&mut collector, db, session)?;
-    collector.finish()
+    collector.finish(limit_met)
 }
 
 /// A collector that knows the seeded map alone, and what the database says of its crate.
@@ -107,31 +111,31 @@ fn begin<'a, D: SourceDatabase>(
         indeterminate_imports: Vec::new(alloc),
         item_attrs: ItemAttrs::new(alloc),
         deferred_builtin_derives: DeferredDerives::new(alloc),
-        unresolved_macros: Vec::new(alloc),
+        unresolved_macros: VecDeque::new(alloc),
         expansions: VecDeque::new(alloc),
         diagnostics: Vec::new(alloc),
     })
 }
 
-/// Walks the items, and then records imports and expands macros until nothing moves. On `Err`
-/// nothing but safety is promised.
+/// Walks the items, and then records imports and expands macros until nothing moves, or too many
+/// rounds were made. Answers whether the limit of rounds was met. On `Err` nothing but safety is
+/// promised.
 fn collect<'a, D: SourceDatabase>(
     collector: &mut DefCollector<'a>,
     db: &'a D,
     session: &mut Interner,
     tree_id: TreeId,
-) -> Result<(), AllocError>
+) -> Result<bool, AllocError>
     requires start { IsSoundWith
         (first_tasks (D.oracle db.now) (map_state collector.old.def_map) tree_id)
         (started (D.oracle db.now) tree_id (state_of collector.old session.old)) }
     requires bare { collector.old.expansions.items ≡ [] }
-    ensures run { OnOk result (Collects (D.oracle db.now)
+    ensures ends { IfOk result (λ limit_met. Ends (D.oracle db.now)
         (first_tasks (D.oracle db.now) (map_state collector.old.def_map) tree_id)
         (started (D.oracle db.now) tree_id (state_of collector.old session.old))
-        [] (state_of collector.new session.new)) }
+        limit_met (state_of collector.new session.new)) }
     ensures sound { OnOk result (IsSoundWith [] (state_of collector.new session.new)) }
     ensures expanded { OnOk result (collector.new.expansions.items ≡ []) }
-    ensures settled { OnOk result (IsAtRest (D.oracle db.now) (state_of collector.new session.new)) }
     ensures session { AddsLocations (session_of session.old) (session_of session.new) }
 {
     seed_with_top_level(collector, db, session, tree_id)?;
@@ -179,26 +183,33 @@ fn seed_with_top_level<'a, D: SourceDatabase>(
 }
 
 /// Records imports and expands macros in turns, and gives up attributes whose macros are not found, until
-/// nothing moves. On `Err` nothing but safety is promised.
+/// nothing moves, or too many rounds were made. Giving up is no round. Answers whether the limit of
+/// rounds was met. On `Err` nothing but safety is promised.
 fn resolution_loop<'a, D: SourceDatabase>(
     collector: &mut DefCollector<'a>,
     db: &'a D,
     session: &mut Interner,
-) -> Result<(), AllocError>
+) -> Result<bool, AllocError>
     requires sound { IsSoundWith [] (state_of collector.old session.old) }
     requires bare { collector.old.expansions.items ≡ [] }
-    ensures run { OnOk result (Collects (D.oracle db.now)
-        [] (state_of collector.old session.old) [] (state_of collector.new session.new)) }
+    ensures ends { IfOk result (λ limit_met. Ends (D.oracle db.now)
+        [] (state_of collector.old session.old) limit_met (state_of collector.new session.new)) }
     ensures sound { OnOk result (IsSoundWith [] (state_of collector.new session.new)) }
     ensures expanded { OnOk result (collector.new.expansions.items ≡ []) }
-    ensures settled { OnOk result (IsAtRest (D.oracle db.now) (state_of collector.new session.new)) }
     ensures session { AddsLocations (session_of session.old) (session_of session.new) }
 {
-    import_passes(collector, db, session)?;
-    'move_on: while move_on(collector, db, session)? {
+    let mut rounds = 0u32;
+    'rounds: loop {
         import_passes(collector, db, session)?;
+        if resolve_macros(collector, db, session)? {
+            rounds += 1;
+            if FIXED_POINT_LIMIT < rounds {
+                return Ok(true);
+            }
+        } else if !fall_back(collector, db, session)? {
+            return Ok(false);
+        }
     }
-    Ok(())
 }
 
 /// Records imports until none is ready. On `Err` nothing but safety is promised.
@@ -230,7 +241,7 @@ fn report_macros<'a, D: SourceDatabase>(
     Ok(())
 }
 
-/// Reports one that is left over, if it is there. On `Err` nothing but safety is promised.
+/// Reports one that is left over. On `Err` nothing but safety is promised.
 fn report_macro<'a, D: SourceDatabase>(
     collector: &mut DefCollector<'a>,
     db: &D,
@@ -239,14 +250,12 @@ fn report_macro<'a, D: SourceDatabase>(
 ) -> Result<(), AllocError>
     requires { i < length collector.old.unresolved_macros.items }
     ensures frame { collector.new ≡ record collector.old { diagnostics = collector.new.diagnostics } }
-    ensures told { OnOk result ((entry : Option MacroDirective) →
-        slice_get collector.old.unresolved_macros.items i ≡ Some entry →
+    ensures told { OnOk result ((d : MacroDirective) →
+        slice_get collector.old.unresolved_macros.items i ≡ Some d →
         collector.new.diagnostics.items ≡ collector.old.diagnostics.items
-        ++ option_map_or (λ d. macro_report (D.oracle db.now) (state_of collector.old session.now) (macro_directive_of d)) entry []) }
+        ++ macro_report (D.oracle db.now) (state_of collector.old session.now) (macro_directive_of d)) }
 {
-    let Some(directive) = collector.unresolved_macros[i] else {
-        return Ok(());
-    };
+    let directive = collector.unresolved_macros[i];
     match directive.kind {
         MacroDirectiveKind::FnLike(written) => {
             let world = collector.world(db, session);

@@ -1,5 +1,5 @@
 -- What is answered ends a run of the machine.
-use Rattle.std.proofs.Common.{◌≡◌, [], refl, sym, subst}
+use Rattle.std.proofs.Common.{◌≡◌, ◌<◌, ℕ, Bool, true, false, [], refl, sym, subst, ◌∙◌}
 use Rattle.def_interner.specs.Session.{Session}
 use Rattle.def_bindings.specs.Closure.{IsClosed, IsCoherent}
 use Rattle.def_globs.specs.Raised.{IsRaisedAt}
@@ -8,9 +8,11 @@ use Rattle.def_rules.specs.Targets.{leaves_out, target_of}
 use Rattle.def_rules.specs.Headline.{Answers}
 use Rattle.def_rules.specs.Report.{Answer, with_macro_reports}
 use Rattle.def_laws.specs.Finished.{NoneFailed, IsAtRest, IsFinished}
+use Rattle.def_rules.specs.Rounds.{round_limit}
+use Rattle.def_rules.specs.Settled.{IsSettled}
 use Rattle.def_rules.specs.Start.{first_tasks, seeded_state, start, started}
 use Rattle.def_rules.specs.State.{Setting, State, Moment, order}
-use Rattle.def_laws.specs.Runs.{Collects, at}
+use Rattle.def_laws.specs.Runs.{Collects, HoldRounds, at}
 use Rattle.def_rules.specs.Steps.{Reaches}
 use Rattle.def_laws.proofs.DeclaredLaws.{declared_along, was_put_along}
 use Rattle.def_laws.proofs.DeferredLeftLaws.{none_deferred_along}
@@ -18,11 +20,15 @@ use Rattle.def_laws.proofs.EveryNamespaceLaws.{every_namespace_along}
 use Rattle.def_laws.proofs.FailedLaws.{none_failed_along}
 use Rattle.def_laws.proofs.StaysLaws.{explicit_stays_along}
 
--- where a run from the seeded map leads to an end at which nothing is left to do, and no import or macro gives anything, what is answered of that end, with its macros reported, is right
-pub answers : (w : Setting) (before after : Session) (answer : Answer) (t : State) → Collects w.oracle (first_tasks w.oracle w.seeded w.tree) (started w.oracle w.tree (seeded_state w before)) [] t → IsAtRest w.oracle t → t.expansions ≡ [] → t.session ≡ after → NoneFailed w.seeded
+-- where a run from the seeded map leads to an end at which nothing is left to do, and either it holds more rounds than the limit or no import or macro gives anything, what is answered of that end,
+-- with its macros reported, is right
+pub answers : (w : Setting) (before after : Session) (answer : Answer) (t : State) (limit_met : Bool)
+    (collects : Collects w.oracle (first_tasks w.oracle w.seeded w.tree) (started w.oracle w.tree (seeded_state w before)) [] t)
+    → (rounds : ℕ) → HoldRounds collects.runs rounds → (limit_met ≡ true → round_limit < rounds) → (limit_met ≡ false → IsAtRest w.oracle t)
+    → t.expansions ≡ [] → t.session ≡ after → NoneFailed w.seeded
     → IsSoundWith (first_tasks w.oracle w.seeded w.tree) (started w.oracle w.tree (seeded_state w before)) → IsSoundWith [] t
-    → IsFinished (with_macro_reports w.oracle t) answer → Answers w before after answer
-answers w before after answer t collects rest expanded session clean begun ended finished =
+    → IsFinished (with_macro_reports w.oracle t) limit_met answer → Answers w before after answer
+answers w before after answer t limit_met collects rounds holds over rest expanded session clean begun ended finished =
     record {
       run = record { end = end; runs = runs; done = refl; expanded = expanded };
       session = session;
@@ -30,7 +36,7 @@ answers w before after answer t collects rest expanded session clean begun ended
         map = finished.map (none_failed_along runs clean);
         content = finished.content;
         local = finished.local;
-        outcome = record { imports = finished.outcome.imports; macros = finished.outcome.macros; edges = finished.outcome.edges; targets = finished.outcome.targets; limit = finished.outcome.limit };
+        outcome = record { imports = finished.outcome.imports; macros = finished.outcome.macros; edges = finished.outcome.edges; targets = finished.outcome.targets };
       };
       closed = subst (IsClosed (order t) (leaves_out t)) (sym finished.content) ended.sound.closed;
       coherent = subst (IsCoherent (order t) (leaves_out t) (target_of t.map.id t.targets)) (sym finished.content) ended.sound.coherent;
@@ -39,8 +45,9 @@ answers w before after answer t collects rest expanded session clean begun ended
       declared = declared_along runs refl refl;
       was_put = was_put_along runs refl refl;
       explicit_stays = λ a b run. explicit_stays_along run.goes_on;
-      settled = record { imports = rest.imports; macros = rest.macros; attributes = rest.attributes; deferred = none_deferred_along w before end runs refl rest.attributes };
-      every_namespace = every_namespace_along runs refl refl refl rest.imports;
+      limit = λ met. record { rounds = rounds; holds = holds []; more = over (sym finished.limit ∙ met) };
+      settled = λ met. settled (rest (sym finished.limit ∙ met));
+      every_namespace = λ met. every_namespace_along runs refl refl refl (rest (sym finished.limit ∙ met)).imports;
       reported = finished.reported;
     }
   where
@@ -49,3 +56,6 @@ answers w before after answer t collects rest expanded session clean begun ended
 
     runs : Reaches w.oracle (start w before) end
     runs = (collects.runs []).1
+
+    settled : IsAtRest w.oracle t → IsSettled w.oracle t
+    settled last = record { imports = last.imports; macros = last.macros; attributes = last.attributes; deferred = none_deferred_along w before end runs refl last.attributes }

@@ -38,5 +38,6 @@ pub mod ComingLaws
 pub mod RecordedLaws
 pub mod EveryNamespaceLaws
 pub mod PassLaws
+pub mod RoundsLaws
 pub mod HeadlineLaws
 pub mod GlobsLaws

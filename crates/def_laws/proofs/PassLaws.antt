@@ -35,14 +35,14 @@ use Rattle.def_rules.specs.Attributes.{AttrUse, PassesOver, ReadsDerives, Replac
 use Rattle.def_rules.specs.Deferred.{deferral, deferred_at, deferred_derive, deferred_expansion}
 use Rattle.def_rules.specs.Derives.{derive_call, derive_directive, derive_macro, derive_paths, derive_query, derives_from, may_derive}
 use Rattle.def_rules.specs.declared.diagnostics.DefDiagnosticKind.{DefDiagnosticKind}
-use Rattle.def_rules.specs.Directives.{AllStay, ExpansionStep, GivesCall, GivesDerive, MacroStep, Replaces, Stays, Told, Turn, WalksItem, answer_in, attr_told, call_answer, call_told, called_state, derive_told, expanding, expansion_of, given_state, given_turn, item_told, list_told, replaced_state, told, told_by, tried_effect, tries, turn_effect, use_told, walked_state}
+use Rattle.def_rules.specs.Directives.{AllStay, ExpansionStep, GivesDerive, MacroStep, Replaces, Stays, Told, Turn, WalksItem, answer_in, attr_told, call_answer, call_told, called_state, derive_told, expanding, expansion_of, given_state, given_turn, item_told, list_told, replaced_state, told, told_by, tried_effect, tries, turn_effect, use_told, walked_state}
 use Rattle.def_rules.specs.Imports.{is_ready}
 use Rattle.def_rules.specs.Items.{node_at, top_items, walk}
 use Rattle.def_rules.specs.Recording.{NoneReady}
 use Rattle.def_rules.specs.State.{State, Effect, Event, Site, Task, TryDerive, Visit, after, followed_by, only, with_map, world}
 use Rattle.def_rules.specs.Waiting.{Attr, Derive, Expansion, FnLike, MacroDirective, MacroDirectiveKind, WrittenAttr, WrittenCall, WrittenDerive}
 use Rattle.std.specs.Prelude.{IsPermutation}
-use Rattle.std.proofs.lemmas.List.Sorted.{sum_by-IsPermutation}
+use Rattle.std.proofs.lemmas.List.Sorted.{Contains-permutation, IsPermutation-refl, IsPermutation-sym, IsPermutation-trans, sum_by-IsPermutation}
 use Rattle.def_rules.specs.Fallback.{FallbackStep, IsStuck, attr_reported, given_up}
 use Rattle.def_rules.specs.Steps.{Step, asks, expands, falls_back, one, reorders}
 use Rattle.def_laws.specs.Depths.{AreVisitsBelow, OnlyInvokes, Queues, WaitsAlike, deferred_work, depth_rank, expansion_work, kind_rank, macro_rank, macro_work, visit_rank, waiting_work}
@@ -85,15 +85,21 @@ helpers_invoking place [] m = refl
 helpers_invoking place (call ∷ calls) m = helpers_invoking place calls (with_module m place (with_invocation call.0 call.1))
 
 pub invokes_refl : (s : State) → OnlyInvokes s s
-invokes_refl s = record { map = s.map; is = refl; facts = refl; krate = refl; helpers = refl }
+invokes_refl s = record { map = s.map; macros = s.macros; is = refl; order = IsPermutation-refl s.macros; facts = refl; krate = refl; helpers = refl }
+
+-- what waits is put into another order
+pub invokes_ordered : (s : State) (macros : List MacroDirective) → IsPermutation s.macros macros → OnlyInvokes s (record s { macros = macros })
+invokes_ordered s macros order = record { map = s.map; macros = macros; is = refl; order = order; facts = refl; krate = refl; helpers = refl }
 
 invokes_calls : (s : State) (place : ModuleId) (calls : List (InFile FileAstId × MacroCallId)) → OnlyInvokes s (with_invocations s place calls)
-invokes_calls s place calls = record { map = invoking place.index calls s.map; is = refl; facts = facts_invoking place.index calls s.map; krate = krate_invoking place.index calls s.map; helpers = helpers_invoking place.index calls s.map }
+invokes_calls s place calls = record { map = invoking place.index calls s.map; macros = s.macros; is = refl; order = IsPermutation-refl s.macros; facts = facts_invoking place.index calls s.map; krate = krate_invoking place.index calls s.map; helpers = helpers_invoking place.index calls s.map }
 
 pub invokes_trans : (s t u : State) → OnlyInvokes s t → OnlyInvokes t u → OnlyInvokes s u
 invokes_trans s t u p q = record {
   map = q.map;
-  is = q.is ∙ ap (λ (x : State). with_map x q.map) p.is;
+  macros = q.macros;
+  is = q.is ∙ ap (λ (x : State). record x { map = q.map; macros = q.macros }) p.is;
+  order = IsPermutation-trans s.macros p.macros q.macros p.order (subst (λ ds. IsPermutation ds q.macros) (ap (λ (x : State). x.macros) p.is) q.order);
   facts = q.facts ∙ ap (λ (x : State). facts_in x.map) p.is ∙ p.facts;
   krate = q.krate ∙ ap (λ (x : State). x.map.krate) p.is ∙ p.krate;
   helpers = q.helpers ∙ ap (λ (x : State). x.map.helpers) p.is ∙ p.helpers;
@@ -173,8 +179,13 @@ module _ (oracle : Oracle) (s t : State) (only_calls : OnlyInvokes s t) where
   pub turn_same : (d : MacroDirective) → (told oracle t d).turn ≡ (told oracle s d).turn
   turn_same d = kind_turn_same d d.kind
 
+  -- what waits waited before
+  pub waited_before : (d : MacroDirective) → Contains t.macros d → Contains s.macros d
+  waited_before d h =
+      Contains-permutation only_calls.macros s.macros d (IsPermutation-sym s.macros only_calls.macros only_calls.order) (subst (λ (x : State). Contains x.macros d) only_calls.is h)
+
   pub all_stay_same : AllStay oracle s → AllStay oracle t
-  all_stay_same all = record { stay = λ d h. turn_same d ∙ all.stay d (subst (λ (x : State). Contains x.macros d) only_calls.is h) }
+  all_stay_same all = record { stay = λ d h. turn_same d ∙ all.stay d (waited_before d h) }
 
   pub none_ready_same : NoneReady oracle s → NoneReady oracle t
   none_ready_same none = record {
@@ -182,10 +193,10 @@ module _ (oracle : Oracle) (s t : State) (only_calls : OnlyInvokes s t) where
   }
 
   pub work_same : waiting_work t ≡ waiting_work s
-  work_same = ap waiting_work only_calls.is
-
-  pub macros_same : t.macros ≡ s.macros
-  macros_same = ap (λ (x : State). x.macros) only_calls.is
+  work_same =
+      let whole = ap waiting_work only_calls.is in
+      let sum = sum_by-IsPermutation macro_work s.macros only_calls.macros only_calls.order in
+      omega (arith, whole, sum)
 
   pub expansions_same : t.expansions ≡ s.expansions
   expansions_same = ap (λ (x : State). x.expansions) only_calls.is
@@ -196,11 +207,11 @@ module _ (oracle : Oracle) (s : State) (effect : Effect) (turn : TurnFootprint s
   abbrev u : State
   u = waiting_with s turn.macros turn.expansions turn.deferred
 
-  stands_then : Stands [] s → Stands [] u
+  pub stands_then : Stands [] s → Stands [] u
   stands_then stands = record { state = stands.state; tasks = stands.tasks; waiting = λ place waits. stands.waiting place (turn.fewer place waits) }
 
   -- something that waits has its turn
-  collects_turn : Collects oracle [] s (effect.tasks ++ []) effect.state
+  unfoldable pub collects_turn : Collects oracle [] s (effect.tasks ++ []) effect.state
   collects_turn = record {
     runs = λ before. (before ++ effect.events, one (step before));
     keeps = λ stands sound. footprint_sound [] u turn.scope turn.depth effect turn.foot (stands_then stands) sound;
@@ -292,6 +303,19 @@ module _ (oracle : Oracle) (s : State) (d : MacroDirective) (written : WrittenDe
       omega (arith, more, last, same, most)
   try_weighs deep (Some found) = called_weighs deep found (derive_call oracle s d written found) (deferred_derive oracle found)
 
+  -- what it lets wait
+  abbrev tried_waits : Option MacroDefId → List MacroDirective
+  tried_waits None = derive_directive d written ∷ []
+  tried_waits (Some found) = []
+
+  called_waits : (found : MacroDefId) (call : MacroCallId) (deferred : Option ℕ) → (called_state oracle s d written found call deferred).macros ≡ s.macros
+  called_waits found call None = refl
+  called_waits found call (Some n) = refl
+
+  try_waits : (found : Option MacroDefId) → (after_try found).macros ≡ s.macros ++ tried_waits found
+  try_waits None = refl
+  try_waits (Some found) = called_waits found (derive_call oracle s d written found) (deferred_derive oracle found) ∙ sym (append-nil s.macros)
+
   module _ (rest : List Task) (found : Option MacroDefId) (is : derive_macro (world oracle s) d.scope written ≡ found) where
     abbrev tried : Effect
     tried = tried_effect oracle s d written found
@@ -319,7 +343,7 @@ module _ (oracle : Oracle) (s : State) (d : MacroDirective) (written : WrittenDe
 
 -- none is tried
 pub tried_none : (oracle : Oracle) (d : MacroDirective) (s : State) → Tried oracle d [] s s
-tried_none oracle d s = record { collects = λ rest. collects_refl rest s; work = omega arith }
+tried_none oracle d s = record { collects = λ rest. collects_refl rest s; more = []; macros = sym (append-nil s.macros); work = omega arith }
 
 -- one more is
 pub tried_more : (oracle : Oracle) (d : MacroDirective) → d.depth ≤ deepest → (derives : List WrittenDerive) (written : WrittenDerive) (s t u : State) (found : Option MacroDefId) → Tried oracle d derives s t
@@ -331,6 +355,12 @@ tried_more oracle d deep derives written s t u found before is now = record {
       subst (λ tasks. Collects oracle tasks s rest u) (sym order)
       (subst (λ x. Collects oracle (tries d derives ++ TryDerive d written ∷ rest) s rest x) (sym now)
       (collects_trans (before.collects (TryDerive d written ∷ rest)) (collects_try oracle t d written rest found is)));
+  more = before.more ++ tried_waits oracle t d written found;
+  macros =
+      ap (λ (x : State). x.macros) now
+      ∙ try_waits oracle t d written found
+      ∙ ap (λ ds. ds ++ tried_waits oracle t d written found) before.macros
+      ∙ append_assoc s.macros before.more (tried_waits oracle t d written found);
   work =
       let long = length-append derives (written ∷ []) in
       let was = before.work in
@@ -366,17 +396,21 @@ module _ (oracle : Oracle) (s : State) (before : List MacroDirective) (d : Macro
   abbrev given : Told
   given = told oracle s d
 
-  abbrev effect_by : Turn → Effect
+  abbrev pub effect_by : Turn → Effect
   effect_by turn = turn_effect given.state before d behind turn
 
-  asked : MacroStep oracle s (effect_by given.turn)
+  abbrev pub asked : MacroStep oracle s (effect_by given.turn)
   asked = record { before = before; directive = d; behind = behind; stands = stands; is = refl }
 
-  collects_asked : Collects oracle [] s ((effect_by given.turn).tasks ++ []) (effect_by given.turn).state
+  unfoldable pub collects_asked : Collects oracle [] s ((effect_by given.turn).tasks ++ []) (effect_by given.turn).state
   collects_asked = collects_turn oracle s (effect_by given.turn) (asks_footprint oracle s (effect_by given.turn) asked) (λ earlier. asks (effect_by given.turn) refl asked refl)
 
   collects_by : (turn : Turn) → given.turn ≡ turn → Collects oracle [] s ((effect_by turn).tasks ++ []) (effect_by turn).state
   collects_by turn is = subst (λ x. Collects oracle [] s ((effect_by x).tasks ++ []) (effect_by x).state) is collects_asked
+
+  -- what follows its turn, by what was told
+  pub rest_by : (turn : Turn) → given.turn ≡ turn → (t : State) → Collects oracle ((effect_by turn).tasks ++ []) (effect_by turn).state [] t → Collects oracle ((effect_by given.turn).tasks ++ []) (effect_by given.turn).state [] t
+  rest_by turn is t rest = subst (λ x. Collects oracle ((effect_by x).tasks ++ []) (effect_by x).state [] t) (sym is) rest
 
   -- where it stays, only calls for its arguments are recorded
   pub collects_stays : given.turn ≡ Stays → Collects oracle [] s [] given.state
@@ -438,23 +472,14 @@ module _ (oracle : Oracle) (s : State) (before : List MacroDirective) (d : Macro
         omega (arith, was, more, old, put_off, last, grows, some)
 
     -- it was given one
-    pub collects_given : given.turn ≡ GivesCall call → Collects oracle [] s [] (given_state given.state before d behind call)
-    collects_given is = collects_by (GivesCall call) is
-
     pub given_lighter : waiting_work (given_state given.state before d behind call) < waiting_work s
     given_lighter = expanding_lighter (invoking d.scope.index ((d.position, call) ∷ []) given.state.map)
 
     -- it is a derive that was given one
-    pub collects_derived : given.turn ≡ GivesDerive call → Collects oracle [] s [] (expanding given.state (before ++ behind) d call)
-    collects_derived is = collects_by (GivesDerive call) is
-
     pub derived_lighter : waiting_work (expanding given.state (before ++ behind) d call) < waiting_work s
     derived_lighter = expanding_lighter given.state.map
 
     -- its attribute was given one, and the derives that were deferred for its item are expansions
-    pub collects_replaced : given.turn ≡ Replaces call → Collects oracle [] s [] (replaced_state given.state before d behind call)
-    collects_replaced is = collects_by (Replaces call) is
-
     pub replaced_lighter : waiting_work (replaced_state given.state before d behind call) < waiting_work s
     replaced_lighter =
         let of_expansion : Expansion → ℕ = λ x. expansion_work x.depth in
@@ -482,11 +507,18 @@ module _ (oracle : Oracle) (s : State) (before : List MacroDirective) (d : Macro
 
     module _ (u t : State) (tried : Tried oracle d derives passed u) (leads : Leads oracle (again ∷ []) u [] t) where
       -- its derives were tried, and its item was walked
-      pub collects_walked : Collects oracle [] s [] t
-      collects_walked =
-          let left : Collects oracle [] s (tries d derives ++ again ∷ []) passed =
-          subst (λ tasks. Collects oracle [] s tasks passed) (append-nil (tries d derives ++ again ∷ [])) (collects_by (WalksItem derives written) is) in
-          collects_trans left (collects_trans (tried.collects (again ∷ [])) leads.collects)
+      pub walked_rest : Collects oracle ((effect_by (WalksItem derives written)).tasks ++ []) passed [] t
+      walked_rest =
+          subst (λ tasks. Collects oracle tasks passed [] t) (sym (append-nil (tries d derives ++ again ∷ []))) (collects_trans (tried.collects (again ∷ [])) leads.collects)
+
+      -- what was queued stands behind the others
+      abbrev pub queued : List MacroDirective
+      queued = tried.more ++ (leads.queues (visit_rank d.depth) (omega arith, tt)).1.more
+
+      pub queued_behind : t.macros ≡ (before ++ behind) ++ queued
+      queued_behind =
+          let queues : Queues (visit_rank d.depth) u t = (leads.queues (visit_rank d.depth) (omega arith, tt)).1 in
+          queues.macros ∙ ap (λ ds. ds ++ queues.more) tried.macros ∙ append_assoc (before ++ behind) tried.more queues.more
 
       -- and less waits
       pub walked_lighter : d.depth ≤ deepest → length derives < 2 ^ 64 → length t.macros < 2 ^ 64 → waiting_work t < waiting_work s

@@ -86,14 +86,14 @@ module _ {oracle : Oracle} where
   import_raised s effect step importer slot raised = subst (λ (e : Effect). IsRaisedIn e.state importer slot) (sym step.is) raised
 
   -- a run that takes no step
-  pub collects_refl : (tasks : List Task) (s : State) → Collects oracle tasks s tasks s
+  unfoldable pub collects_refl : (tasks : List Task) (s : State) → Collects oracle tasks s tasks s
   collects_refl tasks s = record { runs = runs_refl tasks s; keeps = λ stands sound. sound; raised = λ stands sound before importer slot kept raised. raised }
 
   pub leads_refl : (tasks : List Task) (s : State) → Leads oracle tasks s tasks s
   leads_refl tasks s = record { collects = collects_refl tasks s; expansions = refl; deferred = omega arith; queues = λ rank lie. (lie, queues_alike rank s s (waits_alike refl refl refl)) }
 
   -- a run goes on with another
-  pub collects_trans : {ts us vs : List Task} {s t u : State} → Collects oracle ts s us t → Collects oracle us t vs u → Collects oracle ts s vs u
+  unfoldable pub collects_trans : {ts us vs : List Task} {s t u : State} → Collects oracle ts s us t → Collects oracle us t vs u → Collects oracle ts s vs u
   collects_trans p q = record {
     runs = runs_trans p.runs q.runs;
     keeps = λ stands sound. q.keeps (stands_along (p.runs []).1 stands) (p.keeps stands sound);

@@ -25,7 +25,7 @@ use Rattle.def_rules.specs.declared.diagnostics.DefDiagnosticKind.{DefDiagnostic
 use Rattle.def_rules.specs.Attributes.{AttrUse, PassesOver, ReadsDerives, ReplacesItem, activated, attr_macro, attr_query, attr_use, directive_reported, is_helper, item_site}
 use Rattle.def_rules.specs.Deferred.{deferral, deferred_at, deferred_derive, deferred_expansion, expanding_deferred}
 use Rattle.def_rules.specs.Derives.{derive_call, derive_directive, derive_macro, derive_paths, derived, may_derive}
-use Rattle.def_rules.specs.Directives.{ExpansionStep, GivesCall, GivesDerive, MacroStep, Replaces, Stays, Told, Turn, WalksItem, attr_told, call_answer, call_told, called_state, derive_told, expanding, expansion_of, given_state, item_told, list_told, replaced_state, told, told_by, tried_effect, tries, turn_effect, use_told, walked_state}
+use Rattle.def_rules.specs.Directives.{ExpansionStep, GivesCall, GivesDerive, MacroStep, Replaces, Stays, Turn, WalksItem, attr_told, call_answer, call_told, called_state, derive_told, expanding, expansion_of, given_state, item_told, list_told, replaced_state, told, told_by, tried_effect, tries, turn_effect, use_told, walked_state}
 use Rattle.def_rules.specs.Fallback.{FallbackStep, attr_reported}
 use Rattle.def_rules.specs.Items.{node_at}
 use Rattle.def_rules.specs.Globs.{Targets}

@@ -1,5 +1,5 @@
 -- What waits for macros, by how deep it lies: it ranks lower than the items that queue it.
-use Rattle.std.specs.Prelude.{◌≡◌, ◌⊎◌, ◌<◌, ◌≤◌, ℕ, ◌+◌, ◌-◌, ◌*◌, ◌^◌, cond, nat_lt, List, [], ◌∷◌, ◌++◌, Contains, sum_by}
+use Rattle.std.specs.Prelude.{◌≡◌, ◌⊎◌, ◌<◌, ◌≤◌, ℕ, ◌+◌, ◌-◌, ◌*◌, ◌^◌, cond, nat_lt, List, [], ◌∷◌, ◌++◌, Contains, IsPermutation, sum_by}
 use Rattle.item_tree.specs.declared.ids.FileAstId.{FileAstId}
 use Rattle.item_tree.specs.declared.ids.InFile.{InFile}
 use Rattle.def_ids.specs.declared.ids.ModuleId.{ModuleId}
@@ -7,7 +7,7 @@ use Rattle.def_rules.specs.declared.deferred.DeferredDerive.{DeferredDerive}
 use Rattle.def_rules.specs.Calls.{deepest}
 use Rattle.def_modules.specs.Maps.{facts_in}
 use Rattle.def_modules.specs.MapState.{MapState}
-use Rattle.def_rules.specs.State.{State, Task, Visit, with_map}
+use Rattle.def_rules.specs.State.{State, Task, Visit}
 use Rattle.def_rules.specs.Waiting.{Deferrals, Expansion, MacroDirective, MacroDirectiveKind, FnLike, Attr, Derive}
 use Rattle.def_laws.specs.Work.{weight}
 
@@ -77,10 +77,12 @@ deferred_work deferred = sum_by (λ (e : InFile FileAstId × List DeferredDerive
 abbrev pub waiting_work : State → ℕ
 waiting_work s = sum_by macro_work s.macros + sum_by (λ (e : Expansion). expansion_work e.depth) s.expansions + deferred_work s.deferred
 
--- only calls were recorded, which no path reads
+-- only calls were recorded, which no path reads, and what waits may stand in another order
 pub record OnlyInvokes (s t : State) : Type 0 where
   pub map : MapState
-  pub is : t ≡ with_map s map
+  pub macros : List MacroDirective
+  pub is : t ≡ record s { map = map; macros = macros }
+  pub order : IsPermutation s.macros macros
   pub facts : facts_in map ≡ facts_in s.map
   pub krate : map.krate ≡ s.map.krate
   pub helpers : map.helpers ≡ s.map.helpers

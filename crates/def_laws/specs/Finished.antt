@@ -1,5 +1,5 @@
 -- What is answered at the end.
-use Rattle.std.specs.Prelude.{◌≡◌, false, All, Contains}
+use Rattle.std.specs.Prelude.{◌≡◌, Bool, false, All, Contains}
 use Rattle.item_tree.specs.declared.name.Name.{Name}
 use Rattle.def_map.specs.DefMaps as whole
 use Rattle.def_modules.specs.Locals.{local_view}
@@ -35,10 +35,11 @@ pub record IsAtRest (oracle : Oracle) (end : State) : Type 0 where
   pub macros : AllStay oracle end
   pub attributes : (directive : MacroDirective) → Contains end.macros directive → IsNoAttribute directive.kind
 
--- what is answered of this state: failed names are marked, what is left over is answered, and its imports are reported
-pub record IsFinished (end : State) (answer : Answer) : Type 0 where
+-- what is answered of this state: failed names are marked, what is left over is answered and whether the limit of rounds was met, and the imports left over are reported
+pub record IsFinished (end : State) (limit_met : Bool) (answer : Answer) : Type 0 where
   pub map : NoneFailed end.map → answer.map ≡ marked end.map (unresolved_imports end.imports)
   pub content : answer.content ≡ end.content
   pub local : answer.local ≡ end.local
   pub outcome : IsOutcome end answer.outcome
+  pub limit : answer.outcome.limit_met ≡ limit_met
   pub reported : answer.diagnostics ≡ with_import_reports end

@@ -68,6 +68,8 @@ pub record IsHandled (oracle : Oracle) (s t : State) (site : Site) (item : ItemN
 -- derives of an attribute were tried: each waits, or its expansion does
 pub record Tried (oracle : Oracle) (d : MacroDirective) (derives : List WrittenDerive) (s t : State) : Type 0 where
   pub collects : (rest : List Task) → Collects oracle (tries d derives ++ rest) s rest t
+  pub more : List MacroDirective
+  pub macros : t.macros ≡ s.macros ++ more
   pub work : waiting_work t ≤ waiting_work s + length derives * (2 * weight (depth_rank d.depth))
 
 -- an expansion was walked, or dropped

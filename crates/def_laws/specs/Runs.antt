@@ -1,5 +1,5 @@
 -- Runs from some tasks to others, and what they keep.
-use Rattle.std.specs.Prelude.{◌≡◌, ◌≤◌, ℕ, List}
+use Rattle.std.specs.Prelude.{◌≡◌, ◌≤◌, ℕ, Bool, List, []}
 use Rattle.def_ids.specs.declared.ids.ModuleId.{ModuleId}
 use Rattle.def_bindings.specs.declared.bindings.Slot.{Slot}
 use Rattle.def_oracle.specs.Oracle.{Oracle}
@@ -8,6 +8,8 @@ use Rattle.def_laws.specs.Depths.{AreVisitsBelow, Queues, deferred_work}
 use Rattle.def_laws.specs.Sound.{IsRaisedIn, IsSound, KeepsSound}
 use Rattle.def_laws.specs.Own.{Stands}
 use Rattle.def_rules.specs.Steps.{Reaches, IsKeptAlong}
+use Rattle.def_rules.specs.Rounds.{InRound, IsRound, Rounds}
+use Rattle.def_rules.specs.Waiting.{MacroDirective}
 
 -- a moment with these tasks, this state and these events
 abbrev pub at : List Task → State → List Event → Moment
@@ -34,3 +36,15 @@ pub record Leads (oracle : Oracle) (tasks : List Task) (s : State) (tasks' : Lis
   pub expansions : t.expansions ≡ s.expansions
   pub deferred : deferred_work t.deferred ≤ deferred_work s.deferred
   pub queues : (rank : ℕ) → AreVisitsBelow rank tasks → AreVisitsBelow rank tasks' × Queues rank s t
+
+-- turns of macros in a run: these of its beginning had none yet, and whether one has left
+abbrev pub InTurns : {oracle : Oracle} {s : State} {tasks : List Task} {t : State} → Runs oracle [] s tasks t → List MacroDirective → Bool → Type 0
+InTurns {oracle = oracle} {s = s} {tasks = tasks} {t = t} runs left moved = (before : List Event) → InRound oracle (at [] s before) (at tasks t (runs before).0) (runs before).1 left moved
+
+-- a run is a round
+abbrev pub AreRound : {oracle : Oracle} {s t : State} → Runs oracle [] s [] t → Type 0
+AreRound {oracle = oracle} {s = s} {t = t} runs = (before : List Event) → IsRound oracle (at [] s before) (at [] t (runs before).0) (runs before).1
+
+-- a run holds this many rounds
+abbrev pub HoldRounds : {oracle : Oracle} {tasks : List Task} {s : State} {tasks' : List Task} {t : State} → Runs oracle tasks s tasks' t → ℕ → Type 0
+HoldRounds {oracle = oracle} {tasks = tasks} {s = s} {tasks' = tasks'} {t = t} runs n = (before : List Event) → Rounds oracle (at tasks s before) (at tasks' t (runs before).0) (runs before).1 n

@@ -1,5 +1,5 @@
 -- The headline: what `collect_defs` answers ends a run of the machine.
-use Rattle.std.specs.Prelude.{◌≡◌, []}
+use Rattle.std.specs.Prelude.{◌≡◌, true, false, []}
 use Rattle.def_interner.specs.Session.{Session}
 use Rattle.def_ids.specs.declared.ids.ModuleId.{ModuleId}
 use Rattle.def_bindings.specs.declared.bindings.Slot.{Slot}
@@ -8,6 +8,7 @@ use Rattle.def_globs.specs.Raised.{IsRaisedAt}
 use Rattle.def_rules.specs.Targets.{leaves_out, target_of}
 use Rattle.def_rules.specs.State.{Setting, Moment, order}
 use Rattle.def_rules.specs.Steps.{IsKeptAlong, Reaches}
+use Rattle.def_rules.specs.Rounds.{IsOverLimit}
 use Rattle.def_rules.specs.Start.{start}
 use Rattle.def_rules.specs.Settled.{IsDeclared, WasPut, ExplicitStays, IsSettled, HasEveryNamespace}
 use Rattle.def_rules.specs.Report.{Answer, IsAnswerOf, report}
@@ -26,8 +27,8 @@ pub record IsOnRun (w : Setting) (before : Session) (end a b : Moment) : Type 0 
   pub goes_on : Reaches w.oracle a b
   pub ends : Reaches w.oracle b end
 
--- What is answered ends a run in which every reached item is handled, is closed, coherent and raised along the recorded globs, and has no import left over that resolves
--- and no macro left over that gives a call; its diagnostics are the run's and those of the leftovers.
+-- What is answered ends a run in which every reached item is handled, is closed, coherent and raised along the recorded globs, and, where the limit of rounds was not met,
+-- has no import left over that resolves and no macro left over that gives a call; its diagnostics are the run's and those of the leftovers.
 pub record Answers (w : Setting) (before after : Session) (answer : Answer) : Type 0 where
   pub run : Run w before
   pub session : run.end.state.session ≡ after
@@ -45,7 +46,9 @@ pub record Answers (w : Setting) (before after : Session) (answer : Answer) : Ty
   pub was_put : WasPut run.end.events run.end.state.content
   -- no explicit binding is ever replaced
   pub explicit_stays : (a b : Moment) → IsOnRun w before run.end a b → ExplicitStays a b
-  pub settled : IsSettled w.oracle run.end.state
+  -- the limit was met only where the run holds more rounds than that
+  pub limit : answer.outcome.limit_met ≡ true → IsOverLimit w.oracle (start w before) run.end run.runs
+  pub settled : answer.outcome.limit_met ≡ false → IsSettled w.oracle run.end.state
   -- each namespace of each recorded import is bound
-  pub every_namespace : HasEveryNamespace w.oracle run.end
+  pub every_namespace : answer.outcome.limit_met ≡ false → HasEveryNamespace w.oracle run.end
   pub reported : answer.diagnostics ≡ report w.oracle run.end.state

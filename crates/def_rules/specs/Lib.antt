@@ -15,6 +15,7 @@ pub mod Rules
 pub mod Imports
 pub mod Recording
 pub mod Fallback
+pub mod Rounds
 pub mod Globs
 pub mod Targets
 pub mod Crates

@@ -103,7 +103,6 @@ pub record IsOutcome (end : State) (outcome : Outcome) : Type 0 where
   pub macros : outcome.macros.items ≡ map left_macro end.macros
   pub edges : AreEdges end.content outcome.edges.items
   pub targets : AreTargets end.targets (map shown_targets outcome.targets.items)
-  pub limit : outcome.limit_met ≡ false
 
 -- an import that is left over is reported
 abbrev pub unresolved : Import → DefDiagnostic

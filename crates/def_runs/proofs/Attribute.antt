@@ -1,5 +1,5 @@
 -- `macro_rules! foo {} #[foo] struct T;`, where foo may be called by attributes and gives `struct S;`: T waits, and is not declared; once all is walked foo is called, and S declared in its place.
-use Rattle.std.proofs.Common.{◌≡◌, ℕ, zero, true, Option, Some, None, [], ◌∷◌, Contains, refl, subst, map, lit<}
+use Rattle.std.proofs.Common.{◌≡◌, ℕ, zero, true, Option, Some, None, [], ◌∷◌, Contains, refl, subst, map, lit<, false}
 use Rattle.item_tree.specs.declared.attrs.AttrsOrCfg.TheVariants.{Enabled}
 use Rattle.item_tree.specs.declared.ids.HirFileId.{HirFileId}
 use Rattle.item_tree.specs.declared.ids.HirFileId.TheVariants.{File, Macro as MacroFile}
@@ -127,14 +127,14 @@ ran : Reaches setting.oracle (start setting no_session) last
 ran = join walked.1 (join asked.1 expanded.1)
 
 shown : IsOutcome last.state nothing_left
-shown = record { imports = refl; macros = refl; edges = λ source. refl; targets = no_targets; limit = refl }
+shown = record { imports = refl; macros = refl; edges = λ source. refl; targets = no_targets }
 
 abbrev answered : Answer
 answered = answer_of setting.oracle last.state nothing_left
 
 -- what is answered of this crate
 attribute_answers : Answers setting no_session session answered
-attribute_answers = answers_without setting no_session last nothing_left ran refl refl refl refl shown (λ source. refl) refl
+attribute_answers = answers_without setting no_session last nothing_left ran refl refl refl refl refl shown (λ source. refl) refl
 
 -- S is bound, and T is not
 s_is_bound : (answered.content.binding (module_at 0) s Types ≡ Some (declared 0)) × (answered.content.binding (module_at 0) s Values ≡ Some (declared 0))
@@ -154,9 +154,9 @@ nothing_is_reported : answered.diagnostics ≡ []
 nothing_is_reported = refl
 
 -- stopping where T still waits is no answer
-stopping_at_the_walk_is_no_answer : (after : Session) (answer : Answer) (answers : Answers setting no_session after answer) → answers.run.end ≡ walked_to → ⊥
-stopping_at_the_walk_is_no_answer after answer answers early =
+stopping_at_the_walk_is_no_answer : (after : Session) (answer : Answer) (answers : Answers setting no_session after answer) → answer.outcome.limit_met ≡ false → answers.run.end ≡ walked_to → ⊥
+stopping_at_the_walk_is_no_answer after answer answers unmet early =
     let at_end : (told setting.oracle walked_to.state waiting).turn ≡ Stays =
     subst (λ (m : Moment). Contains m.state.macros waiting → (told setting.oracle m.state waiting).turn ≡ Stays) early
-    (λ left. answers.settled.macros.stay waiting left) (0, lit< tt, refl) in
+    (λ left. (answers.settled unmet).macros.stay waiting left) (0, lit< tt, refl) in
     cc

@@ -121,14 +121,14 @@ idle : last.tasks ≡ []
 idle = refl
 
 shown : IsOutcome last.state nothing_left
-shown = record { imports = refl; macros = refl; edges = λ source. refl; targets = no_targets; limit = refl }
+shown = record { imports = refl; macros = refl; edges = λ source. refl; targets = no_targets }
 
 abbrev pub answered : Answer
 answered = answer_of setting.oracle last.state nothing_left
 
 -- what is answered of this crate
 called_answers : Answers setting no_session session answered
-called_answers = answers_without setting no_session last nothing_left walked.1 refl refl refl refl shown (λ source. refl) refl
+called_answers = answers_without setting no_session last nothing_left walked.1 refl refl refl refl refl shown (λ source. refl) refl
 
 -- struct 0, of the root, as its expansion says
 abbrev pub declared : ℕ → Binding Visibility

@@ -196,7 +196,7 @@ outcome =
     }
 
 shown : IsOutcome last.state outcome
-shown = record { imports = refl; macros = refl; edges = edges_listed leaving refl; targets = targets_listed ((glob 1, ModuleDef (module_at 1) ∷ []) ∷ (glob 0, ModuleDef (module_at 2) ∷ []) ∷ []) refl; limit = refl }
+shown = record { imports = refl; macros = refl; edges = edges_listed leaving refl; targets = targets_listed ((glob 1, ModuleDef (module_at 1) ∷ []) ∷ (glob 0, ModuleDef (module_at 2) ∷ []) ∷ []) refl }
 
 -- `edge 1 2 pub 1.0` and `edge 2 1 pub 0.0`
 both_edges : listed leaving ≡ listed_edge (module_at 1) (edge 2 1) ∷ listed_edge (module_at 2) (edge 1 0) ∷ []
@@ -208,7 +208,7 @@ answered = answer_of setting.oracle last.state outcome
 -- what is answered of this crate
 cycle_answers : Answers setting no_session session answered
 cycle_answers =
-    answers setting no_session last outcome ran refl refl refl refl shown
+    answers setting no_session last outcome ran refl refl refl refl refl shown
     (closed_by_test rows leaving last.state.content is_table (order last.state) (leaves_out last.state) refl)
     (coherent_by_test rows leaving last.state.content is_table (order last.state) (leaves_out last.state) (target_of last.state.map.id last.state.targets) refl)
     (raised_by_test rows leaving last.state.content is_table (order last.state) refl)

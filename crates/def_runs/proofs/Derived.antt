@@ -1,5 +1,5 @@
 -- `#[rustc_builtin_macro] macro derive {} macro_rules! foo {} #[derive(foo)] struct T;`, where foo may be called by derives: T waits; once all is walked foo is called by the list, T declared, and the call's expansion walked.
-use Rattle.std.proofs.Common.{◌≡◌, ℕ, zero, true, Option, Some, None, [], ◌∷◌, Contains, refl, subst, map, lit<}
+use Rattle.std.proofs.Common.{◌≡◌, ℕ, zero, Option, Some, None, [], ◌∷◌, Contains, refl, subst, map, lit<, false}
 use Rattle.either.specs.declared.Either.TheVariants.{Left}
 use Rattle.item_tree.specs.declared.attrs.Attr.{Attr as AttrNode}
 use Rattle.item_tree.specs.declared.attrs.AttrsOrCfg.TheVariants.{Enabled}
@@ -160,14 +160,14 @@ ran : Reaches setting.oracle (start setting no_session) last
 ran = join walked.1 (join asked.1 (join tried.1 expanded.1))
 
 shown : IsOutcome last.state nothing_left
-shown = record { imports = refl; macros = refl; edges = λ source. refl; targets = no_targets; limit = refl }
+shown = record { imports = refl; macros = refl; edges = λ source. refl; targets = no_targets }
 
 abbrev answered : Answer
 answered = answer_of setting.oracle last.state nothing_left
 
 -- what is answered of this crate
 derived_answers : Answers setting no_session session answered
-derived_answers = answers_without setting no_session last nothing_left ran refl refl refl refl shown (λ source. refl) refl
+derived_answers = answers_without setting no_session last nothing_left ran refl refl refl refl refl shown (λ source. refl) refl
 
 -- both names are bound, and nothing else is
 names_of_root : answered.content.names (module_at 0) ≡ derive ∷ t ∷ []
@@ -181,9 +181,9 @@ nothing_is_reported : answered.diagnostics ≡ []
 nothing_is_reported = refl
 
 -- stopping where T still waits is no answer
-stopping_at_the_walk_is_no_answer : (after : Session) (answer : Answer) (answers : Answers setting no_session after answer) → answers.run.end ≡ walked_to → ⊥
-stopping_at_the_walk_is_no_answer after answer answers early =
+stopping_at_the_walk_is_no_answer : (after : Session) (answer : Answer) (answers : Answers setting no_session after answer) → answer.outcome.limit_met ≡ false → answers.run.end ≡ walked_to → ⊥
+stopping_at_the_walk_is_no_answer after answer answers unmet early =
     let at_end : (told setting.oracle walked_to.state waiting).turn ≡ Stays =
     subst (λ (m : Moment). Contains m.state.macros waiting → (told setting.oracle m.state waiting).turn ≡ Stays) early
-    (λ left. answers.settled.macros.stay waiting left) (0, lit< tt, refl) in
+    (λ left. (answers.settled unmet).macros.stay waiting left) (0, lit< tt, refl) in
     cc

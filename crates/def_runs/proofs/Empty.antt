@@ -33,14 +33,14 @@ done : last.tasks ≡ []
 done = refl
 
 shown : IsOutcome last.state nothing_left
-shown = record { imports = refl; macros = refl; edges = λ source. refl; targets = no_targets; limit = refl }
+shown = record { imports = refl; macros = refl; edges = λ source. refl; targets = no_targets }
 
 abbrev pub answered : Answer
 answered = answer_of setting.oracle last.state nothing_left
 
 -- what is answered of a crate without items
 empty_answers : Answers setting no_session no_session answered
-empty_answers = answers_without setting no_session last nothing_left ran.1 refl refl refl refl shown (λ source. refl) refl
+empty_answers = answers_without setting no_session last nothing_left ran.1 refl refl refl refl refl shown (λ source. refl) refl
 
 -- it is one module, the crate's root, with nothing in it
 one_module : answered.map.modules ≡ empty_module None CrateRoot Public ∷ []

@@ -1,5 +1,5 @@
 -- A crate without items has no other answer: whatever run is taken, one module is answered in which nothing is bound, and nothing is reported.
-use Rattle.std.proofs.Common.{◌≡◌, ◌⊎◌, inl, inr, flat_map, [], ◌∷◌, ◌++◌, None, slice_get, refl, sym, subst, ap, ◌∙◌}
+use Rattle.std.proofs.Common.{◌≡◌, ◌⊎◌, true, inl, inr, flat_map, [], ◌∷◌, ◌++◌, None, slice_get, refl, sym, subst, ap, ◌∙◌}
 use Rattle.def_interner.specs.Session.{Session}
 use Rattle.def_bindings.specs.declared.visibility.Visibility.{Visibility}
 use Rattle.def_bindings.specs.declared.visibility.Visibility.TheVariants.{Public}
@@ -15,6 +15,7 @@ use Rattle.def_rules.specs.Start.{first_site, start}
 use Rattle.def_rules.specs.State.{Site, State, Effect, Enter, Moment, after, entered, only}
 use Rattle.def_rules.specs.Steps.{Does, Step, performs, asks, copies, expands, rearranges, records, falls_back, reorders}
 use Rattle.def_runs.proofs.Empty.{setting}
+use Rattle.def_runs.proofs.NoRounds.{not_over_the_limit}
 use Rattle.def_runs.proofs.RowLemmas.{NoneWaits, none_asked, none_given_up, none_recorded, none_taken, none_waits_rearranged, none_waits_reordered}
 use Rattle.def_runs.proofs.Rows.{no_session}
 
@@ -89,3 +90,7 @@ module _ (after : Session) (answer : Answer) (answers : Answers setting no_sessi
   it_is_one_module : answer.map.modules ≡ empty_module None CrateRoot Public ∷ []
   it_is_one_module =
       ap (λ (m : MapState). m.modules) (answers.answered.map ∙ (ap (λ ps. marked answers.run.end.state.map (unresolved_imports ps)) ends.waits.0 ∙ ap (λ m. marked m []) ends.map))
+
+  -- nor does it meet the limit of rounds
+  the_limit_is_not_met : answer.outcome.limit_met ≡ true → ⊥
+  the_limit_is_not_met met = not_over_the_limit {oracle = setting.oracle} IsBareAt (λ m bare. bare.state.waits.1) bare_step begins (answers.limit met)

@@ -43,42 +43,42 @@ an_end_has_no_task : (w : Setting) (before : Session) (run : Run w before) (task
 an_end_has_no_task w before run task rest left = let none = run.done in cc
 
 -- no answer leaves an import over that resolves, nor an indeterminate one that resolves to more
-no_import_is_left_that_resolves : (w : Setting) (before after : Session) (answer : Answer) (answers : Answers w before after answer) (directive : ImportDirective)
+no_import_is_left_that_resolves : (w : Setting) (before after : Session) (answer : Answer) (answers : Answers w before after answer) (unmet : answer.outcome.limit_met ≡ false) (directive : ImportDirective)
     → Contains answers.run.end.state.imports directive → is_ready directive.recorded (answer_now w.oracle answers.run.end.state directive.import) ≡ true → ⊥
-no_import_is_left_that_resolves w before after answer answers directive left ready = let not_ready = answers.settled.imports.none directive left in cc
+no_import_is_left_that_resolves w before after answer answers unmet directive left ready = let not_ready = (answers.settled unmet).imports.none directive left in cc
 
 -- and where an answer ends no import could still be recorded
-nothing_is_recorded_at_an_end : (w : Setting) (before after : Session) (answer : Answer) (answers : Answers w before after answer) (effect : Effect) → ImportStep w.oracle answers.run.end.state effect → ⊥
-nothing_is_recorded_at_an_end w before after answer answers effect = none_recorded_unready w.oracle answers.run.end.state effect answers.settled.imports
+nothing_is_recorded_at_an_end : (w : Setting) (before after : Session) (answer : Answer) (answers : Answers w before after answer) → answer.outcome.limit_met ≡ false → (effect : Effect) → ImportStep w.oracle answers.run.end.state effect → ⊥
+nothing_is_recorded_at_an_end w before after answer answers unmet effect = none_recorded_unready w.oracle answers.run.end.state effect (answers.settled unmet).imports
 
 -- so no answer ends `mod a { pub struct S; } use a::S; use a::T;` where both imports still wait: `a::S` resolves
-both_left_is_no_answer : (after : Session) (answer : Answer) (answers : Answers plain.setting no_session after answer) → answers.run.end ≡ plain.walked_to → ⊥
-both_left_is_no_answer after answer answers early =
+both_left_is_no_answer : (after : Session) (answer : Answer) (answers : Answers plain.setting no_session after answer) → answer.outcome.limit_met ≡ false → answers.run.end ≡ plain.walked_to → ⊥
+both_left_is_no_answer after answer answers unmet early =
     let waits : ImportDirective = not_recorded (plain.waiting 2 0 plain.S) in
     let at_end : is_ready no_namespaces (answer_now plain.setting.oracle plain.walked_to.state (plain.waiting 2 0 plain.S)) ≡ false =
     subst (λ (m : Moment). Contains m.state.imports waits → is_ready no_namespaces (answer_now plain.setting.oracle m.state (plain.waiting 2 0 plain.S)) ≡ false) early
-    (λ left. answers.settled.imports.none waits left) (0, lit< tt, refl) in
+    (λ left. (answers.settled unmet).imports.none waits left) (0, lit< tt, refl) in
     cc
 
 -- no answer leaves a macro over that is given a call
-no_macro_is_left_that_is_given_a_call : (w : Setting) (before after : Session) (answer : Answer) (answers : Answers w before after answer) (directive : MacroDirective) (call : MacroCallId)
+no_macro_is_left_that_is_given_a_call : (w : Setting) (before after : Session) (answer : Answer) (answers : Answers w before after answer) (unmet : answer.outcome.limit_met ≡ false) (directive : MacroDirective) (call : MacroCallId)
     → Contains answers.run.end.state.macros directive → (told w.oracle answers.run.end.state directive).turn ≡ GivesCall call → ⊥
-no_macro_is_left_that_is_given_a_call w before after answer answers directive call left given = let stays = answers.settled.macros.stay directive left in cc
+no_macro_is_left_that_is_given_a_call w before after answer answers unmet directive call left given = let stays = (answers.settled unmet).macros.stay directive left in cc
 
 -- nor a derive over whose macro is found
-no_derive_is_left_that_is_given_a_call : (w : Setting) (before after : Session) (answer : Answer) (answers : Answers w before after answer) (directive : MacroDirective) (call : MacroCallId)
+no_derive_is_left_that_is_given_a_call : (w : Setting) (before after : Session) (answer : Answer) (answers : Answers w before after answer) (unmet : answer.outcome.limit_met ≡ false) (directive : MacroDirective) (call : MacroCallId)
     → Contains answers.run.end.state.macros directive → (told w.oracle answers.run.end.state directive).turn ≡ GivesDerive call → ⊥
-no_derive_is_left_that_is_given_a_call w before after answer answers directive call left given = let stays = answers.settled.macros.stay directive left in cc
+no_derive_is_left_that_is_given_a_call w before after answer answers unmet directive call left given = let stays = (answers.settled unmet).macros.stay directive left in cc
 
 -- nor an item over that is walked without an attribute
-no_item_is_left_that_is_walked : (w : Setting) (before after : Session) (answer : Answer) (answers : Answers w before after answer) (directive : MacroDirective) (derives : List WrittenDerive) (written : WrittenAttr)
+no_item_is_left_that_is_walked : (w : Setting) (before after : Session) (answer : Answer) (answers : Answers w before after answer) (unmet : answer.outcome.limit_met ≡ false) (directive : MacroDirective) (derives : List WrittenDerive) (written : WrittenAttr)
     → Contains answers.run.end.state.macros directive → (told w.oracle answers.run.end.state directive).turn ≡ WalksItem derives written → ⊥
-no_item_is_left_that_is_walked w before after answer answers directive derives written left walks = let stays = answers.settled.macros.stay directive left in cc
+no_item_is_left_that_is_walked w before after answer answers unmet directive derives written left walks = let stays = (answers.settled unmet).macros.stay directive left in cc
 
 -- nor a derive that is still deferred
-no_derive_is_left_deferred : (w : Setting) (before after : Session) (answer : Answer) (answers : Answers w before after answer) (position : InFile FileAstId) (derives : List DeferredDerive) (others : Deferrals)
+no_derive_is_left_deferred : (w : Setting) (before after : Session) (answer : Answer) (answers : Answers w before after answer) (unmet : answer.outcome.limit_met ≡ false) (position : InFile FileAstId) (derives : List DeferredDerive) (others : Deferrals)
     → answers.run.end.state.deferred ≡ (position, derives) ∷ others → ⊥
-no_derive_is_left_deferred w before after answer answers position derives others left = let none = answers.settled.deferred in cc
+no_derive_is_left_deferred w before after answer answers unmet position derives others left = let none = (answers.settled unmet).deferred in cc
 
 -- nor an expansion that is still to be walked or dropped
 no_expansion_is_left : (w : Setting) (before after : Session) (answer : Answer) (answers : Answers w before after answer) (effect : Effect) → ExpansionStep w.oracle answers.run.end.state effect → ⊥

@@ -102,14 +102,14 @@ three_left =
     }
 
 shown : IsOutcome last.state three_left
-shown = record { imports = refl; macros = refl; edges = λ source. refl; targets = no_targets; limit = refl }
+shown = record { imports = refl; macros = refl; edges = λ source. refl; targets = no_targets }
 
 abbrev answered : Answer
 answered = answer_of setting.oracle last.state three_left
 
 -- what is answered of this crate
 excused_answers : Answers setting no_session session answered
-excused_answers = answers_without setting no_session last three_left walked.1 refl refl refl refl shown (λ source. refl) refl
+excused_answers = answers_without setting no_session last three_left walked.1 refl refl refl refl refl shown (λ source. refl) refl
 
 nothing_is_bound : answered.content ≡ empty
 nothing_is_bound = refl

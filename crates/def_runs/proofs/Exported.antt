@@ -77,14 +77,14 @@ abbrev last : Moment
 last = run.0
 
 shown : IsOutcome last.state nothing_left
-shown = record { imports = refl; macros = refl; edges = λ source. refl; targets = no_targets; limit = refl }
+shown = record { imports = refl; macros = refl; edges = λ source. refl; targets = no_targets }
 
 abbrev answered : Answer
 answered = answer_of setting.oracle last.state nothing_left
 
 -- what is answered of this crate
 exported_answers : Answers setting no_session session answered
-exported_answers = answers_without setting no_session last nothing_left run.1 refl refl refl refl shown (λ source. refl) refl
+exported_answers = answers_without setting no_session last nothing_left run.1 refl refl refl refl refl shown (λ source. refl) refl
 
 -- macro 0 by rules, public, by declaration
 abbrev held : Binding Visibility

@@ -1,5 +1,5 @@
 -- `#[foo] struct S;` without a macro: S waits, and is not declared; once nothing else moves it is given up, foo is reported, and S declared.
-use Rattle.std.proofs.Common.{◌≡◌, Option, Some, [], ◌∷◌, Contains, refl, subst, lit<}
+use Rattle.std.proofs.Common.{◌≡◌, Some, [], ◌∷◌, Contains, refl, subst, lit<, false}
 use Rattle.item_tree.specs.declared.attrs.AttrsOrCfg.TheVariants.{Enabled}
 use Rattle.item_tree.specs.declared.items.ItemNode.{ItemNode}
 use Rattle.item_tree.specs.declared.tree.ItemTree.{ItemTree}
@@ -17,7 +17,7 @@ use Rattle.def_rules.specs.Steps.{Reaches, falls_back, join, one, performs}
 use Rattle.def_runs.proofs.Called.{declared, foo, s}
 use Rattle.def_runs.proofs.Exported.{marked_with}
 use Rattle.def_runs.proofs.RowLemmas.{answer_of, answers_without, no_targets, stuck_without}
-use Rattle.def_runs.proofs.Rows.{crate_of, knowing, module_at, no_session, position, session_with, unchanged}
+use Rattle.def_runs.proofs.Rows.{crate_of, module_at, no_session, position, session_with, unchanged}
 use Rattle.def_runs.proofs.Trees.{items, node, root_file, tree_with, unit_struct}
 use Rattle.def_runs.proofs.Vectors.{nothing_left}
 use Rattle.def_runs.proofs.OneStruct.{numbers}
@@ -84,14 +84,14 @@ ran : Reaches setting.oracle (start setting no_session) last
 ran = join walked.1 given_up.1
 
 shown : IsOutcome last.state nothing_left
-shown = record { imports = refl; macros = refl; edges = λ source. refl; targets = no_targets; limit = refl }
+shown = record { imports = refl; macros = refl; edges = λ source. refl; targets = no_targets }
 
 abbrev answered : Answer
 answered = answer_of setting.oracle last.state nothing_left
 
 -- what is answered of this crate
 given_up_answers : Answers setting no_session session answered
-given_up_answers = answers_without setting no_session last nothing_left ran refl refl refl refl shown (λ source. refl) refl
+given_up_answers = answers_without setting no_session last nothing_left ran refl refl refl refl refl shown (λ source. refl) refl
 
 -- S is bound, and its attribute reported
 s_is_bound : (answered.content.binding (module_at 0) s Types ≡ Some (declared 0)) × (answered.content.binding (module_at 0) s Values ≡ Some (declared 0))
@@ -104,6 +104,6 @@ it_is_reported : answered.diagnostics ≡ attr_diagnostic waiting written ∷ []
 it_is_reported = refl
 
 -- stopping where S still waits is no answer
-stopping_at_the_walk_is_no_answer : (after : Session) (answer : Answer) (answers : Answers setting no_session after answer) → answers.run.end ≡ walked_to → ⊥
-stopping_at_the_walk_is_no_answer after answer answers early =
-    subst (λ (m : Moment). (d : MacroDirective) → Contains m.state.macros d → IsNoAttribute d.kind) early answers.settled.attributes waiting (0, lit< tt, refl)
+stopping_at_the_walk_is_no_answer : (after : Session) (answer : Answer) (answers : Answers setting no_session after answer) → answer.outcome.limit_met ≡ false → answers.run.end ≡ walked_to → ⊥
+stopping_at_the_walk_is_no_answer after answer answers unmet early =
+    subst (λ (m : Moment). (d : MacroDirective) → Contains m.state.macros d → IsNoAttribute d.kind) early (answers.settled unmet).attributes waiting (0, lit< tt, refl)

@@ -111,14 +111,14 @@ ran : Reaches setting.oracle (start setting no_session) last
 ran = join inside.1 (join walked.1 recorded.1)
 
 shown : IsOutcome last.state nothing_left
-shown = record { imports = refl; macros = refl; edges = λ source. refl; targets = no_targets; limit = refl }
+shown = record { imports = refl; macros = refl; edges = λ source. refl; targets = no_targets }
 
 abbrev answered : Answer
 answered = answer_of setting.oracle last.state nothing_left
 
 -- what is answered of this crate
 handed_on_answers : Answers setting no_session session answered
-handed_on_answers = answers_without setting no_session last nothing_left ran refl refl refl refl shown (λ source. refl) refl
+handed_on_answers = answers_without setting no_session last nothing_left ran refl refl refl refl refl shown (λ source. refl) refl
 
 -- both modules have the macro, and neither binds its name
 in_both : (textual_at answered.map 0 foo ≡ the_macro ∷ []) × (textual_at answered.map 1 foo ≡ the_macro ∷ [])

@@ -24,3 +24,4 @@ pub mod Attribute
 pub mod Derived
 pub mod Unresolved
 pub mod GivenUp
+pub mod NoRounds

@@ -49,14 +49,14 @@ abbrev pub last : Moment
 last = ran.0
 
 shown : IsOutcome last.state nothing_left
-shown = record { imports = refl; macros = refl; edges = λ source. refl; targets = no_targets; limit = refl }
+shown = record { imports = refl; macros = refl; edges = λ source. refl; targets = no_targets }
 
 abbrev pub answered : Answer
 answered = answer_of setting.oracle last.state nothing_left
 
 -- what is answered of this crate
 one_struct_answers : Answers setting no_session session answered
-one_struct_answers = answers_without setting no_session last nothing_left ran.1 refl refl refl refl shown (λ source. refl) refl
+one_struct_answers = answers_without setting no_session last nothing_left ran.1 refl refl refl refl refl shown (λ source. refl) refl
 
 -- struct 0, public, by declaration
 abbrev pub held : Binding Visibility

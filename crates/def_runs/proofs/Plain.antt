@@ -128,14 +128,14 @@ abbrev pub one_left : Outcome
 one_left = record { limit_met = false; imports = vec_of (left ∷ []) (lit< tt); macros = vec_of [] (lit< tt); edges = vec_of [] (lit< tt); targets = vec_of [] (lit< tt) }
 
 shown : IsOutcome last.state one_left
-shown = record { imports = refl; macros = refl; edges = λ source. refl; targets = no_targets; limit = refl }
+shown = record { imports = refl; macros = refl; edges = λ source. refl; targets = no_targets }
 
 abbrev pub answered : Answer
 answered = answer_of setting.oracle last.state one_left
 
 -- what is answered of this crate
 plain_answers : Answers setting no_session session answered
-plain_answers = answers_without setting no_session last one_left ran refl refl refl refl shown (λ source. refl) refl
+plain_answers = answers_without setting no_session last one_left ran refl refl refl refl refl shown (λ source. refl) refl
 
 -- module 1 is `a`, in the root
 two_modules : map (λ m. m.name) answered.map.modules ≡ None ∷ Some a ∷ []

@@ -142,7 +142,7 @@ outcome =
     }
 
 shown : IsOutcome last.state outcome
-shown = record { imports = refl; macros = refl; edges = edges_listed leaving refl; targets = targets_listed ((glob, ModuleDef (module_at 1) ∷ []) ∷ []) refl; limit = refl }
+shown = record { imports = refl; macros = refl; edges = edges_listed leaving refl; targets = targets_listed ((glob, ModuleDef (module_at 1) ∷ []) ∷ []) refl }
 
 abbrev answered : Answer
 answered = answer_of setting.oracle last.state outcome
@@ -150,7 +150,7 @@ answered = answer_of setting.oracle last.state outcome
 -- what is answered of this crate
 private_answers : Answers setting no_session session answered
 private_answers =
-    answers setting no_session last outcome ran refl refl refl refl shown
+    answers setting no_session last outcome ran refl refl refl refl refl shown
     (closed_by_test rows leaving last.state.content is_table (order last.state) (leaves_out last.state) refl)
     (coherent_by_test rows leaving last.state.content is_table (order last.state) (leaves_out last.state) (target_of last.state.map.id last.state.targets) refl)
     (raised_by_test rows leaving last.state.content is_table (order last.state) refl)

@@ -213,7 +213,7 @@ outcome =
     }
 
 shown : IsOutcome last.state outcome
-shown = record { imports = refl; macros = refl; edges = edges_listed leaving refl; targets = targets_listed ((glob 2, ModuleDef (module_at 1) ∷ []) ∷ (glob 1, ModuleDef (module_at 3) ∷ []) ∷ (glob 0, ModuleDef (module_at 2) ∷ []) ∷ []) refl; limit = refl }
+shown = record { imports = refl; macros = refl; edges = edges_listed leaving refl; targets = targets_listed ((glob 2, ModuleDef (module_at 1) ∷ []) ∷ (glob 1, ModuleDef (module_at 3) ∷ []) ∷ (glob 0, ModuleDef (module_at 2) ∷ []) ∷ []) refl }
 
 abbrev answered : Answer
 answered = answer_of setting.oracle last.state outcome
@@ -221,7 +221,7 @@ answered = answer_of setting.oracle last.state outcome
 -- what is answered of this crate
 ring_answers : Answers setting no_session session answered
 ring_answers =
-    answers setting no_session last outcome ran refl refl refl refl shown
+    answers setting no_session last outcome ran refl refl refl refl refl shown
     (closed_by_test rows leaving last.state.content is_table (order last.state) (leaves_out last.state) refl)
     (coherent_by_test rows leaving last.state.content is_table (order last.state) (leaves_out last.state) (target_of last.state.map.id last.state.targets) refl)
     (raised_by_test rows leaving last.state.content is_table (order last.state) refl)

@@ -1,5 +1,5 @@
 -- What rows share of their answers: what follows of each run is cited, and only what is special of a row is left to it.
-use Rattle.std.proofs.Common.{◌&&◌, ◌≡◌, ℕ, List, [], ◌∷◌, ◌++◌, true, false, Some, None, slice_get, refl, sym, subst, ap, ◌∙◌, IsPermutation, Contains, Bool, not, inl, inr}
+use Rattle.std.proofs.Common.{◌&&◌, ◌≡◌, ℕ, List, [], ◌∷◌, ◌++◌, true, false, Some, None, slice_get, refl, sym, subst, ap, ◌∙◌, IsPermutation, Contains, Bool, not, inl, inr, true≢false}
 use Rattle.std.proofs.lemmas.List.Sorted.{Contains-permutation, IsPermutation-sym}
 use Rattle.std.proofs.lemmas.Bool.{and_parts}
 use Rattle.std.specs.List.{IsDistinct, list_all}
@@ -214,12 +214,12 @@ answer_of oracle end outcome =
 -- the answer of a run's end is right where names are closed, coherent and raised at the end, no expansion is left, no import is ready and no macro is given a call
 pub answers : (w : Setting) (before : Session) (end : Moment) (outcome : Outcome) → Reaches w.oracle (start w before) end → end.tasks ≡ [] → end.state.expansions ≡ []
     → none_is_ready w.oracle end.state ≡ true → each_stays w.oracle end.state ≡ true
-    → IsOutcome end.state outcome
+    → outcome.limit_met ≡ false → IsOutcome end.state outcome
     → IsClosed (order end.state) (leaves_out end.state) end.state.content
     → IsCoherent (order end.state) (leaves_out end.state) (target_of end.state.map.id end.state.targets) end.state.content
     → ((importer : ModuleId) (slot : Slot) → IsRaisedAt (order end.state) end.state.content importer slot)
     → Answers w before end.state.session (answer_of w.oracle end.state outcome)
-answers w before end outcome runs done expanded ready given shown closed coherent raised =
+answers w before end outcome runs done expanded ready given unmet shown closed coherent raised =
     let settled = settled_by_test w.oracle end.state ready in
     record {
       run = record { end = end; runs = runs; done = done; expanded = expanded };
@@ -231,8 +231,9 @@ answers w before end outcome runs done expanded ready given shown closed coheren
       declared = declared_along runs refl refl;
       was_put = was_put_along runs refl refl;
       explicit_stays = λ a b run. explicit_stays_along run.goes_on;
-      settled = settled_by_tests w before end runs done ready given;
-      every_namespace = every_namespace_along runs refl refl done settled;
+      limit = λ met. absurd (true≢false (sym met ∙ unmet));
+      settled = λ unmet. settled_by_tests w before end runs done ready given;
+      every_namespace = λ unmet. every_namespace_along runs refl refl done settled;
       reported = refl;
     }
 
@@ -262,10 +263,10 @@ stuck_without oracle s bare ready stay none = record {
 -- so the answer of a run in which no glob was recorded is right where no expansion is left, no import is ready and no macro is given a call
 pub answers_without : (w : Setting) (before : Session) (end : Moment) (outcome : Outcome) → Reaches w.oracle (start w before) end → end.tasks ≡ [] → end.state.expansions ≡ []
     → none_is_ready w.oracle end.state ≡ true → each_stays w.oracle end.state ≡ true
-    → IsOutcome end.state outcome → NoEdge end.state.content → end.state.targets ≡ (λ glob. None)
+    → outcome.limit_met ≡ false → IsOutcome end.state outcome → NoEdge end.state.content → end.state.targets ≡ (λ glob. None)
     → Answers w before end.state.session (answer_of w.oracle end.state outcome)
-answers_without w before end outcome runs done expanded ready given shown none no_target =
-    answers w before end outcome runs done expanded ready given shown
+answers_without w before end outcome runs done expanded ready given unmet shown none no_target =
+    answers w before end outcome runs done expanded ready given unmet shown
     (closed_without (order end.state) (leaves_out end.state) end.state.content none)
     (coherent_without (order end.state) (leaves_out end.state) end.state.content end.state no_target)
     (raised_without (order end.state) end.state.content none)

@@ -136,14 +136,14 @@ settled : NoneReady setting.oracle last.state
 settled = settled_by_test setting.oracle last.state refl
 
 shown : IsOutcome last.state nothing_left
-shown = record { imports = refl; macros = refl; edges = λ source. refl; targets = no_targets; limit = refl }
+shown = record { imports = refl; macros = refl; edges = λ source. refl; targets = no_targets }
 
 abbrev pub answered : Answer
 answered = answer_of setting.oracle last.state nothing_left
 
 -- what is answered of this crate
 textual_answers : Answers setting no_session session answered
-textual_answers = answers_without setting no_session last nothing_left ran refl refl refl refl shown (λ source. refl) refl
+textual_answers = answers_without setting no_session last nothing_left ran refl refl refl refl refl shown (λ source. refl) refl
 
 -- macro 0 by rules
 abbrev pub the_macro : MacroId

@@ -76,14 +76,14 @@ abbrev pub one_left : Outcome
 one_left = record nothing_left { macros = vec_of (left ∷ []) (lit< tt) }
 
 shown : IsOutcome last.state one_left
-shown = record { imports = refl; macros = refl; edges = λ source. refl; targets = no_targets; limit = refl }
+shown = record { imports = refl; macros = refl; edges = λ source. refl; targets = no_targets }
 
 abbrev pub answered : Answer
 answered = answer_of setting.oracle last.state one_left
 
 -- what is answered of this crate
 unresolved_answers : Answers setting no_session no_session answered
-unresolved_answers = answers_without setting no_session last one_left ran refl refl refl refl shown (λ source. refl) refl
+unresolved_answers = answers_without setting no_session last one_left ran refl refl refl refl refl shown (λ source. refl) refl
 
 -- the call is left over, and nothing else
 left_over : (answered.outcome.macros.items ≡ left ∷ []) × (answered.outcome.imports.items ≡ [])

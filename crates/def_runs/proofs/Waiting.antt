@@ -109,14 +109,14 @@ ran : Reaches setting.oracle (start setting no_session) last
 ran = join walked.1 (join asked.1 expanded.1)
 
 shown : IsOutcome last.state nothing_left
-shown = record { imports = refl; macros = refl; edges = λ source. refl; targets = no_targets; limit = refl }
+shown = record { imports = refl; macros = refl; edges = λ source. refl; targets = no_targets }
 
 abbrev pub answered : Answer
 answered = answer_of setting.oracle last.state nothing_left
 
 -- what is answered of this crate
 waiting_answers : Answers setting no_session session answered
-waiting_answers = answers_without setting no_session last nothing_left ran refl refl refl refl shown (λ source. refl) refl
+waiting_answers = answers_without setting no_session last nothing_left ran refl refl refl refl refl shown (λ source. refl) refl
 
 -- S is bound, and nothing else
 s_is_bound : (answered.content.binding (module_at 0) s Types ≡ Some (declared 0)) × (answered.content.binding (module_at 0) s Values ≡ Some (declared 0))
@@ -141,11 +141,11 @@ nothing_is_reported : answered.diagnostics ≡ []
 nothing_is_reported = refl
 
 -- stopping where the call still waits is no answer: it is given a call
-stopping_at_the_walk_is_no_answer : (after : Session) (answer : Answer) (answers : Answers setting no_session after answer) → answers.run.end ≡ walked_to → ⊥
-stopping_at_the_walk_is_no_answer after answer answers early =
+stopping_at_the_walk_is_no_answer : (after : Session) (answer : Answer) (answers : Answers setting no_session after answer) → answer.outcome.limit_met ≡ false → answers.run.end ≡ walked_to → ⊥
+stopping_at_the_walk_is_no_answer after answer answers unmet early =
     let at_end : (told setting.oracle walked_to.state waiting).turn ≡ Stays =
     subst (λ (m : Moment). Contains m.state.macros waiting → (told setting.oracle m.state waiting).turn ≡ Stays) early
-    (λ left. answers.settled.macros.stay waiting left) (0, lit< tt, refl) in
+    (λ left. (answers.settled unmet).macros.stay waiting left) (0, lit< tt, refl) in
     cc
 
 -- nor is stopping where its expansion is still to be walked

@@ -20,18 +20,18 @@ use item_tree::Seq;
 use std::alloc::AllocError;
 
 impl DefCollector<'_> {
-    /// The answer: the map with the names of the imports left over marked as failed, and a
-    /// diagnostic for each of these behind the run's own.
-    pub fn finish(self) -> Result<Collected, AllocError>
-        ensures { IfOk result (λ c. (session : Interner) → IsFinished (state_of self.entry session) (shown c)) }
+    /// The answer: the map with the names of the imports left over marked as failed, whether the
+    /// limit of rounds was met, and a diagnostic for each import left over behind the run's own.
+    pub fn finish(self, limit_met: bool) -> Result<Collected, AllocError>
+        ensures { IfOk result (λ c. (session : Interner) → IsFinished (state_of self.entry session) limit_met (shown c)) }
     {
         let mut collector = self;
         let imports = collector.report_left()?;
         let edges = edges_of(collector.alloc, collector.table.table())?;
         let targets = targets_of(collector.alloc, &collector.targets)?;
-        let macros = left_macros(collector.alloc, collector.unresolved_macros.as_slice())?;
+        let macros = left_macros(collector.alloc, &collector.unresolved_macros)?;
         let outcome = Outcome {
-            limit_met: false,
+            limit_met,
             imports,
             macros,
             edges,

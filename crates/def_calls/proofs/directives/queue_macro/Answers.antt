@@ -1,10 +1,11 @@
-use Rattle.std.proofs.Common.{◌++◌, ◌∷◌, [], ◌∙◌}
-use Rattle.def_calls.specs.Shown.{kind_of, macro_directive_of, macros_in}
-use Rattle.def_steps.proofs.ImportListsLaws.{present_pushed}
+use Rattle.std.proofs.Common.{◌++◌, ◌∷◌, [], ap, ◌∙◌}
+use Rattle.def_calls.specs.Shown.{kind_of, macros_in}
+use Rattle.def_calls.proofs.WaitingLemmas.{macros_push}
 use Rattle.def_calls.proofs.directives.queue_macro.Goals as goal
 
 pub returns : goal.returns
 returns c =
-    present_pushed macro_directive_of _ _ _ c.in_ok-push.ensures.items
+    ap macros_in c.in_ok-push_back.ensures.items
+    ∙ macros_push c.args.directives.now.items _
     ∙ (λ i. macros_in c.args.directives.now.items
     ++ (record { scope = c.args.site.module_id; container = c.args.site.container; position = c.position.ensures i; depth = c.deeper.ensures i; kind = kind_of c.args.kind }) ∷ [])

@@ -1,37 +1,38 @@
-use Rattle.std.proofs.Common.{◌≡◌, Some, ap, sym, ◌∙◌}
-use Rattle.def_calls.specs.Shown.{leaves, macro_directive_of, with_waiting}
+use Rattle.std.proofs.Common.{◌≡◌, [], Some, ap, sym, ◌∙◌}
+use Rattle.def_calls.specs.Shown.{leaves, macro_directive_of, macros_in, with_waiting}
 use Rattle.def_modules.specs.Maps.{map_state}
 use Rattle.def_rules.specs.Calls.{invoking, with_invocations}
 use Rattle.def_rules.specs.Directives.{call_told, given_turn, turn_effect}
 use Rattle.def_rules.specs.State.{State}
-use Rattle.def_calls.proofs.WaitingLemmas.{between}
+use Rattle.def_calls.proofs.WaitingLemmas.{first_is}
 use Rattle.def_calls.proofs.directives.settle_call.Goals as goal
 
 pub returns-in_default-clause-turned : goal.returns-in_default-clause-turned
 returns-in_default-clause-turned c = λ s.
-    let stays = between c.args.directives.now.items c.args.i c.args.directive c.requires in
+    let first = first_is c.args.directives.now.items c.args.directive c.requires in
+    let others = macros_in first.0 in
     let d = macro_directive_of c.args.directive in
     let before : State = with_waiting s c.args.def_map.now c.args.directives.now.items c.args.expansions.now.items in
-    record { before = stays.before; behind = stays.behind; stands = stays.stands; is = sym (ap (λ a. (turn_effect (call_told before d a).state stays.before d stays.behind (call_told before d a).turn).state) c.in_default.is) }
+    record { others = others; stands = ap macros_in first.1; is = sym (ap (λ a. (turn_effect (call_told before d a).state [] d others (call_told before d a).turn).state) c.in_default.is) }
 
 pub returns-in_default-clause-given : goal.returns-in_default-clause-given
 returns-in_default-clause-given c = λ s. sym (ap (λ a. leaves (call_told s (macro_directive_of c.args.directive) a).turn) c.in_default.is)
 
 pub returns-in_default-value-clause-turned : goal.returns-in_default-value-clause-turned
 returns-in_default-value-clause-turned c = λ s.
-    let stays = between c.args.directives.now.items c.args.i c.args.directive c.requires in
+    let first = first_is c.args.directives.now.items c.args.directive c.requires in
+    let others = macros_in first.0 in
     let d = macro_directive_of c.args.directive in
     let before : State = with_waiting s c.args.def_map.now c.args.directives.now.items c.args.expansions.now.items in
     let told : State = with_invocations before d.scope c.in-Ok.answer.inner in
     let made : map_state c.record_calls.new.def_map ≡ invoking d.scope.index c.in-Ok.answer.inner before.map =
     c.in_ok-record_calls.ensures ∙ ap (λ calls. invoking d.scope.index calls before.map) c.as_slice.ensures in
     record {
-      before = stays.before;
-      behind = stays.behind;
-      stands = stays.stands;
+      others = others;
+      stands = ap macros_in first.1;
       is = (λ i. record before { map = made i })
-          ∙ sym (ap (λ v. (turn_effect told stays.before d stays.behind (given_turn v)).state) c.in_default-value.is)
-          ∙ sym (ap (λ a. (turn_effect (call_told before d a).state stays.before d stays.behind (call_told before d a).turn).state) c.in-Ok.is);
+          ∙ sym (ap (λ v. (turn_effect told [] d others (given_turn v)).state) c.in_default-value.is)
+          ∙ sym (ap (λ a. (turn_effect (call_told before d a).state [] d others (call_told before d a).turn).state) c.in-Ok.is);
     }
 
 pub returns-in_default-value-clause-given : goal.returns-in_default-value-clause-given
@@ -48,13 +49,12 @@ returns-clause-turned c = λ s.
     c.in_ok-record_calls.ensures ∙ ap (λ calls. invoking d.scope.index calls before.map) c.as_slice.ensures in
     let given = c.in_ok-give_call.ensures s in
     record {
-      before = given.before;
-      behind = given.behind;
+      others = given.others;
       stands = given.stands;
       is = given.is
-          ∙ (λ i. (turn_effect (record before { map = made i }) given.before d given.behind (given_turn (Some call))).state)
-          ∙ sym (ap (λ v. (turn_effect told given.before d given.behind (given_turn v)).state) c.in-Some.is)
-          ∙ sym (ap (λ a. (turn_effect (call_told before d a).state given.before d given.behind (call_told before d a).turn).state) c.in-Ok.is);
+          ∙ (λ i. (turn_effect (record before { map = made i }) [] d given.others (given_turn (Some call))).state)
+          ∙ sym (ap (λ v. (turn_effect told [] d given.others (given_turn v)).state) c.in-Some.is)
+          ∙ sym (ap (λ a. (turn_effect (call_told before d a).state [] d given.others (call_told before d a).turn).state) c.in-Ok.is);
     }
 
 pub returns-clause-given : goal.returns-clause-given

@@ -1,6 +1,5 @@
-use Rattle.std.proofs.Common.{get_or, subst, sym, take, Some, ◌∙◌, ◌+◌, arith, refl, ap}
+use Rattle.std.proofs.Common.{get_or, subst, sym, take, Some, ◌∙◌, arith, ap}
 use Rattle.std.proofs.lemmas.List.{take_all, take_more}
-use Rattle.either.specs.declared.Either.TheVariants.{Right}
 use Rattle.def_interner.specs.Session.{session_of}
 use Rattle.def_interner.specs.SessionLaws.{adds_trans}
 use Rattle.def_modules.specs.Maps.{map_state, with_renamed_helpers}

@@ -5,6 +5,7 @@ use Rattle.def_collector.specs.Collector.{state_of}
 use Rattle.def_collector.specs.Walk.{inner_of}
 use Rattle.def_rules.specs.State.{State}
 use Rattle.def_imports.proofs.ResultLaws.{if_ok}
+use Rattle.def_collector.proofs.VisitLemmas.{opens_none}
 use Rattle.def_collector.proofs.items.collect_item.Goals as goal
 
 pub returns-in-Mod-clause-handled : goal.returns-in-Mod-clause-handled
@@ -22,3 +23,8 @@ returns-in-MacroCall-clause-handled g c =
     let before : State = state_of c.args.collector.now c.args.session.now in
     if_ok c.collect_macro_call.result c.collect_macro_call.ensures.done (λ opened done.
     handled_call oracle before _ (site_of c.args.site) c.args.node.now c.in-MacroCall.path c.in-MacroCall.expand_to c.in-MacroCall.ctxt (inner_of oracle opened) c.in-MacroCall.is done)
+
+pub returns-in_ok-collect_leaf-in_default : goal.returns-in_ok-collect_leaf-in_default
+returns-in_ok-collect_leaf-in_default g c =
+    let leaf = opens_none c.args.node.now.kind c.in_default.not-Mod c.in_default.not-ExternBlock c.in_default.not-MacroCall in
+    record { handled = c.in_ok-collect_leaf-in_default.ensures.handled leaf; known = tt; session = c.in_ok-collect_leaf-in_default.ensures.session }

@@ -1,37 +1,25 @@
-use Rattle.std.proofs.Common.{◌≡◌, Some, None, ap, option_and_then, slice_get, subst, sym, ◌∙◌}
-use Rattle.def_calls.specs.declared.directives.MacroDirective.{MacroDirective}
-use Rattle.def_calls.specs.Shown.{macro_directive_of}
+use Rattle.std.proofs.Common.{ap, refl, ◌∙◌}
+use Rattle.def_calls.specs.Shown.{macro_directive_of, macros_in}
+use Rattle.def_calls.proofs.WaitingLemmas.{first_is}
 use Rattle.def_collector.specs.Collector.{state_of}
-use Rattle.def_imports.proofs.ResultLaws.{if_ok}
-use Rattle.def_rules.specs.Directives.{Stays, told}
-use Rattle.def_collector.proofs.MacroPassLemmas.{entry_is, same_some}
-use Rattle.def_collector.proofs.TurnLemmas.{no_turns}
+use Rattle.def_rules.specs.State.{State}
+use Rattle.def_collector.proofs.MacroPassLemmas.{had_turn_left, had_turn_stayed, read_at, stays_behind}
 use Rattle.def_collector.proofs.macro_pass.ask_macro.Goals as goal
 
-pub returns-in_default-clause-turn : goal.returns-in_default-clause-turn
-returns-in_default-clause-turn g c = no_turns (g.D.SourceDatabase.oracle c.args.db.now) (state_of c.args.collector.now c.args.session.now)
+pub returns-then-branch-clause-turn : goal.returns-then-branch-clause-turn
+returns-then-branch-clause-turn g c =
+    had_turn_left (g.D.SourceDatabase.oracle c.args.db.now) (state_of c.args.collector.now c.args.session.now) (state_of c.ask_directive.new.collector c.ask_directive.new.session)
+    (c.in_ok-ask_directive.ensures.asked.left c.if-branch.true)
 
-pub returns-in_default-clause-none : goal.returns-in_default-clause-none
-returns-in_default-clause-none g c = λ was x here.
-    let wrong : None ≡ Some x = sym c.in_default.is ∙ c.waiting_at.ensures ∙ ap (λ l. option_and_then (λ entry. entry) (slice_get l c.args.i)) c.as_slice.ensures.value ∙ ap (option_and_then (λ entry. entry)) here in
-    absurd (cc wrong)
-
-pub ask_call-requires-clause-here : goal.ask_call-requires-clause-here
-ask_call-requires-clause-here g c =
-    entry_is (slice_get c.args.collector.now.unresolved_macros.items c.args.i) c.in-Some.directive
-    (ap (λ l. option_and_then (λ entry. entry) (slice_get l c.args.i)) (sym c.as_slice.ensures.value) ∙ sym c.waiting_at.ensures ∙ c.in-Some.is)
-
-pub ask_attr-requires-clause-here : goal.ask_attr-requires-clause-here
-ask_attr-requires-clause-here g c =
-    entry_is (slice_get c.args.collector.now.unresolved_macros.items c.args.i) c.in-Some.directive
-    (ap (λ l. option_and_then (λ entry. entry) (slice_get l c.args.i)) (sym c.as_slice.ensures.value) ∙ sym c.waiting_at.ensures ∙ c.in-Some.is)
-
-pub returns-in-FnLike-clause-none : goal.returns-in-FnLike-clause-none
-returns-in-FnLike-clause-none g c = if_ok c.ask_call.result c.ask_call.ensures.none (λ moved none was x here.
-    let same = same_some (sym c.in-Some.is ∙ c.waiting_at.ensures ∙ ap (λ l. option_and_then (λ entry. entry) (slice_get l c.args.i)) c.as_slice.ensures.value ∙ ap (option_and_then (λ entry. entry)) here) in
-    subst (λ (e : MacroDirective). (told (g.D.SourceDatabase.oracle c.args.db.now) (state_of c.args.collector.now c.args.session.now) (macro_directive_of e)).turn ≡ Stays) same (none was))
-
-pub returns-in-Attr-clause-none : goal.returns-in-Attr-clause-none
-returns-in-Attr-clause-none g c = if_ok c.ask_attr.result c.ask_attr.ensures.none (λ moved none was x here.
-    let same = same_some (sym c.in-Some.is ∙ c.waiting_at.ensures ∙ ap (λ l. option_and_then (λ entry. entry) (slice_get l c.args.i)) c.as_slice.ensures.value ∙ ap (option_and_then (λ entry. entry)) here) in
-    subst (λ (e : MacroDirective). (told (g.D.SourceDatabase.oracle c.args.db.now) (state_of c.args.collector.now c.args.session.now) (macro_directive_of e)).turn ≡ Stays) same (none was))
+pub returns-clause-turn : goal.returns-clause-turn
+returns-clause-turn g c =
+    let oracle = g.D.SourceDatabase.oracle c.args.db.now in
+    let s : State = state_of c.args.collector.now c.args.session.now in
+    let u : State = state_of c.ask_directive.new.collector c.ask_directive.new.session in
+    let t : State = state_of (record c.ask_directive.new.collector { unresolved_macros = c.stay.new.directives }) c.ask_directive.new.session in
+    let directive = c.index-directive.result.now in
+    let all = c.args.collector.now.unresolved_macros.items in
+    let first = first_is all directive (read_at all 0 directive directive c.requires c.index-directive.ensures refl) in
+    let same = c.in_ok-ask_directive.ensures.same c.if-branch.false ∙ first.1 in
+    had_turn_stayed oracle s t (stays_behind oracle s u t (macro_directive_of directive) (macros_in first.0) (ap macros_in first.1) (c.in_ok-ask_directive.ensures.asked.stayed c.if-branch.false)
+    (ap macros_in same) (λ i. record u { macros = c.in_ok-stay.ensures first.0 same i }))

@@ -1,4 +1,4 @@
-use Rattle.std.proofs.Common.{refl, ◌∙◌}
+use Rattle.std.proofs.Common.{[], refl, ◌∙◌}
 use Rattle.def_calls.specs.Shown.{macro_directive_of}
 use Rattle.def_collector.specs.Collector.{state_of}
 use Rattle.def_laws.proofs.RecordLaws.{on_ok}
@@ -14,9 +14,8 @@ returns g c = on_ok c.give_call.result c.give_call.ensures (λ given session.
     let turned = given (state_of (record c.args.collector.now { deferred_builtin_derives = c.expand_deferred.new.deferred; item_attrs = c.activate.new.self }) session) in
     let call = c.attr_call-call.ensures s refl c.in_ok-activate.ensures.active in
     record {
-      before = turned.before;
-      behind = turned.behind;
+      others = turned.others;
       stands = turned.stands;
       is = turned.is
-          ∙ (λ i. (turn_effect (record s { skipped = c.activate.ensures.skipped i; active = c.in_ok-activate.ensures.active i; deferred = freed.1 i; expansions = freed.0 i }) turned.before d turned.behind (GivesCall (call i))).state);
+          ∙ (λ i. (turn_effect (record s { skipped = c.activate.ensures.skipped i; active = c.in_ok-activate.ensures.active i; deferred = freed.1 i; expansions = freed.0 i }) [] d turned.others (GivesCall (call i))).state);
     })

@@ -37,3 +37,7 @@ expansions-smaller g c =
     let rest = c.pop_front.new.self.items in
     let first : s.expansions ≡ expansion_shown e ∷ map expansion_shown rest = ap (map expansion_shown) c.in-Some.ensures.items in
     walked_fewer oracle s t e rest first c.in_ok-walk_expansion.ensures.walked c.walk_expansion.ensures.depth (few_macros c.walk_expansion.new.collector.unresolved_macros)
+
+pub returns-in_err-walk_expansion-clause-session : goal.returns-in_err-walk_expansion-clause-session
+returns-in_err-walk_expansion-clause-session g c =
+    adds_trans (session_of c.args.session.now) (session_of c.expansions.session) (session_of c.walk_expansion.new.session) c.expansions.invariant.adds c.walk_expansion.ensures.session

@@ -1,5 +1,5 @@
-use Rattle.std.proofs.Common.{[], ◌∷◌, subst}
-use Rattle.def_calls.specs.Shown.{derives_in, macro_directive_of, written_attr_of}
+use Rattle.std.proofs.Common.{[], ◌∷◌, ap, subst}
+use Rattle.def_calls.specs.Shown.{derives_in, macro_directive_of, macros_in, written_attr_of}
 use Rattle.def_collector.specs.Collector.{state_of}
 use Rattle.def_items.specs.Parts.{directories_of}
 use Rattle.def_laws.proofs.RecordLaws.{on_ok}
@@ -16,16 +16,15 @@ returns-clause-walked g c = on_ok c.walk_again.result c.walk_again.ensures.run (
     let s : State = state_of c.args.collector.now c.args.session.now in
     let d = macro_directive_of c.args.directive in
     let written = written_attr_of c.args.list.written in
-    let left = c.leave.ensures in
+    let others = macros_in c.leave.new.directives.items in
     let t : State = state_of c.walk_again.new.collector c.walk_again.new.session in
     let tried : State = state_of c.try_derives.new.collector c.args.session.now in
     record {
-      before = left.before;
-      behind = left.behind;
-      stands = left.stands;
+      others = others;
+      stands = ap macros_in c.leave.ensures;
       tried = tried;
       tries = subst (λ u. Tried oracle d (derives_in c.args.list) u tried)
-          (λ i. record s { macros = left.left i; skipped = c.in_ok-pass_over.ensures.skipped i; active = c.pass_over.ensures.active i }) c.in_ok-try_derives.ensures.tried;
+          (λ i. record s { macros = others; skipped = c.in_ok-pass_over.ensures.skipped i; active = c.pass_over.ensures.active i }) c.in_ok-try_derives.ensures.tried;
       leads = subst (λ dirs. Leads oracle (Visit (record (item_site s d written) { directory = stored_directory (directories_of dirs) d.scope }) written.item ∷ []) tried [] t)
           c.try_derives.ensures.dirs run;
     })

@@ -1,6 +1,5 @@
 use Rattle.std.proofs.Common.{ap, map as map_of, option_map, ◌∙◌}
-use Rattle.def_calls.specs.Shown.{expansion_shown}
-use Rattle.def_calls.proofs.WaitingLemmas.{no_macros}
+use Rattle.def_calls.specs.Shown.{expansion_shown, macros_in}
 use Rattle.def_interner.specs.Session.{session_of}
 use Rattle.def_modules.specs.Locals.{local_view}
 use Rattle.def_modules.specs.Tables.{bound_by}
@@ -18,4 +17,4 @@ returns-clause-seeded g c = λ tree session.
     map (ap bound_by c.new.ensures ∙ c.into_parts-data.ensures.content ∙ c.requires.bindings) (no_targets c.new-2.result c.new-2.ensures.empty) c.new-3.ensures
     (c.is_proc_macro_crate-is_proc_macro.ensures ∙ ap (λ m. is_proc_macro_crate oracle m.id.krate) map) (c.in_ok-deps.ensures ∙ ap (λ m. deps_by_name oracle m.id.krate) map) c.new-4.ensures c.new-5.ensures
     (no_imports c.new-6.result.items c.new-7.result.items c.new-6.ensures.items c.new-7.ensures.items) c.new-8.ensures.skipped c.new-8.ensures.active
-    c.new-9.ensures (no_macros c.new-10.result.items c.new-10.ensures.items) (ap (map_of expansion_shown) c.new-11.ensures.items) c.new-12.ensures.items
+    c.new-9.ensures (ap macros_in c.new-10.ensures.items) (ap (map_of expansion_shown) c.new-11.ensures.items) c.new-12.ensures.items

@@ -1,6 +1,9 @@
+use Rattle.std.proofs.Common.{◌≡◌, ◌+◌, arith, subst}
 use Rattle.def_interner.specs.Session.{session_of}
 use Rattle.def_interner.specs.SessionLaws.{adds_trans}
-use Rattle.def_laws.proofs.RecordLaws.{on_ok}
+use Rattle.def_imports.proofs.ResultLaws.{if_ok}
+use Rattle.def_laws.specs.Runs.{HoldRounds}
+use Rattle.def_laws.proofs.RoundsLaws.{holds_both, holds_none}
 use Rattle.def_laws.proofs.StepsLaws.{collects_sound, collects_trans}
 use Rattle.def_collector.proofs.MacroPassLemmas.{bare_after}
 use Rattle.def_collector.proofs.run.collect.Goals as goal
@@ -11,8 +14,12 @@ resolution_loop-requires-clause-sound g c = collects_sound c.in_ok-seed_with_top
 pub resolution_loop-requires-clause-bare : goal.resolution_loop-requires-clause-bare
 resolution_loop-requires-clause-bare g c = bare_after c.args.collector.now.expansions.items c.seed_with_top_level.new.collector.expansions.items c.in_ok-seed_with_top_level.ensures.run.expansions c.requires.bare
 
-pub returns-clause-run : goal.returns-clause-run
-returns-clause-run g c = on_ok c.resolution_loop.result c.resolution_loop.ensures.run (λ later. collects_trans c.in_ok-seed_with_top_level.ensures.run.collects later)
+pub returns-clause-ends : goal.returns-clause-ends
+returns-clause-ends g c = if_ok c.resolution_loop.result c.resolution_loop.ensures.ends (λ limit_met later.
+    let first = c.in_ok-seed_with_top_level.ensures.run.collects in
+    let run = collects_trans first later.run in
+    let same : 0 + later.rounds ≡ later.rounds = omega arith in
+    record { run = run; rounds = later.rounds; holds = subst (λ n. HoldRounds run.runs n) same (holds_both first later.run (holds_none first) later.holds); limit = later.limit; rest = later.rest })
 
 pub returns-clause-session : goal.returns-clause-session
 returns-clause-session g c =

@@ -20,5 +20,5 @@ returns-clause-answers g c =
     if_ok c.finish.result c.finish.ensures (λ collected ends.
     collected_answers (setting_of (g.D.SourceDatabase.oracle c.args.db.now) c.args.def_map c.args.tree_id (option_map (λ l. local_view l.now) c.args.crate_local))
     (session_of c.args.session.now) (state_of c.in_ok-collector.collector c.args.session.now) (c.in_ok-collector.ensures.seeded c.args.tree_id c.args.session.now) (whole.content_of c.args.def_map) c.requires.fresh
-    (session_of c.collect.new.session) (state_of c.collect.new.collector c.collect.new.session) (state_of c.report_macros.new.collector c.collect.new.session) (shown collected) c.in_ok-collect.ensures.run c.in_ok-collect.ensures.sound
-    c.in_ok-collect.ensures.settled (ap (map expansion_shown) c.in_ok-collect.ensures.expanded) refl c.in_ok-report_macros.ensures (ends c.collect.new.session))
+    (session_of c.collect.new.session) (state_of c.collect.new.collector c.collect.new.session) (state_of c.report_macros.new.collector c.collect.new.session) (shown collected) c.in_ok-limit_met.limit_met c.in_ok-limit_met.ensures.ends c.in_ok-limit_met.ensures.sound
+    (ap (map expansion_shown) c.in_ok-limit_met.ensures.expanded) refl c.in_ok-report_macros.ensures (ends c.collect.new.session))

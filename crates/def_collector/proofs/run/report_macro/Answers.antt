@@ -1,5 +1,4 @@
-use Rattle.std.proofs.Common.{◌≡◌, ◌++◌, [], Some, None, append-nil, ap, sym, slice_get, ◌∙◌}
-use Rattle.std.specs.Option.{option_map_or}
+use Rattle.std.proofs.Common.{◌++◌, append-nil, ap, refl, sym, slice_get, ◌∙◌}
 use Rattle.def_calls.specs.Shown.{kind_of, macro_directive_of, written_of}
 use Rattle.def_collector.specs.Collector.{state_of}
 use Rattle.def_laws.proofs.RecordLaws.{on_ok}
@@ -10,50 +9,40 @@ use Rattle.def_rules.specs.State.{State}
 use Rattle.def_collector.proofs.MacroPassLemmas.{call_report, one_at, read_at}
 use Rattle.def_collector.proofs.run.report_macro.Goals as goal
 
-pub returns-in_default-clause-told : goal.returns-in_default-clause-told
-returns-in_default-clause-told g c = λ entry here.
-    let entries = c.args.collector.now.unresolved_macros.items in
-    let said = c.args.collector.now.diagnostics.items in
-    let s : State = state_of c.args.collector.now c.args.session.now in
-    let none : None ≡ entry = one_at (slice_get entries c.args.i) None entry (read_at entries c.args.i c.index.result.now None c.requires c.index.ensures c.in_default.is) here in
-    sym (append-nil said) ∙ ap (λ e. said ++ option_map_or (λ d. macro_report (g.D.SourceDatabase.oracle c.args.db.now) s (macro_directive_of d)) e []) none
-
 pub returns-in-Attr-clause-told : goal.returns-in-Attr-clause-told
-returns-in-Attr-clause-told g c = λ entry here.
+returns-in-Attr-clause-told g c = λ x here.
     let oracle = g.D.SourceDatabase.oracle c.args.db.now in
-    let entries = c.args.collector.now.unresolved_macros.items in
+    let all = c.args.collector.now.unresolved_macros.items in
     let said = c.args.collector.now.diagnostics.items in
     let s : State = state_of c.args.collector.now c.args.session.now in
-    let d = macro_directive_of c.in-Some.directive in
-    let some : Some c.in-Some.directive ≡ entry = one_at (slice_get entries c.args.i) (Some c.in-Some.directive) entry (read_at entries c.args.i c.index.result.now (Some c.in-Some.directive) c.requires c.index.ensures c.in-Some.is) here in
-    sym (append-nil said)
-    ∙ ap (λ l. said ++ l) (sym (ap (λ k. kind_report oracle s d (kind_of k)) c.in-Attr.is))
-    ∙ ap (λ e. said ++ option_map_or (λ x. macro_report oracle s (macro_directive_of x)) e []) some
+    let shown = c.index.result.now in
+    let same = one_at (slice_get all c.args.i) shown x (read_at all c.args.i shown shown c.requires c.index.ensures refl) here in
+    sym (append-nil said) ∙ ap (λ l. said ++ l) (sym (ap (λ k. kind_report oracle s (macro_directive_of shown) (kind_of k)) c.in-Attr.is)) ∙ ap (λ y. said ++ macro_report oracle s (macro_directive_of y)) same
 
 pub returns-in_ok-answer-in-FnLike-clause-told : goal.returns-in_ok-answer-in-FnLike-clause-told
 returns-in_ok-answer-in-FnLike-clause-told g c =
     let oracle = g.D.SourceDatabase.oracle c.args.db.now in
-    let entries = c.args.collector.now.unresolved_macros.items in
+    let all = c.args.collector.now.unresolved_macros.items in
     let said = c.args.collector.now.diagnostics.items in
     let s : State = state_of c.args.collector.now c.args.session.now in
-    let d = macro_directive_of c.in-Some.directive in
+    let shown = c.index.result.now in
+    let d = macro_directive_of shown in
     let kind = ap kind_of c.in-FnLike.is in
-    on_ok c.report_left_call.result c.report_left_call.ensures (λ told entry here.
-    let some : Some c.in-Some.directive ≡ entry = one_at (slice_get entries c.args.i) (Some c.in-Some.directive) entry (read_at entries c.args.i c.index.result.now (Some c.in-Some.directive) c.requires c.index.ensures c.in-Some.is) here in
+    on_ok c.report_left_call.result c.report_left_call.ensures (λ told x here.
+    let same = one_at (slice_get all c.args.i) shown x (read_at all c.args.i shown shown c.requires c.index.ensures refl) here in
     told (written_of c.in-FnLike.written) kind
     ∙ ap (λ l. said ++ l) (call_report oracle s (world_lent g.D.SourceDatabase.oracle bound_by c.world-world.result) d (written_of c.in-FnLike.written) c.in_ok-answer-in-FnLike.answer kind c.world-world.ensures c.in_ok-answer-in-FnLike.ensures)
-    ∙ ap (λ e. said ++ option_map_or (λ x. macro_report oracle s (macro_directive_of x)) e []) some)
+    ∙ ap (λ y. said ++ macro_report oracle s (macro_directive_of y)) same)
 
 pub returns-in-Derive-clause-told : goal.returns-in-Derive-clause-told
 returns-in-Derive-clause-told g c =
     let oracle = g.D.SourceDatabase.oracle c.args.db.now in
-    let entries = c.args.collector.now.unresolved_macros.items in
+    let all = c.args.collector.now.unresolved_macros.items in
     let said = c.args.collector.now.diagnostics.items in
     let s : State = state_of c.args.collector.now c.args.session.now in
-    let d = macro_directive_of c.in-Some.directive in
+    let shown = c.index.result.now in
+    let d = macro_directive_of shown in
     let kind = ap kind_of c.in-Derive.is in
-    on_ok c.report_left_derive.result c.report_left_derive.ensures (λ told entry here.
-    let some : Some c.in-Some.directive ≡ entry = one_at (slice_get entries c.args.i) (Some c.in-Some.directive) entry (read_at entries c.args.i c.index.result.now (Some c.in-Some.directive) c.requires c.index.ensures c.in-Some.is) here in
-    told kind
-    ∙ ap (λ k. said ++ kind_report oracle s d k) (sym kind)
-    ∙ ap (λ e. said ++ option_map_or (λ x. macro_report oracle s (macro_directive_of x)) e []) some)
+    on_ok c.report_left_derive.result c.report_left_derive.ensures (λ told x here.
+    let same = one_at (slice_get all c.args.i) shown x (read_at all c.args.i shown shown c.requires c.index.ensures refl) here in
+    told kind ∙ ap (λ k. said ++ kind_report oracle s d k) (sym kind) ∙ ap (λ y. said ++ macro_report oracle s (macro_directive_of y)) same)
