@@ -482,7 +482,16 @@ fn print_map<W: io::Write>(
     Ok(())
 }
 
-/// Prints a map, the diagnostics of its run, and what the run left over.
+/// Prints that the limit of rounds was met, if it was.
+fn print_limit<W: io::Write>(limit_met: bool, out: &mut W) -> io::Result<()> {
+    if limit_met {
+        writeln!(out, "limit met")?;
+    }
+    Ok(())
+}
+
+/// Prints a map, the diagnostics of its run, what the run left over, and whether it met the limit of
+/// rounds.
 pub fn print<W: io::Write>(
     alloc: Global,
     session: &Interner,
@@ -493,5 +502,6 @@ pub fn print<W: io::Write>(
     print_edges(alloc, collected.outcome.edges.as_slice(), out)?;
     print_diagnostics(session, collected.diagnostics.as_slice(), out)?;
     print_left_imports(session, collected.outcome.imports.as_slice(), out)?;
-    Ok(print_left_macros(session, collected.outcome.macros.as_slice(), out)?)
+    print_left_macros(session, collected.outcome.macros.as_slice(), out)?;
+    Ok(print_limit(collected.outcome.limit_met, out)?)
 }
