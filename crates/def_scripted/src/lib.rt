@@ -20,8 +20,8 @@ pub use fault::{Fault, ReadFault};
 pub use items::{ReadEnum, ReadFile};
 pub use lines::print;
 pub use script::{
-    ALONE, BuiltinAttrText, BuiltinDeriveText, BuiltinText, CALL, CallText, CalledBy, CrateText,
-    DependencyText, StyleText, Vector,
+    ALONE, BuiltinAttrText, BuiltinDeriveText, BuiltinText, CALL, CallText, CalledBy, ChainText,
+    CrateText, DependencyText, StyleText, Vector,
 };
 pub use trees::read;
 pub use variants::ReadVariant;

@@ -93,6 +93,18 @@ pub const CALL: CallText = CallText {
     is_silent: false,
 };
 
+/// Macro calls in a row: each but the first stands in the expansion of the one before it.
+#[derive(Clone, Copy)]
+pub struct ChainText {
+    /// The first. The others are answered as it is.
+    pub first: CallText,
+    /// The number of each other one's item, in the expansion that it stands in.
+    pub ast_id: usize,
+    pub length: usize,
+    /// The text of the last expansion.
+    pub last: &'static str,
+}
+
 /// A scripted workspace: its files by number, and its crates, each behind those that it depends
 /// on. The last one is shown.
 #[derive(Clone, Copy)]
@@ -112,6 +124,8 @@ pub struct Vector {
     pub flags: &'static [&'static str],
     /// The macro calls that are answered, each with its place as its number.
     pub calls: &'static [CallText],
+    /// Calls in a row, whose numbers go on from those of the calls.
+    pub chain: Option<ChainText>,
     pub styles: &'static [StyleText],
 }
 
@@ -133,5 +147,6 @@ pub const ALONE: Vector = Vector {
     derive_fast_path: false,
     flags: &[],
     calls: &[],
+    chain: None,
     styles: &[],
 };

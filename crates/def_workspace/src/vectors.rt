@@ -6,7 +6,7 @@ ghost use Rattle.def_workspace.specs.Vectors.{is_vector, vector_names};
 
 use crate::chain::CHAIN;
 use def_ids::{Macro2Id, MacroId};
-use def_scripted::{ALONE, CALL, CallText, Vector};
+use def_scripted::{ALONE, CALL, CallText, ChainText, Vector};
 use item_tree::{HirFileId, MacroCallId};
 
 /// A call of the first `macro` item.
@@ -16,7 +16,7 @@ const LATE: CallText = CallText {
 };
 
 /// The vectors in byte order of their names.
-static VECTORS: [Vector; 18] = [
+static VECTORS: [Vector; 19] = [
     Vector {
         name: "attrs",
         files: &[r#"#![recursion_limit = "4"] #![no_core] #![no_std] #![feature(register_tool)]"#],
@@ -130,6 +130,20 @@ static VECTORS: [Vector; 18] = [
     Vector {
         name: "private",
         files: &["mod a { pub struct T(u8); } use a::*;"],
+        ..ALONE
+    },
+    Vector {
+        name: "rounds",
+        files: &[r#"#![recursion_limit = "4294967295"] pub macro more {} crate::more!();"#],
+        chain: Some(ChainText {
+            first: CallText {
+                gives: "crate::more!();",
+                ..LATE
+            },
+            ast_id: 0,
+            length: 10_000,
+            last: "crate::more!();",
+        }),
         ..ALONE
     },
     Vector {

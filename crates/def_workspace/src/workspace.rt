@@ -13,8 +13,8 @@ use def_ids::VariantId;
 use def_interner::Interner;
 use def_map::{CallAnswer, CrateData, DefMap, Dependency, EnumVariant};
 use def_scripted::{
-    CallText, CalledBy, CrateText, DependencyText, Fault, ReadEnum, ReadFault, ReadFile, Vector,
-    read,
+    CallText, CalledBy, ChainText, CrateText, DependencyText, Fault, ReadEnum, ReadFault, ReadFile,
+    Vector, read,
 };
 use item_tree::{AttrId, Crate, FileAstId, FileId, HirFileId, InFile, MacroCallId, Seq, TreeId};
 use std::alloc::{AllocError, Global};
@@ -54,6 +54,9 @@ impl Workspace {
         }
         for (number, text) in vector.calls.iter().enumerate() {
             self.add_call(MacroCallId(number), text)?;
+        }
+        if let Some(chain) = &vector.chain {
+            self.add_chain(vector.calls.len(), chain)?;
         }
         for krate in vector.crates {
             self.add_crate(krate)?;
@@ -201,6 +204,15 @@ impl Workspace {
         self.add_text(expansion, text.gives)
     }
 
+    /// Adds calls in a row, numbered from this number on.
+    fn add_chain(&mut self, first: usize, chain: &ChainText) -> Result<(), Fault> {
+        for place in 0..chain.length {
+            let call = call_at(first, chain, place);
+            self.add_call(MacroCallId(first.saturating_add(place)), &call)?;
+        }
+        Ok(())
+    }
+
     fn dependency(&mut self, text: &DependencyText) -> Result<Dependency, AllocError> {
         Ok(Dependency {
             name: self.session.intern_name(text.name)?,
@@ -259,4 +271,17 @@ fn tree_id(file: FileId) -> TreeId
         file: HirFileId::File(file),
         block: None,
     }
+}
+
+/// The call at a place of a row whose first has this number.
+fn call_at(first: usize, chain: &ChainText, place: usize) -> CallText {
+    let mut call = chain.first;
+    if let Some(before) = place.checked_sub(1) {
+        call.file = HirFileId::Macro(MacroCallId(first.saturating_add(before)));
+        call.ast_id = chain.ast_id;
+    }
+    if chain.length.saturating_sub(1) <= place {
+        call.gives = chain.last;
+    }
+    call
 }

@@ -44,7 +44,7 @@ static RUNS: [(&[&str], u8, &str, &str); 12] = [
     (
         &["list"],
         0,
-        "attrs\nchain\ncircular\ncycle\nempty\nexcused\nfallback\nfields\nfollow\nglob\nlist\nmodule-macro\npartial\nplain\nprivate\ntargets\ntextual-use\nunderscore\n",
+        "attrs\nchain\ncircular\ncycle\nempty\nexcused\nfallback\nfields\nfollow\nglob\nlist\nmodule-macro\npartial\nplain\nprivate\nrounds\ntargets\ntextual-use\nunderscore\n",
         "",
     ),
     (&["show", "plain"], 0, PLAIN, ""),
