@@ -10,7 +10,9 @@ use Rattle.item_tree.specs.declared.ids.FileId.{FileId}
 use Rattle.item_tree.specs.declared.ids.HirFileId.{HirFileId}
 use Rattle.item_tree.specs.declared.ids.HirFileId.TheVariants.{File, Macro}
 use Rattle.item_tree.specs.declared.ids.TreeId.{TreeId}
+use Rattle.item_tree.specs.contracts.ids.HirFileIdPartialEq.TheImpl as files
 use Rattle.item_tree.specs.contracts.ids.TreeIdPartialEq.TheImpl as trees
+use Rattle.def_modules.specs.Equality.{file_eq}
 use Rattle.def_modules.specs.Updates.{set_where}
 use Rattle.def_database.specs.Database.{file_id_eq, path_in, tree_eq}
 use Rattle.def_database.specs.Filling.{with_lead}
@@ -31,6 +33,16 @@ module _ {K X Y S : Type 0} (eq : K → K → Bool) (f : Option X → Y) (old ne
 pub shown-set : {K X Y S : Type 0} (eq : K → K → Bool) (f : X → Y) (old new : IndexMap K X S) (k : K) (x : X)
     → ((q : K) → get eq new q ≡ cond (eq k q) (Some x) (get eq old q)) → (λ (q : K). option_map f (get eq new q)) ≡ set_where (eq k) (Some (f x)) (λ (q : K). option_map f (get eq old q))
 shown-set eq f = read-set eq (option_map f)
+
+file-same : (f g : HirFileId) → files.ghosts.eq f g ≡ file_eq f g
+file-same (File f) (File g) = refl
+file-same (File f) (Macro g) = refl
+file-same (Macro f) (File g) = refl
+file-same (Macro f) (Macro g) = refl
+
+-- the derived test of files is that of the definitions
+pub files_same : files.ghosts.eq ≡ file_eq
+files_same = λ i f g. file-same f g i
 
 abbrev tree_at : HirFileId → Option BlockId → TreeId
 tree_at file block = record { file = file; block = block }

@@ -4,6 +4,7 @@ use Rattle.either.specs.declared.Either.{Either}
 use Rattle.item_tree.specs.declared.ids.BlockId.{BlockId}
 use Rattle.item_tree.specs.declared.ids.Crate.{Crate}
 use Rattle.item_tree.specs.declared.ids.FileId.{FileId}
+use Rattle.item_tree.specs.declared.ids.HirFileId.{HirFileId}
 use Rattle.item_tree.specs.declared.ids.TreeId.{TreeId}
 use Rattle.item_tree.specs.declared.name.Name.{Name}
 use Rattle.item_tree.specs.declared.tree.ItemTree.{ItemTree}
@@ -12,7 +13,7 @@ use Rattle.def_bindings.specs.Content.{is_name}
 use Rattle.def_map.specs.DefMaps.{view_of}
 use Rattle.def_map.specs.declared.def_map.DefMap.{DefMap}
 use Rattle.def_modules.specs.declared.local_def_map.LocalDefMap.{LocalDefMap}
-use Rattle.def_modules.specs.Equality.{position_eq}
+use Rattle.def_modules.specs.Equality.{file_eq, position_eq}
 use Rattle.def_modules.specs.Locals.{local_view}
 use Rattle.def_modules.specs.MapState.{Position}
 use Rattle.def_modules.specs.Updates.{set_where}
@@ -32,6 +33,10 @@ with_lead leads from path to anchor text = cond (file_id_eq from anchor && bytes
 -- where a path leads from a file
 abbrev pub with_path : Oracle → FileId → List ℕ → FileId → Oracle
 with_path o from path to = record o { resolve_path = with_lead o.resolve_path from path to }
+
+-- how deep in expansions of macros a file lies
+abbrev pub with_depth : Oracle → HirFileId → ℕ → Oracle
+with_depth o file depth = record o { expansion_depth = set_where (file_eq file) depth o.expansion_depth }
 
 -- what is known of a crate
 abbrev pub with_crate : Oracle → Crate → CrateData → Oracle

@@ -16,11 +16,13 @@ use item_tree::{
 };
 use std::alloc::{AllocError, Global};
 
-/// Item trees, and the file that each path leads to from a file.
+/// Item trees, the file that each path leads to from a file, and how deep in expansions of macros a
+/// file lies.
 #[derive(Drop)]
 pub struct Files {
     pub trees: IndexMap<TreeId, ItemTree>,
     pub paths: IndexMap<FileId, IndexMap<String, FileId>>,
+    pub depths: IndexMap<HirFileId, u32>,
 }
 
 /// What is known of crates, and the maps that were collected earlier.
@@ -92,7 +94,7 @@ pub struct CfgFlag {
 /// A database whose answers were written down. A macro call asks the resolver for its path alone,
 /// and gives nothing where nothing was written down of the macro that is found; an attribute macro or
 /// a derive then gives a call without items. A macro is called as `m!(..)` where nothing else was
-/// written down. The source file of each expansion is file 0.
+/// written down, and a file lies in no expansion. The source file of each expansion is file 0.
 pub struct Database {
     pub files: Files,
     pub crates: Crates,
@@ -120,6 +122,7 @@ impl Database {
             files: Files {
                 trees: IndexMap::new(alloc),
                 paths: IndexMap::new(alloc),
+                depths: IndexMap::new(alloc),
             },
             crates: Crates {
                 known: IndexMap::new(alloc),
@@ -206,8 +209,11 @@ impl SourceDatabase for Database {
         }
     }
 
-    fn expansion_depth(&self, _file: HirFileId) -> u32 {
-        0
+    fn expansion_depth(&self, file: HirFileId) -> u32 {
+        match self.files.depths.get(&file) {
+            Some(depth) => *depth,
+            None => 0,
+        }
     }
 
     fn macro_call<R: MacroResolver>(

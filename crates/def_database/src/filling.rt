@@ -4,7 +4,7 @@ ghost use Rattle.indexmap.specs.IndexMap.{get_by_text};
 ghost use Rattle.def_modules.specs.Updates.{set_where};
 ghost use Rattle.def_database.specs.Calls.{with_attr_call, with_call, with_derive_call, with_include, with_styles};
 ghost use Rattle.def_database.specs.Database.{answers_of, leads};
-ghost use Rattle.def_database.specs.Filling.{with_tree, with_path, with_crate, with_maps, with_outer_map, with_variants, with_builtin, with_builtin_attr, with_builtin_derive, with_builtin_macro, with_derive_fast_path, with_derive_traits, with_flag, with_inert_attr, with_lead};
+ghost use Rattle.def_database.specs.Filling.{with_tree, with_path, with_crate, with_maps, with_outer_map, with_variants, with_builtin, with_builtin_attr, with_builtin_derive, with_builtin_macro, with_depth, with_derive_fast_path, with_derive_traits, with_flag, with_inert_attr, with_lead};
 
 use crate::database::{CallKey, CfgFlag, Database, DeriveCallKey};
 use def_ids::MacroId;
@@ -13,7 +13,8 @@ use def_map::{CallAnswer, CrateData, DefMap, EnumVariant, LocalDefMap};
 use either::Either;
 use indexmap::IndexMap;
 use item_tree::{
-    BlockId, Crate, FileAstId, FileId, InFile, ItemTree, MacroCallId, MacroCallStyles, Name, TreeId,
+    BlockId, Crate, FileAstId, FileId, HirFileId, InFile, ItemTree, MacroCallId, MacroCallStyles,
+    Name, TreeId,
 };
 use std::alloc::AllocError;
 
@@ -32,6 +33,15 @@ impl Database {
         ensures ok { OnOk result (answers_of self.new ≡ with_path (answers_of self.old) from path.now to) }
     {
         lead_from(&mut self.files.paths, from, path, to)?;
+        Ok(())
+    }
+
+    /// Says how deep in expansions of macros a file lies.
+    pub fn add_depth(&mut self, file: HirFileId, depth: u32) -> Result<(), AllocError>
+        ensures ok { OnOk result (answers_of self.new ≡ with_depth (answers_of self.old) file depth) }
+        ensures err { OnErr result (answers_of self.new ≡ answers_of self.old) }
+    {
+        self.files.depths.insert(file, depth)?;
         Ok(())
     }
 
