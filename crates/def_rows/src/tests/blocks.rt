@@ -13,13 +13,14 @@ static CRATE: Vector = Vector {
     ..ALONE
 };
 
-const TREE: TreeId = TreeId {
+/// The block.
+pub const TREE: TreeId = TreeId {
     file: HirFileId::File(FileId(0)),
     block: Some(BlockId(0)),
 };
 
 /// The root of the crate.
-const ROOT: ModuleId = ModuleId {
+pub const ROOT: ModuleId = ModuleId {
     map: MapId {
         krate: Crate(0),
         block: None,
@@ -117,13 +118,13 @@ static ROWS: [Row; 4] = [
 ];
 
 /// Collects the crate, and adds a block of this text.
-fn add_block(workspace: &mut Workspace, block: &str) -> Result<(), Fault> {
+pub fn add_block(workspace: &mut Workspace, block: &str) -> Result<(), Fault> {
     workspace.collect_dependency(&ALONE.crates[0])?;
     workspace.add_text(TREE, block)
 }
 
 /// A block within these modules, if they are fit.
-fn block_in(
+pub fn block_in(
     workspace: &Workspace,
     containing: &[ModuleId],
 ) -> Result<Option<BlockInfo>, AllocError> {
@@ -135,7 +136,7 @@ fn block_in(
 }
 
 /// The definitions of the block.
-fn collect(workspace: &mut Workspace, info: BlockInfo) -> Result<Collected, AllocError> {
+pub fn collect(workspace: &mut Workspace, info: BlockInfo) -> Result<Collected, AllocError> {
     let alloc = workspace.alloc;
     let seeded = DefMap::seed(alloc, Crate(0), Edition::Edition2021, Some(info))?;
     let db = &workspace.db;
