@@ -14,7 +14,7 @@ const WITH_AN_ERROR: CallText = CallText {
     ..CALL
 };
 
-static ERRORS: [Row; 2] = [
+static ERRORS: [Row; 3] = [
     (
         Vector {
             name: "a call with an error is expanded once and one deep",
@@ -26,6 +26,23 @@ static ERRORS: [Row; 2] = [
 binding 0 A types struct:0 pub decl
 binding 0 A values struct:0 pub decl
 diag unconfigured 0 m0:1 7
+",
+    ),
+    (
+        Vector {
+            name: "and behind what stands behind it",
+            files: &["macro_rules! foo {} foo!(); pub struct B;"],
+            calls: &[CallText {
+                err: Some(0),
+                ..GIVES_A
+            }],
+            ..ALONE
+        },
+        "module 0 - crate
+binding 0 A types struct:1 pub decl
+binding 0 A values struct:1 pub decl
+binding 0 B types struct:0 pub decl
+binding 0 B values struct:0 pub decl
 ",
     ),
     (

@@ -3,7 +3,7 @@
 
 use crate::tests::rows::{GIVES_A, ITEM, Row, expect_rows};
 use def_ids::{MacroId, MacroRulesId};
-use def_workspace::{ALONE, CALL, CallText, Fault, Vector, Workspace};
+use def_workspace::{ALONE, CALL, CallText, Collected, Fault, Vector, Workspace};
 use item_tree::{FileId, HirFileId, MacroCallId};
 use std::alloc::Global;
 use std::process::Abort;
@@ -320,21 +320,61 @@ const TWO_MACROS: Vector = Vector {
     ..ALONE
 };
 
-/// How many calls the root records, and how many structs their expansions declare, where two macros
-/// call each other.
+/// How many calls the root records, and how many structs their expansions declare.
+fn counts(collected: &Collected) -> Option<(usize, usize)> {
+    let root = collected.def_map.scope(0);
+    root.map(|scope| (scope.invocations().len(), scope.declarations().len()))
+}
+
+/// What is recorded and declared where two macros call each other.
 fn recorded_in_turn(alloc: Global) -> Result<Option<(usize, usize)>, Fault> {
     let mut workspace = Workspace::new(alloc, &TWO_MACROS)?;
     for number in 0..140 {
         workspace.add_call(MacroCallId(number), &in_turn(number))?;
     }
-    let collected = workspace.collect(&ALONE.crates[0])?;
-    let root = collected.def_map.scope(0);
-    Ok(root.map(|scope| (scope.invocations().len(), scope.declarations().len())))
+    Ok(counts(&workspace.collect(&ALONE.crates[0])?))
 }
 
 /// All but the last call that is recorded are expanded.
 #[test]
 fn two_macros_that_call_each_other_stop(rt: HostRuntime) -> Result<(), Fault> {
     assert_eq!(rt; recorded_in_turn(rt.alloc())?, Some((129, 128)));
+    Ok(())
+}
+
+/// A call of a chain by its number, where two files include each other: each has a struct and a call
+/// that includes the other one.
+fn included(number: usize) -> CallText {
+    let gives = if number % 2 == 0 {
+        "struct A; inc!();"
+    } else {
+        "struct B; inc!();"
+    };
+    CallText {
+        gives,
+        is_include: true,
+        ..chained(CALL, number)
+    }
+}
+
+/// The crate that includes the first of the two.
+const INCLUDES: Vector = Vector {
+    files: &["macro_rules! inc {} inc!();"],
+    ..ALONE
+};
+
+/// What is recorded and declared where two files include each other.
+fn recorded_of_includes(alloc: Global) -> Result<Option<(usize, usize)>, Fault> {
+    let mut workspace = Workspace::new(alloc, &INCLUDES)?;
+    for number in 0..140 {
+        workspace.add_call(MacroCallId(number), &included(number))?;
+    }
+    Ok(counts(&workspace.collect(&ALONE.crates[0])?))
+}
+
+/// All but the last call that is recorded are expanded.
+#[test]
+fn two_files_that_include_each_other_stop(rt: HostRuntime) -> Result<(), Fault> {
+    assert_eq!(rt; recorded_of_includes(rt.alloc())?, Some((129, 128)));
     Ok(())
 }

@@ -113,7 +113,7 @@ fn nothing_is_given_up_while_something_moves(rt: HostRuntime) -> Result<(), Faul
 }
 
 /// Rows in which more than one waits, with the reports in the order in which items are given up.
-static IN_ORDER: [Row; 3] = [
+static IN_ORDER: [Row; 4] = [
     (
         Vector {
             name: "the last that waits takes the place of the one that is given up",
@@ -146,6 +146,34 @@ binding 0 B values struct:1 pub decl
 diag unresolved-macro 0 0:0 attr:0 x
 diag unresolved-macro 0 0:0 attr:1 y
 diag unresolved-macro 0 0:1 attr:0 b
+",
+    ),
+    (
+        Vector {
+            name: "or what an expansion brought behind those that stayed",
+            files: &[
+                "pub macro late {} #[a] pub struct A; crate::late!();
+                #[b] pub struct B;",
+            ],
+            calls: &[CallText {
+                ast_id: 2,
+                of: ITEM,
+                gives: "#[c] pub struct C;",
+                ..CALL
+            }],
+            ..ALONE
+        },
+        "module 0 - crate
+binding 0 A types struct:0 pub decl
+binding 0 A values struct:0 pub decl
+binding 0 B types struct:2 pub decl
+binding 0 B values struct:2 pub decl
+binding 0 C types struct:1 pub decl
+binding 0 C values struct:1 pub decl
+binding 0 late macros macro:0 pub decl
+diag unresolved-macro 0 0:1 attr:0 a
+diag unresolved-macro 0 m0:0 attr:0 c
+diag unresolved-macro 0 0:3 attr:0 b
 ",
     ),
     (

@@ -3,8 +3,9 @@
 
 use crate::tests::rows::{A_ALONE, A_AND_D, GIVES_A, ITEM, OVER_D, Row, expect_rows};
 use def_ids::{Macro2Id, MacroId};
-use def_workspace::{ALONE, CALL, CallText, Fault, Vector};
-use item_tree::{FileId, HirFileId};
+use def_locs::BuiltinAttr;
+use def_workspace::{ALONE, BuiltinAttrText, CALL, CallText, Fault, Vector};
+use item_tree::{FileId, HirFileId, MacroCallId};
 
 /// The second `macro` item.
 const SECOND_ITEM: MacroId = MacroId::Macro2(Macro2Id(1));
@@ -373,4 +374,94 @@ diag unresolved-module 1 m0:0 x.rs,x/mod.rs
 #[test]
 fn files_of_an_expansion_are_found_later_too(rt: HostRuntime) -> Result<(), Fault> {
     expect_rows(&rt, rt.alloc(), &DIRECTORIES)
+}
+
+/// Rows in which some of what waits stays in a pass, and some leaves and brings more.
+static KEPT: [Row; 2] = [
+    (
+        Vector {
+            name: "what stays stands before what a list of derives and an expansion bring",
+            files: &[
+                "#[rustc_builtin_macro] pub macro derive {} pub macro late {}
+                gone!(); #[derive(D)] pub struct S; lost!(); crate::late!(); last!();",
+            ],
+            builtin_attrs: &[BuiltinAttrText {
+                name: "derive",
+                attr: BuiltinAttr::Derive,
+            }],
+            calls: &[CallText {
+                ast_id: 5,
+                of: SECOND_ITEM,
+                gives: "new!();",
+                ..CALL
+            }],
+            ..ALONE
+        },
+        "module 0 - crate
+binding 0 S types struct:0 pub decl
+binding 0 S values struct:0 pub decl
+binding 0 derive macros macro:0 pub decl
+binding 0 late macros macro:1 pub decl
+diag unresolved-macro 0 0:2 fn gone
+diag unresolved-macro 0 0:4 fn lost
+diag unresolved-macro 0 0:6 fn last
+diag unresolved-macro 0 0:3 derive:0.0 D
+diag unresolved-macro 0 m0:0 fn new
+left macro 0 fn gone
+left macro 0 fn lost
+left macro 0 fn last
+left macro 0 derive D
+left macro 0 fn new
+",
+    ),
+    (
+        Vector {
+            name: "over more than one pass",
+            files: &["pub macro late {} a!(); crate::late!(); b!(); crate::late!(); c!();"],
+            calls: &[
+                CallText {
+                    ast_id: 2,
+                    of: ITEM,
+                    gives: "d!(); crate::late!(); e!();",
+                    ..CALL
+                },
+                CallText {
+                    ast_id: 4,
+                    of: ITEM,
+                    gives: "f!();",
+                    ..CALL
+                },
+                CallText {
+                    file: HirFileId::Macro(MacroCallId(0)),
+                    of: ITEM,
+                    gives: "g!();",
+                    ..CALL
+                },
+            ],
+            ..ALONE
+        },
+        "module 0 - crate
+binding 0 late macros macro:0 pub decl
+diag unresolved-macro 0 0:1 fn a
+diag unresolved-macro 0 0:3 fn b
+diag unresolved-macro 0 0:5 fn c
+diag unresolved-macro 0 m0:0 fn d
+diag unresolved-macro 0 m0:2 fn e
+diag unresolved-macro 0 m1:0 fn f
+diag unresolved-macro 0 m2:0 fn g
+left macro 0 fn a
+left macro 0 fn b
+left macro 0 fn c
+left macro 0 fn d
+left macro 0 fn e
+left macro 0 fn f
+left macro 0 fn g
+",
+    ),
+];
+
+/// What stays keeps its order.
+#[test]
+fn what_stays_stands_first(rt: HostRuntime) -> Result<(), Fault> {
+    expect_rows(&rt, rt.alloc(), &KEPT)
 }
