@@ -24,7 +24,7 @@ pub struct Asked {
 }
 
 /// What each word asks for.
-static WORDS: [(&str, Subject); 15] = [
+static WORDS: [(&str, Subject); 16] = [
     ("all", Subject::All),
     ("items", Subject::One(Shape::Items)),
     ("imports", Subject::One(Shape::Imports)),
@@ -35,6 +35,7 @@ static WORDS: [(&str, Subject); 15] = [
     ("calls", Subject::One(Shape::Calls)),
     ("call-chain", Subject::One(Shape::CallChain)),
     ("queued", Subject::One(Shape::QueuedCalls)),
+    ("rounds", Subject::One(Shape::Rounds)),
     ("derives", Subject::One(Shape::Derives)),
     ("fallback", Subject::One(Shape::GivenUp)),
     ("trees", Subject::Trees),

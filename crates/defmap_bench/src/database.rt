@@ -15,8 +15,8 @@ use item_tree::{
 use std::alloc::{AllocError, Global};
 
 /// One crate in one file. Each question about a file or a crate is about these. The number of a
-/// call or of a derive is that of its item, so both stand in the file alone. Each builtin attribute
-/// macro reads derives.
+/// call or of a derive is that of its item, so no item of an expansion that is called or derives may
+/// have the number of another. Each builtin attribute macro reads derives.
 #[derive(Drop)]
 pub struct OneFile {
     pub tree: ItemTree,

@@ -4,14 +4,22 @@ use crate::ratio::Ratio;
 use std::io;
 use std::time::Duration;
 
-/// What was measured of one crate: how large it is, how long its definitions took to be collected,
-/// and how long the kit's map took for the same places.
+/// What the time of a crate is divided by.
+#[derive(Clone, Copy)]
+pub enum Counted {
+    Bindings,
+    Rounds,
+}
+
+/// What was measured of one crate: how large it is, how many bindings or rounds it has, how long its
+/// definitions took to be collected, and how long the kit's map took for the same places, where
+/// bindings are counted.
 #[derive(Clone, Copy)]
 pub struct Figures {
     pub items: usize,
-    pub bindings: usize,
+    pub counted: usize,
     pub time: Duration,
-    pub places_time: Duration,
+    pub places_time: Option<Duration>,
 }
 
 /// What stands in a column.
@@ -32,24 +40,33 @@ static WIDTHS: [usize; 7] = [9, 10, 8, 9, 8, 10, 9];
 pub fn lesser(one: Figures, other: Figures) -> Figures {
     Figures {
         items: one.items,
-        bindings: one.bindings,
+        counted: one.counted,
         time: one.time.min(other.time),
-        places_time: one.places_time.min(other.places_time),
+        places_time: lesser_time(one.places_time, other.places_time),
     }
 }
 
-/// How many nanoseconds one of so many bindings takes.
-fn nanos_each(time: Duration, bindings: usize) -> u128 {
-    time.as_nanos() / (bindings as u128).max(1)
+/// The lesser of two times, if both were measured.
+fn lesser_time(one: Option<Duration>, other: Option<Duration>) -> Option<Duration> {
+    match (one, other) {
+        (Some(one), Some(other)) => Some(one.min(other)),
+        _ => None,
+    }
 }
 
-/// How many times the cost of a binding of the smaller crate one of the larger crate costs.
+/// How many nanoseconds one of so many bindings or rounds takes.
+fn nanos_each(time: Duration, counted: usize) -> u128 {
+    time.as_nanos() / (counted as u128).max(1)
+}
+
+/// How many times the cost of a binding or a round of the smaller crate one of the larger crate
+/// costs.
 fn to_smaller(larger: Figures, smaller: Figures) -> Ratio {
     let cost = larger.time.as_nanos();
     let smaller_cost = smaller.time.as_nanos();
     Ratio::new(
-        cost.saturating_mul(smaller.bindings as u128),
-        smaller_cost.saturating_mul(larger.bindings as u128),
+        cost.saturating_mul(smaller.counted as u128),
+        smaller_cost.saturating_mul(larger.counted as u128),
     )
 }
 
@@ -61,18 +78,33 @@ fn to_less(figures: Figures, smaller: Option<Figures>) -> Cell {
     }
 }
 
+/// The time of one place in the kit's map, if that was measured.
+fn of_place(figures: Figures) -> Cell {
+    match figures.places_time {
+        Some(time) => Cell::Number(nanos_each(time, figures.counted)),
+        None => Cell::Nothing,
+    }
+}
+
+/// The ratio to the time of the kit's map, if that was measured.
+fn to_places(figures: Figures) -> Cell {
+    match figures.places_time {
+        Some(time) => Cell::Ratio(Ratio::new(figures.time.as_nanos(), time.as_nanos())),
+        None => Cell::Nothing,
+    }
+}
+
 /// What stands in the columns.
 fn cells(figures: Figures, smaller: Option<Figures>) -> [Cell; 7] {
     let time = figures.time;
-    let places_time = figures.places_time;
     [
         Cell::Number(figures.items as u128),
-        Cell::Number(figures.bindings as u128),
+        Cell::Number(figures.counted as u128),
         Cell::Number(time.as_millis()),
-        Cell::Number(nanos_each(time, figures.bindings)),
+        Cell::Number(nanos_each(time, figures.counted)),
         to_less(figures, smaller),
-        Cell::Number(nanos_each(places_time, figures.bindings)),
-        Cell::Ratio(Ratio::new(time.as_nanos(), places_time.as_nanos())),
+        of_place(figures),
+        to_places(figures),
     ]
 }
 
@@ -90,7 +122,7 @@ fn print_cell<W: io::Write>(out: &mut W, width: usize, cell: Cell) -> io::Result
     match cell {
         Cell::Number(number) => print_number(out, width, number),
         Cell::Ratio(ratio) => print_ratio(out, width, ratio),
-        Cell::Nothing => write!(out, "       -"),
+        Cell::Nothing => write!(out, "{:>width$}", "-"),
     }
 }
 
@@ -108,9 +140,13 @@ pub fn print_line<W: io::Write>(
 }
 
 /// Prints what the columns are.
-pub fn print_head<W: io::Write>(out: &mut W, title: &str) -> io::Result<()> {
+pub fn print_head<W: io::Write>(out: &mut W, title: &str, counted: Counted) -> io::Result<()> {
+    let counted = match counted {
+        Counted::Bindings => "bindings",
+        Counted::Rounds => "  rounds",
+    };
     writeln!(
         out,
-        "{title}\n    items  bindings      ms  ns each  to less  ns place  times place"
+        "{title}\n    items  {counted}      ms  ns each  to less  ns place  times place"
     )
 }

@@ -26,7 +26,7 @@ use std::rt::{Clock, Env};
 use std::{env, io};
 
 /// The shapes that are measured where all are asked for.
-static ALL: [Shape; 11] = [
+static ALL: [Shape; 12] = [
     Shape::Items,
     Shape::Imports,
     Shape::Star,
@@ -36,6 +36,7 @@ static ALL: [Shape; 11] = [
     Shape::Calls,
     Shape::CallChain,
     Shape::QueuedCalls,
+    Shape::Rounds,
     Shape::Derives,
     Shape::GivenUp,
 ];
@@ -82,7 +83,7 @@ fn main(rt: HostRuntime) -> io::Result<ExitCode> {
     let words = words_of(&rt)?;
     let Some(asked) = asked_by(words.as_slice()) else {
         eprintln!(rt;
-            "usage: defmap_bench SHAPE [GREATEST]\nshapes: all, items, imports, star, chain, real, passes, calls, call-chain, queued, derives, fallback\n   or: defmap_bench trees | tables | globs"
+            "usage: defmap_bench SHAPE [GREATEST]\nshapes: all, items, imports, star, chain, real, passes, calls, call-chain, queued, rounds, derives, fallback\n   or: defmap_bench trees | tables | globs"
         )?;
         return Ok(ExitCode::from(2));
     };

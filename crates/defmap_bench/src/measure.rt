@@ -2,7 +2,7 @@
 ghost use Rattle.std.specs.Prelude.{◌≡◌, None};
 
 use crate::database::OneFile;
-use crate::figures::{Figures, lesser, print_head, print_line};
+use crate::figures::{Counted, Figures, lesser, print_head, print_line};
 use crate::places::{Place, places_of, time_places};
 use crate::shape::{Plan, Shape, given_lines, lines_of};
 use crate::tree::{named_tree, trees_of};
@@ -17,10 +17,10 @@ use std::rt::Clock;
 use std::time::{Duration, Instant};
 
 /// A small crate is measured so often that this many items come together, and any once. The
-/// fastest round counts.
+/// fastest time counts.
 const ITEMS_IN_ALL: usize = 1_000_000;
 
-const MOST_ROUNDS: usize = 40;
+const MOST_TIMES: usize = 40;
 
 /// What one run gave: how many items there were, the places that are bound, and the time.
 #[derive(Drop)]
@@ -92,6 +92,9 @@ fn places_in(alloc: Global, collected: &Collected) -> io::Result<Vec<Place>> {
     if !collected.outcome.macros.is_empty() {
         return Err(io::Error::other("a call is left over"));
     }
+    if collected.outcome.limit_met {
+        return Err(io::Error::other("the limit of rounds is met"));
+    }
     Ok(places_of(alloc, &collected.def_map)?)
 }
 
@@ -113,30 +116,36 @@ fn run_once<C: Clock>(alloc: Global, clock: &C, plan: Plan) -> io::Result<Run> {
     time_collect(alloc, clock, &mut written)
 }
 
-/// One round of what is measured.
+/// What is measured, once.
 fn measure_once<C: Clock>(alloc: Global, clock: &C, plan: Plan) -> io::Result<Figures> {
     let run = run_once(alloc, clock, plan)?;
-    let places_time = time_places(alloc, clock, run.places.as_slice())?;
+    let (counted, places_time) = match plan.shape.counted() {
+        Counted::Bindings => {
+            let time = time_places(alloc, clock, run.places.as_slice())?;
+            (run.places.len(), Some(time))
+        }
+        Counted::Rounds => (plan.size, None),
+    };
     Ok(Figures {
         items: run.items,
-        bindings: run.places.len(),
+        counted,
         time: run.time,
         places_time,
     })
 }
 
-/// How many rounds a crate is measured.
-fn rounds_of(plan: Plan) -> usize {
+/// How often a crate is measured.
+fn times_of(plan: Plan) -> usize {
     match plan.shape {
         Shape::OneEachPass => 1,
-        _ => (ITEMS_IN_ALL / plan.size.max(1)).clamp(1, MOST_ROUNDS),
+        _ => (ITEMS_IN_ALL / plan.size.max(1)).clamp(1, MOST_TIMES),
     }
 }
 
-/// The least times of some rounds.
+/// The least times of some measurements.
 fn measure<C: Clock>(alloc: Global, clock: &C, plan: Plan) -> io::Result<Figures> {
     let mut figures = measure_once(alloc, clock, plan)?;
-    for _ in 1..rounds_of(plan) {
+    for _ in 1..times_of(plan) {
         figures = lesser(figures, measure_once(alloc, clock, plan)?);
     }
     Ok(figures)
@@ -163,7 +172,7 @@ pub fn measure_shape<C: Clock, W: io::Write>(
     shape: Shape,
     greatest: usize,
 ) -> io::Result<()> {
-    print_head(out, shape.title())?;
+    print_head(out, shape.title(), shape.counted())?;
     let mut smaller = None;
     for size in shape.sizes() {
         if *size <= greatest {

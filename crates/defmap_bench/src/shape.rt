@@ -1,5 +1,6 @@
 //! The shapes of synthetic crates.
 
+use crate::figures::Counted;
 use crate::random::Random;
 use crate::text::{
     Item, Kind, Line, Seen, Taken, import_line, item_line, module_line, root_line, struct_line,
@@ -28,6 +29,9 @@ pub enum Shape {
     CallChain,
     /// Calls of a macro that is defined behind them, each of which gives a struct.
     QueuedCalls,
+    /// A call that gives nothing but the next one, and so on, so that each pass over the macros finds
+    /// one: as many rounds as the size says.
+    Rounds,
     /// Structs with three derives each, whose macros are found at once. A derive's call is named by
     /// its struct alone, so the three share one expansion, an impl, which is walked three times.
     Derives,
@@ -94,6 +98,9 @@ static REAL_SIZES: [usize; 4] = [2_550, 10_200, 102_000, 1_020_000];
 
 static PASS_SIZES: [usize; 3] = [402, 2_002, 20_002];
 
+/// The numbers of rounds. A run may make 8192.
+static ROUND_SIZES: [usize; 4] = [1_000, 2_000, 4_000, 8_000];
+
 /// The numbers of items of which one is given up after each pass.
 static GIVEN_UP_SIZES: [usize; 2] = [400, 2_000];
 
@@ -113,6 +120,8 @@ impl Shape {
             Shape::Calls => "calls of one macro, each of which gives a struct",
             Shape::CallChain => "a chain of calls: each gives the macro of the next one",
             Shape::QueuedCalls => "calls before their macro: one pass expands them all",
+            Shape::Rounds =>
+                "rounds: each pass over the macros finds one call, which gives the next",
             Shape::Derives => "structs with three derives each",
             Shape::GivenUp => {
                 "structs whose attributes have no macros: quadratic, so only small sizes"
@@ -121,11 +130,20 @@ impl Shape {
         }
     }
 
-    /// The numbers of items that it is built with, the smallest first.
+    /// What the time is divided by.
+    pub fn counted(self) -> Counted {
+        match self {
+            Shape::Rounds => Counted::Rounds,
+            _ => Counted::Bindings,
+        }
+    }
+
+    /// The numbers of items that it is built with, or of rounds, the smallest first.
     pub fn sizes(self) -> &'static [usize] {
         match self {
             Shape::RealCode => REAL_SIZES.as_slice(),
             Shape::OneEachPass => PASS_SIZES.as_slice(),
+            Shape::Rounds => ROUND_SIZES.as_slice(),
             Shape::GivenUp => GIVEN_UP_SIZES.as_slice(),
             _ => THREE_SIZES.as_slice(),
         }
@@ -136,7 +154,7 @@ impl Shape {
 #[derive(Clone, Copy)]
 pub struct Plan {
     pub shape: Shape,
-    /// About how many items.
+    /// About how many items, or how many rounds.
     pub size: usize,
 }
 
@@ -149,6 +167,7 @@ fn length(plan: Plan) -> usize {
         Shape::RealCode => plan.size / REAL_LINES * REAL_LINES,
         Shape::Calls | Shape::CallChain | Shape::QueuedCalls => plan.size.saturating_add(1),
         Shape::GivenUp => plan.size,
+        Shape::Rounds => 2,
         Shape::Derives => plan.size.saturating_add(2),
         _ => half.saturating_mul(2).saturating_add(SOURCE_LINES),
     }
@@ -355,6 +374,14 @@ fn queued_line(calls: usize, place: usize) -> Line {
     }
 }
 
+/// A macro, and a call of it by its path.
+fn rounds_line(place: usize) -> Line {
+    match place {
+        0 => root_line(Item::MacroItem(0)),
+        _ => root_line(Item::CallFromRoot(0)),
+    }
+}
+
 /// The builtin macro of all attributes, the macro of all derives, and structs that derive it.
 fn deriving_line(place: usize) -> Line {
     match place {
@@ -382,6 +409,7 @@ fn given_at(shape: Shape, place: usize) -> Option<Item> {
     match shape {
         Shape::Calls | Shape::QueuedCalls => Some(public_item(place, Kind::Struct)),
         Shape::CallChain => Some(Item::Macro(place)),
+        Shape::Rounds => Some(Item::CallFromRoot(0)),
         Shape::Derives => Some(public_item(place, Kind::Impl)),
         _ => None,
     }
@@ -399,6 +427,7 @@ fn line_at(plan: Plan, random: &mut Random, open: usize, place: usize) -> Line {
         Shape::Calls => call_line(place, 0),
         Shape::CallChain => call_line(place, place.saturating_sub(1)),
         Shape::QueuedCalls => queued_line(plan.size, place),
+        Shape::Rounds => rounds_line(place),
         Shape::Derives => deriving_line(place),
         Shape::GivenUp => given_up_line(plan.size, place),
         Shape::Nested => pattern_line(place),
@@ -418,10 +447,19 @@ pub fn lines_of(alloc: Global, plan: Plan) -> Result<Vec<Line>, AllocError> {
     Ok(lines)
 }
 
-/// What the calls of a crate give: a line for each line of its text, if it has calls.
+/// How many lines the calls of a crate give: one for each line of its text, or for each round.
+fn given_length(plan: Plan) -> usize {
+    match plan.shape {
+        Shape::Rounds => plan.size,
+        _ => length(plan),
+    }
+}
+
+/// What the calls of a crate give, by their numbers, if it has calls. Of rounds the last call gives
+/// nothing, since calls are numbered from 1 there.
 pub fn given_lines(alloc: Global, plan: Plan) -> Result<Vec<Line>, AllocError> {
     let mut lines = Vec::new(alloc);
-    for place in 0..length(plan) {
+    for place in 0..given_length(plan) {
         if let Some(item) = given_at(plan.shape, place) {
             lines.push(root_line(item))?;
         }

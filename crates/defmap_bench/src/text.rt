@@ -63,6 +63,10 @@ pub enum Item {
     Builtin(usize),
     /// A call of the macro of this number.
     Call(usize),
+    /// A public `macro` item.
+    MacroItem(usize),
+    /// A call of the macro of this number by its path from the crate's root.
+    CallFromRoot(usize),
 }
 
 /// A line of a text: in how many modules it stands, and what stands on it. The lines of a module's

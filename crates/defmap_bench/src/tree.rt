@@ -3,9 +3,9 @@
 use crate::text::{Item, Kind, Line, Seen, Taken};
 use def_interner::Interner;
 use item_tree::{
-    Attr, Attrs, AttrsOrCfg, CtorVisibility, ExpandTo, FileAstId, ImportKind, ItemNode, ItemTree,
-    ModContents, ModItemId, ModItemKind, ModPath, Name, PathKind, RawVisibility, Seq,
-    SyntaxContext, UseImport, sym,
+    Attr, AttrInput, Attrs, AttrsOrCfg, CtorVisibility, ExpandTo, FileAstId, ImportKind, ItemNode,
+    ItemTree, ModContents, ModItemId, ModItemKind, ModPath, Name, PathKind, RawVisibility, Seq,
+    SyntaxContext, Text, UseImport, sym,
 };
 use std::alloc::{AllocError, Global};
 use std::io;
@@ -53,7 +53,9 @@ fn own_name(alloc: Global, session: &mut Interner, item: Item) -> Result<Name, A
         | Item::Import { module: number, .. }
         | Item::Macro(number)
         | Item::Builtin(number)
-        | Item::Call(number) => name_of(alloc, session, "m", number),
+        | Item::Call(number)
+        | Item::MacroItem(number)
+        | Item::CallFromRoot(number) => name_of(alloc, session, "m", number),
     }
 }
 
@@ -242,6 +244,15 @@ fn one_import(alloc: Global, names: Names) -> Result<Seq<UseImport>, AllocError>
     Ok(imports)
 }
 
+/// A call of a macro.
+fn call_kind(alloc: Global, kind: PathKind, names: Names) -> Result<ModItemKind, AllocError> {
+    Ok(ModItemKind::MacroCall {
+        path: path_of(alloc, kind, names)?,
+        expand_to: ExpandTo::Items,
+        ctxt: SyntaxContext(0),
+    })
+}
+
 /// What the item of the line of a number is.
 fn kind_of(
     alloc: Global,
@@ -262,22 +273,20 @@ fn kind_of(
         }),
         Item::Deriving { .. } => { Ok(plain_kind(Kind::Struct, names.own, RawVisibility::Public)) }
         Item::Macro(_) => Ok(ModItemKind::MacroRules { name: names.own }),
-        Item::Builtin(_) => Ok(ModItemKind::Macro2 {
+        Item::Builtin(_) | Item::MacroItem(_) => Ok(ModItemKind::Macro2 {
             name: names.own,
             visibility: RawVisibility::Public,
         }),
-        Item::Call(_) => Ok(ModItemKind::MacroCall {
-            path: path_of(alloc, PathKind::Plain, names)?,
-            expand_to: ExpandTo::Items,
-            ctxt: SyntaxContext(0),
-        }),
+        Item::Call(_) => call_kind(alloc, PathKind::Plain, names),
+        Item::CallFromRoot(_) => call_kind(alloc, PathKind::Crate, names),
     }
 }
 
-/// Adds the item of the next line.
+/// Adds the item of the next line, where the first has this number.
 fn add_item(
     alloc: Global,
     items: &mut Vec<ItemNode>,
+    first: usize,
     lines: &[Line],
     line: Line,
     names: Names,
@@ -285,23 +294,24 @@ fn add_item(
     let number = items.len();
     let kind = kind_of(alloc, lines, number, line, names)?;
     items.push(ItemNode {
-        ast_id: FileAstId(number),
+        ast_id: FileAstId(first.saturating_add(number)),
         attrs: attributes_of(alloc, names)?,
         kind,
     })?;
     Ok(())
 }
 
-/// The items of a text, under names of a session.
+/// The items of a text, under names of a session, numbered from a first number on.
 fn named_items(
     alloc: Global,
     session: &mut Interner,
+    first: usize,
     lines: &[Line],
 ) -> Result<Vec<ItemNode>, AllocError> {
     let mut items = Vec::new(alloc);
     for line in lines {
         let names = names_of(alloc, session, line.item)?;
-        add_item(alloc, &mut items, lines, *line, names)?;
+        add_item(alloc, &mut items, first, lines, *line, names)?;
     }
     Ok(items)
 }
@@ -315,25 +325,48 @@ fn numbered_items(alloc: Global, lines: &[Line]) -> Result<Vec<ItemNode>, AllocE
             taken: None,
             attribute: None,
         };
-        add_item(alloc, &mut items, lines, *line, names)?;
+        add_item(alloc, &mut items, 0, lines, *line, names)?;
     }
     Ok(items)
 }
 
-/// These items in a file without attributes.
-fn in_file(alloc: Global, lines: &[Line], items: Vec<ItemNode>) -> Result<Nodes, AllocError> {
+/// These items in a file with these attributes.
+fn in_file(
+    alloc: Global,
+    lines: &[Line],
+    items: Vec<ItemNode>,
+    list: Seq<Attr>,
+) -> Result<Nodes, AllocError> {
     Ok(Nodes {
         top: numbers_at(alloc, lines, 0, 0)?,
-        attrs: AttrsOrCfg::Enabled(Attrs {
-            list: Seq::from_vec(Vec::new(alloc)),
-        }),
+        attrs: AttrsOrCfg::Enabled(Attrs { list }),
         items,
+    })
+}
+
+/// No attributes.
+fn no_attributes(alloc: Global) -> Seq<Attr> {
+    Seq::from_vec(Vec::new(alloc))
+}
+
+/// The attribute of a file whose expansions may nest as deep as there may be rounds.
+fn limit_attribute(alloc: Global) -> Result<Attr, AllocError> {
+    Ok(Attr {
+        path: path_to(alloc, sym::RECURSION_LIMIT)?,
+        input: Some(AttrInput::Str(Text::from_str(alloc, "8192")?)),
+        ctxt: SyntaxContext(0),
+        paths: None,
     })
 }
 
 /// What the tree of a text without imports is made of. The names are numbers.
 pub fn numbered_nodes(alloc: Global, lines: &[Line]) -> Result<Nodes, AllocError> {
-    in_file(alloc, lines, numbered_items(alloc, lines)?)
+    in_file(
+        alloc,
+        lines,
+        numbered_items(alloc, lines)?,
+        no_attributes(alloc),
+    )
 }
 
 /// The tree of these items.
@@ -345,20 +378,35 @@ pub fn tree_of(nodes: Nodes) -> io::Result<ItemTree> {
     }
 }
 
-/// The tree of a text, under names of a session.
+/// The tree of a crate's text, under names of a session.
 pub fn named_tree(alloc: Global, session: &mut Interner, lines: &[Line]) -> io::Result<ItemTree> {
-    tree_of(in_file(alloc, lines, named_items(alloc, session, lines)?)?)
+    let items = named_items(alloc, session, 0, lines)?;
+    let mut attributes = no_attributes(alloc);
+    attributes.push(limit_attribute(alloc)?)?;
+    tree_of(in_file(alloc, lines, items, attributes)?)
 }
 
-/// The trees of these lines, each of which is a text of its own.
+/// The tree of what the call of a number gives. Its items are numbered from the next number on, so
+/// that each call has a number of its own.
+fn given_tree(
+    alloc: Global,
+    session: &mut Interner,
+    call: usize,
+    lines: &[Line],
+) -> io::Result<ItemTree> {
+    let items = named_items(alloc, session, call.saturating_add(1), lines)?;
+    tree_of(in_file(alloc, lines, items, no_attributes(alloc))?)
+}
+
+/// The trees of these lines, each of which is what the call of its place gives.
 pub fn trees_of(
     alloc: Global,
     session: &mut Interner,
     lines: &[Line],
 ) -> io::Result<Vec<ItemTree>> {
     let mut trees = Vec::new(alloc);
-    for line in lines.chunks(1) {
-        trees.push(named_tree(alloc, session, line)?)?;
+    for (call, line) in lines.chunks(1).enumerate() {
+        trees.push(given_tree(alloc, session, call, line)?)?;
     }
     Ok(trees)
 }
