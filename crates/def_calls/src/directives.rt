@@ -1,5 +1,5 @@
 //! Calls as they are written, calls and items that wait for macros, and calls that were made.
-ghost use Rattle.std.specs.Prelude.{◌≡◌, ◌++◌, ◌∷◌, [], List, false, not, Some, map, slice_get, filter, IfOk, OnOk};
+ghost use Rattle.std.specs.Prelude.{◌≡◌, ◌++◌, ◌∷◌, [], List, false, not, Some, map, slice_get, filter, true, IfOk, OnOk};
 ghost use Rattle.def_calls.specs.declared.directives.MacroDirective.{MacroDirective as Directive};
 ghost use Rattle.def_calls.specs.Shown.{IsTurned, expansion_shown, kind_of, leaves, macro_directive_of, macros_in, with_waiting, written_derive_of};
 ghost use Rattle.def_modules.specs.Maps.{map_state};
@@ -180,7 +180,7 @@ pub fn stay<'a>(
 ) -> Result<(), AllocError>
     requires { slice_get directives.old.items 0 ≡ Some directive }
     ensures { OnOk result ((others : List Directive) → directives.old.items ≡ directive.entry ∷ others →
-        macros_in directives.new.items ≡ macros_in others ++ macro_directive_of directive.entry ∷ []) }
+        directives.new.items ≡ others ++ record directive.entry { asked = true } ∷ []) }
 {
     leave(directives, directive);
     let asked = MacroDirective {

@@ -1,4 +1,5 @@
-use Rattle.std.proofs.Common.{ap, refl, ◌∙◌}
+use Rattle.std.proofs.Common.{true, [], ◌∷◌, ap, refl, ◌∙◌}
+use Rattle.std.proofs.lemmas.List.{map-append}
 use Rattle.def_calls.specs.Shown.{macro_directive_of, macros_in}
 use Rattle.def_calls.proofs.WaitingLemmas.{first_is}
 use Rattle.def_collector.specs.Collector.{state_of}
@@ -21,5 +22,6 @@ returns-clause-turn g c =
     let all = c.args.collector.now.unresolved_macros.items in
     let first = first_is all directive (read_at all 0 directive directive c.requires c.index-directive.ensures refl) in
     let same = c.in_ok-ask_directive.ensures.same c.if-branch.false ∙ first.1 in
+    let behind = ap macros_in (c.in_ok-stay.ensures first.0 same) ∙ map-append macro_directive_of first.0 (record directive { asked = true } ∷ []) in
     had_turn_stayed oracle s t (stays_behind oracle s u t (macro_directive_of directive) (macros_in first.0) (ap macros_in first.1) (c.in_ok-ask_directive.ensures.asked.stayed c.if-branch.false)
-    (ap macros_in same) (λ i. record u { macros = c.in_ok-stay.ensures first.0 same i }))
+    (ap macros_in same) (λ i. record u { macros = behind i }))
