@@ -6,8 +6,10 @@ ghost use Rattle.def_globs.specs.Waves.{KeepsGlobs, AddsEdge};
 ghost use Rattle.def_globs.specs.Globs.{Updates, ClosesTo, KeepsClosed, KeepsCoherent, with_recorded, KeepsClosedWith, KeepsBegins, StaysCoherent, Stays};
 ghost use Rattle.def_globs.specs.Raised.{KeepsRaised, KeepsRaisedWith, RaisesTo};
 
+mod changes;
 mod wave;
 
+use changes::Changes;
 use def_bindings::{BindingTable, EdgeTo, Entry, Namespace, VisOrder, is_raised};
 use def_ids::{GlobId, ModuleId};
 use item_tree::Name;
@@ -40,8 +42,9 @@ fn join<O: VisOrder>(
 /// A table whose names travel along its glob edges. A contract sees the table alone.
 #[derive(Drop)]
 pub struct Globs<T> {
-    alloc: Global,
     table: T,
+    /// The names that changed, while they are watched.
+    changes: Changes,
 }
 
 impl<T> Model for Globs<T> {
@@ -57,7 +60,10 @@ impl<T: BindingTable> Globs<T> {
     pub fn new(alloc: Global, table: T) -> Globs<T>
         ensures { result ≡ table }
     {
-        Globs { alloc, table }
+        Globs {
+            table,
+            changes: Changes::new(alloc),
+        }
     }
 
     /// The table.
@@ -71,8 +77,34 @@ impl<T: BindingTable> Globs<T> {
     pub fn into_table(self) -> T
         ensures { result ≡ self }
     {
-        let Globs { alloc: _, table } = self;
+        let Globs { table, changes: _ } = self;
         table
+    }
+
+    /// Begins to watch which names change.
+    pub fn watch(&mut self)
+        ensures { self.new ≡ self.old }
+    {
+        self.changes.watch();
+    }
+
+    /// Ends the watch, and forgets what changed.
+    pub fn unwatch(&mut self)
+        ensures { self.new ≡ self.old }
+    {
+        self.changes.unwatch();
+    }
+
+    /// The names that changed under the watch, each with its module, and with each change once more.
+    pub fn changed(&self) -> &[(ModuleId, Name)] {
+        self.changes.names()
+    }
+
+    /// Forgets what changed so far.
+    pub fn forget_changed(&mut self)
+        ensures { self.new ≡ self.old }
+    {
+        self.changes.forget();
     }
 
     /// Takes a binding out.
@@ -117,8 +149,8 @@ impl<T: BindingTable> Globs<T> {
         // What stays, refused or not.
         ensures stays { Stays (T.content self.old) (T.content self.new) }
     {
-        let changed = put_list(self.alloc, &mut self.table, order, module, list)?;
-        spread(self.alloc, &mut self.table, order, module, changed)?;
+        let changed = put_list(&mut self.table, &mut self.changes, order, module, list)?;
+        spread(&mut self.table, &mut self.changes, order, module, changed)?;
         Ok(())
     }
 

@@ -6,11 +6,12 @@ ghost use Rattle.def_globs.specs.Pending.{changed_at, copied_all, is_changed, re
 ghost use Rattle.def_globs.specs.Raised.{RaisesPending};
 ghost use Rattle.def_globs.specs.Globs.{Stays};
 
+use super::changes::Changes;
 use def_bindings::{
     Binding, BindingTable, EdgeTo, Entry, Slot, VisOrder, copy_along, put_at, slot_of_entry,
 };
 use def_ids::ModuleId;
-use std::alloc::{AllocError, Global};
+use std::alloc::AllocError;
 
 /// A module whose changed slots are still to be copied along its edges from the next one on.
 #[derive(Drop)]
@@ -61,8 +62,8 @@ fn note(changed: &mut Vec<Slot>, slot: Option<Slot>) -> Result<(), AllocError>
 /// Puts a list in a module, and answers the slots that changed, where the module has an edge to
 /// copy them along. On `Err` a beginning of the list was put.
 pub fn put_list<T: BindingTable, O: VisOrder<Vis = T::Vis>>(
-    alloc: Global,
     table: &mut T,
+    changes: &mut Changes,
     order: &O,
     module: ModuleId,
     list: &[Entry<T::Vis>],
@@ -75,9 +76,10 @@ pub fn put_list<T: BindingTable, O: VisOrder<Vis = T::Vis>>(
 {
     // Most modules have no edge, and then the changed slots need no memory.
     let has_edge = table.edge_at(module, 0).is_some();
-    let mut changed = Vec::new(alloc);
+    let mut changed = Vec::new(changes.alloc);
     for entry in list {
         let slot = put_entry(table, order, module, entry)?;
+        changes.add(module, slot)?;
         if has_edge {
             note(&mut changed, slot)?;
         }
@@ -108,8 +110,8 @@ fn copy_slot<T: BindingTable, O: VisOrder<Vis = T::Vis>>(
 /// Copies slots along an edge, and answers those that changed the importer. On `Err` the first of
 /// them were copied.
 fn copy_all<T: BindingTable, O: VisOrder<Vis = T::Vis>>(
-    alloc: Global,
     table: &mut T,
+    changes: &mut Changes,
     order: &O,
     source: ModuleId,
     edge: EdgeTo<T::Vis>,
@@ -121,9 +123,10 @@ fn copy_all<T: BindingTable, O: VisOrder<Vis = T::Vis>>(
         × (T.content table.new ≡ copied_all o source edge slots.now c)) }
     ensures stays { Stays (T.content table.old) (T.content table.new) }
 {
-    let mut changed = Vec::new(alloc);
+    let mut changed = Vec::new(changes.alloc);
     for slot in slots {
         let copied = copy_slot(table, order, source, edge, *slot)?;
+        changes.add(edge.importer, copied)?;
         note(&mut changed, copied)?;
     }
     Ok(changed)
@@ -132,8 +135,8 @@ fn copy_all<T: BindingTable, O: VisOrder<Vis = T::Vis>>(
 /// Copies changed slots along the edges of a module, and what changes there on from there, until
 /// nothing is left. On `Err` some of the copies were made.
 pub fn spread<T: BindingTable, O: VisOrder<Vis = T::Vis>>(
-    alloc: Global,
     table: &mut T,
+    changes: &mut Changes,
     order: &O,
     module: ModuleId,
     slots: Vec<Slot>,
@@ -155,7 +158,7 @@ pub fn spread<T: BindingTable, O: VisOrder<Vis = T::Vis>>(
     if slots.is_empty() {
         return Ok(());
     }
-    let mut frames = Vec::new(alloc);
+    let mut frames = Vec::new(changes.alloc);
     frames.push(Frame {
         source: module,
         next: 0,
@@ -168,7 +171,7 @@ pub fn spread<T: BindingTable, O: VisOrder<Vis = T::Vis>>(
             slots,
         } = frame;
         if let Some(edge) = table.edge_at(source, next) {
-            let changed = copy_all(alloc, table, order, source, edge, slots.as_slice())?;
+            let changed = copy_all(table, changes, order, source, edge, slots.as_slice())?;
             frames.push(Frame {
                 source,
                 next: next + 1,

@@ -9,6 +9,12 @@ returns-in_err-note-clause-stays g c =
     stays_reached (g.O.VisOrder.order c.args.order.now) c.args.source c.args.edge (content c.args.table.now) _ (content c.loop-slot.table) (content c.copy_slot.new.table)
     c.loop-slot.invariant.stays c.in_ok-copied.ensures.done.1
 
+pub returns-in_err-add-clause-stays : goal.returns-in_err-add-clause-stays
+returns-in_err-add-clause-stays g c =
+    let content = g.T.BindingTable.content in
+    stays_reached (g.O.VisOrder.order c.args.order.now) c.args.source c.args.edge (content c.args.table.now) _ (content c.loop-slot.table) (content c.copy_slot.new.table)
+    c.loop-slot.invariant.stays c.in_ok-copied.ensures.done.1
+
 pub loop-slot-preserved : goal.loop-slot-preserved
 loop-slot-preserved g c =
     let content = g.T.BindingTable.content in

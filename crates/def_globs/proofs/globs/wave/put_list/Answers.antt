@@ -10,6 +10,12 @@ returns-in_err-note-clause-stays g c =
     stays_entry (g.O.VisOrder.order c.args.order.now) c.args.module (content c.args.table.now) c.entry-item.result (content c.loop-entry.table) (content c.put_entry.new.table)
     c.loop-entry.invariant.stays c.in_ok-slot.ensures.done.1
 
+pub returns-in_err-add-clause-stays : goal.returns-in_err-add-clause-stays
+returns-in_err-add-clause-stays g c =
+    let content = g.T.BindingTable.content in
+    stays_entry (g.O.VisOrder.order c.args.order.now) c.args.module (content c.args.table.now) c.entry-item.result (content c.loop-entry.table) (content c.put_entry.new.table)
+    c.loop-entry.invariant.stays c.in_ok-slot.ensures.done.1
+
 pub loop-entry-preserved : goal.loop-entry-preserved
 loop-entry-preserved g c =
     let content = g.T.BindingTable.content in
