@@ -1,2 +1,1 @@
-pub mod ItemAttrs
 pub mod Shown

@@ -1,11 +1,7 @@
 -- Calls that are written or wait for their macros, as the rules see them.
 use Rattle.std.specs.Prelude.{◌≡◌, Bool, true, false, List, [], ◌∷◌, ◌++◌, map}
-use Rattle.def_calls.specs.declared.attrs.AttrUse.{AttrUse}
-use Rattle.def_calls.specs.declared.attrs.AttrUse.TheVariants.{PassesOver, ReadsDerives, ReplacesItem}
-use Rattle.def_calls.specs.declared.attrs.WrittenAttr.{WrittenAttr}
-use Rattle.def_calls.specs.declared.deferred.DeferredDerives.{DeferredDerives}
-use Rattle.def_calls.specs.declared.derives.DeriveList.{DeriveList}
-use Rattle.def_calls.specs.declared.derives.WrittenDerive.{WrittenDerive}
+use Rattle.def_calls.specs.declared.directives.WrittenAttr.{WrittenAttr}
+use Rattle.def_calls.specs.declared.directives.WrittenDerive.{WrittenDerive}
 use Rattle.def_calls.specs.declared.directives.Expansion.{Expansion}
 use Rattle.def_calls.specs.declared.directives.MacroDirective.{MacroDirective}
 use Rattle.def_calls.specs.declared.directives.MacroDirectiveKind.{MacroDirectiveKind}
@@ -13,8 +9,6 @@ use Rattle.def_calls.specs.declared.directives.MacroDirectiveKind.TheVariants.{F
 use Rattle.def_calls.specs.declared.directives.WrittenCall.{WrittenCall}
 use Rattle.def_modules.specs.declared.map.MapData.{MapData}
 use Rattle.def_modules.specs.Maps.{map_state}
-use Rattle.def_rules.specs.Attributes as attributes
-use Rattle.def_rules.specs.Derives.{derives_from}
 use Rattle.def_rules.specs.Directives.{Told, Turn, Stays, GivesCall, GivesDerive, Replaces, WalksItem, turn_effect}
 use Rattle.def_rules.specs.State as rules
 use Rattle.def_rules.specs.Waiting as waits
@@ -30,10 +24,6 @@ written_attr_of written = record { tree = written.tree_id; item = written.item; 
 -- a path of a derive's list, with itself in the place of the reference
 abbrev pub written_derive_of : WrittenDerive → waits.WrittenDerive
 written_derive_of written = record { id = written.attr_id; pos = written.pos; path = written.path.now; ctxt = written.ctxt; call = written.call }
-
--- the derives of a list
-abbrev pub derives_in : DeriveList → List waits.WrittenDerive
-derives_in list = derives_from list.written.attr_id list.call 0 list.paths.now
 
 -- what waits for a macro
 abbrev pub kind_of : MacroDirectiveKind → waits.MacroDirectiveKind
@@ -52,10 +42,6 @@ macros_in directives = map macro_directive_of directives
 -- an expansion that is to be walked
 abbrev pub expansion_shown : Expansion → waits.Expansion
 expansion_shown e = record { scope = e.module_id; container = e.container; depth = e.depth; call = e.call; replaces = e.replaces }
-
--- the derives that are deferred
-abbrev pub deferrals_of : DeferredDerives → waits.Deferrals
-deferrals_of deferred = deferred.by_item.entries
 
 -- the state with this map, and in which these wait
 abbrev pub with_waiting : rules.State → MapData → List MacroDirective → List Expansion → rules.State
@@ -81,9 +67,3 @@ pub record IsLeft (macros : List waits.MacroDirective) (d : waits.MacroDirective
   pub behind : List waits.MacroDirective
   pub stands : macros ≡ before ++ d ∷ behind
   pub left : others ≡ before ++ behind
-
--- what a macro does with the item of its attribute
-abbrev pub attr_use_of : AttrUse → attributes.AttrUse
-attr_use_of PassesOver = attributes.PassesOver
-attr_use_of ReadsDerives = attributes.ReadsDerives
-attr_use_of ReplacesItem = attributes.ReplacesItem

@@ -11,16 +11,37 @@ ghost use Rattle.def_rules.specs.Report.{answer_report, left_macro, unresolved_m
 ghost use Rattle.def_rules.specs.State.{State};
 ghost use Rattle.def_rules.specs.Waiting.{Derive, FnLike, WrittenCall as WrittenCallRule};
 
-use crate::attrs::WrittenAttr;
-use crate::derives::WrittenDerive;
 use crate::queries::deeper;
 use def_ids::{ItemContainerId, ModuleId};
 use def_items::Site;
 use def_map::{CallAnswer, MapData, UnresolvedMacro};
 use def_rules::{DefDiagnostic, DefDiagnosticKind, LeftMacro, LeftMacroKind};
-use item_tree::{ExpandTo, FileAstId, InFile, ItemNode, MacroCallId, ModPath, SyntaxContext};
+use item_tree::{
+    Attr, AttrId, ExpandTo, FileAstId, InFile, ItemNode, MacroCallId, ModItemId, ModPath,
+    SyntaxContext, TreeId,
+};
 use std::alloc::{AllocError, Global};
 use std::collections::VecDeque;
+
+/// An attribute as it is written, its number, and the item that has it.
+#[derive(Clone, Copy)]
+pub struct WrittenAttr<'a> {
+    pub tree_id: TreeId,
+    pub item: ModItemId,
+    pub attr_id: AttrId,
+    pub attr: &'a Attr,
+}
+
+/// A path of a derive attribute's list as it is written: the number of the attribute, the place of
+/// the path, the path with its context, and the attribute's call.
+#[derive(Clone, Copy)]
+pub struct WrittenDerive<'a> {
+    pub attr_id: AttrId,
+    pub pos: usize,
+    pub path: &'a ModPath,
+    pub ctxt: SyntaxContext,
+    pub call: MacroCallId,
+}
 
 /// A macro call as it is written: its path with the context of that, and what its expansion is read
 /// as.

@@ -7,8 +7,7 @@ ghost use Rattle.def_rules.specs.Settled.{IsNoAttribute};
 ghost use Rattle.def_rules.specs.Waiting as waits;
 ghost use Rattle.def_calls.specs.declared.directives.MacroDirective.{MacroDirective};
 
-use crate::attrs::WrittenAttr;
-use crate::directives::{MacroDirective, MacroDirectiveKind};
+use crate::directives::{MacroDirective, MacroDirectiveKind, WrittenAttr};
 use def_rules::{DefDiagnostic, DefDiagnosticKind, LeftMacroKind};
 use std::alloc::AllocError;
 use std::collections::VecDeque;

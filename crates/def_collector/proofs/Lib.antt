@@ -1,13 +1,3 @@
 mod CollectLemmas
-mod FinishLemmas
-mod PassLemmas
-mod TriesLemmas
-mod VisitLemmas
-mod WalkLemmas
-mod CallLemmas
-mod MacroPassLemmas
-mod TurnLemmas
-mod DeriveLemmas
-pub mod GivenLemmas
-pub mod FallbackLemmas
 mod LoopLemmas
+mod WakeLemmas

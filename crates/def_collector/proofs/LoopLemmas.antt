@@ -10,8 +10,8 @@ use Rattle.def_rules.specs.Waiting.{MacroDirective}
 use Rattle.def_laws.specs.Runs.{Collects, HoldRounds}
 use Rattle.def_laws.proofs.RoundsLaws.{holds_both, holds_none, holds_one}
 use Rattle.def_laws.proofs.StepsLaws.{collects_refl, collects_trans}
-use Rattle.def_collector.proofs.FallbackLemmas.{rest_then}
-use Rattle.def_collector.specs.Passes.{Ends, GetsStuck, HasMade, MakesRound}
+use Rattle.def_passes.proofs.FallbackLemmas.{rest_then}
+use Rattle.def_passes.specs.Passes.{Ends, GetsStuck, HasMade, MakesRound}
 
 -- locations were added twice more
 pub adds_twice : (a b c d : Session) → AddsLocations a b → AddsLocations b c → AddsLocations c d → AddsLocations a d

@@ -1,7 +1,4 @@
-pub mod Collector
-pub mod Passes
 pub mod Setting
-pub mod Walk
 pub use Rattle.def_rules.specs.Globs
 pub use Rattle.def_rules.specs.State
 pub use Rattle.def_rules.specs.Imports

@@ -11,8 +11,8 @@ ghost use Rattle.def_map.specs.Fresh.{IsFresh};
 ghost use Rattle.def_modules.specs.Locals.{local_view};
 ghost use Rattle.def_modules.specs.Maps.{map_state};
 ghost use Rattle.def_laws.specs.Finished.{shown};
-ghost use Rattle.def_collector.specs.Collector.{state_of};
-ghost use Rattle.def_collector.specs.Passes.{Ends};
+ghost use Rattle.def_passes.specs.Collector.{state_of};
+ghost use Rattle.def_passes.specs.Passes.{Ends};
 ghost use Rattle.def_collector.specs.Setting.{setting_of};
 ghost use Rattle.def_rules.specs.Headline.{Answers};
 ghost use Rattle.def_rules.specs.Recording.{NoneReady};
@@ -22,22 +22,16 @@ ghost use Rattle.def_rules.specs.Start.{seeded_state, started};
 ghost use Rattle.def_laws.specs.Runs.{Leads};
 ghost use Rattle.def_laws.specs.Sound.{IsSoundWith};
 
-use crate::collector::DefCollector;
-use crate::fallback::fall_back;
-use crate::imports::resolve_imports;
-use crate::macro_pass::resolve_macros;
-use crate::seeding::seed;
-use crate::stack::walk;
-use def_calls::{
-    DeferredDerives, ItemAttrs, MacroDirectiveKind, call_answer, report_left_call,
-    report_left_derive,
-};
+use crate::wakes::import_pass;
+use def_attrs::{DeferredDerives, ItemAttrs};
+use def_calls::{MacroDirectiveKind, call_answer, report_left_call, report_left_derive};
 use def_crates::{MissingCrates, deps_by_name, is_proc_macro_crate, top_attrs};
 use def_ids::{ItemContainerId, MapId, ModuleId};
 use def_interner::Interner;
 use def_items::{ItemList, ModDirs, disabled_by, report_disabled, top_items};
 use def_map::{DefMap, LocalDefMap, SourceDatabase};
 use def_parts::{Globs, ModDir};
+use def_passes::{DefCollector, fall_back, resolve_macros, seed, walk};
 use def_rules::Collected;
 use indexmap::IndexMap;
 use item_tree::{HirFileId, TreeId};
@@ -222,7 +216,10 @@ fn import_passes<'a, D: SourceDatabase>(
         [] (state_of collector.old session.now) [] (state_of collector.new session.now)) }
     ensures settled { OnOk result (NoneReady (D.oracle db.now) (state_of collector.new session.now)) }
 {
-    'resolve_imports: while resolve_imports(collector, db, session)? {}
+    let mut made = 0u32;
+    'passes: while import_pass(collector, db, session, made)? {
+        made = made.saturating_add(1);
+    }
     Ok(())
 }
 

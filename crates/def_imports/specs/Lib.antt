@@ -1,1 +1,2 @@
 pub mod GlobEntries
+pub mod Turns

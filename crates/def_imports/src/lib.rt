@@ -1,8 +1,14 @@
-//! What imports give and globs bring, and how that is put into a map and its table.
+//! What imports give and globs bring, how that is put into a map and its table, and which imports
+//! wake where a name changes.
 #![tactic(auto)]
 
 mod globs;
 mod imports;
+mod reads;
+mod turns;
+mod watchers;
 
 pub use globs::{glob_entries, put_glob};
 pub use imports::{record_named, resolve_import};
+pub use turns::{ImportAt, Turns};
+pub use watchers::Watchers;

@@ -22,3 +22,4 @@ mod paths;
 mod program;
 mod rows;
 mod second_visit;
+mod wakes;

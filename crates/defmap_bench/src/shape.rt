@@ -96,7 +96,7 @@ static THREE_SIZES: [usize; 3] = [10_000, 100_000, 1_000_000];
 
 static REAL_SIZES: [usize; 4] = [2_550, 10_200, 102_000, 1_020_000];
 
-static PASS_SIZES: [usize; 3] = [402, 2_002, 20_002];
+static PASS_SIZES: [usize; 4] = [2_002, 10_002, 100_002, 1_000_002];
 
 /// The numbers of rounds. A run may make 8192.
 static ROUND_SIZES: [usize; 4] = [1_000, 2_000, 4_000, 8_000];
@@ -114,9 +114,7 @@ impl Shape {
             Shape::Chain => "a chain: each module has a glob of the one before",
             Shape::RealCode =>
                 "like real code: modules of 40 items and 10 imports, one in 5 a glob",
-            Shape::OneEachPass => {
-                "one import each pass, half as many as items: quadratic, so only small sizes"
-            }
+            Shape::OneEachPass => "one import each pass, half as many as items",
             Shape::Calls => "calls of one macro, each of which gives a struct",
             Shape::CallChain => "a chain of calls: each gives the macro of the next one",
             Shape::QueuedCalls => "calls before their macro: one pass expands them all",

@@ -5,7 +5,7 @@ use Rattle.def_imports.proofs.ResultLaws.{if_ok}
 use Rattle.def_laws.specs.Runs.{HoldRounds}
 use Rattle.def_laws.proofs.RoundsLaws.{holds_both, holds_none}
 use Rattle.def_laws.proofs.StepsLaws.{collects_sound, collects_trans}
-use Rattle.def_collector.proofs.MacroPassLemmas.{bare_after}
+use Rattle.def_passes.proofs.MacroPassLemmas.{bare_after}
 use Rattle.def_collector.proofs.run.collect.Goals as goal
 
 pub resolution_loop-requires-clause-sound : goal.resolution_loop-requires-clause-sound

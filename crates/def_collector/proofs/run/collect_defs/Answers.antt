@@ -4,7 +4,7 @@ use Rattle.def_interner.specs.Session.{session_of}
 use Rattle.def_map.specs.DefMaps as whole
 use Rattle.def_modules.specs.Locals.{local_view}
 use Rattle.def_laws.specs.Finished.{shown}
-use Rattle.def_collector.specs.Collector.{state_of}
+use Rattle.def_passes.specs.Collector.{state_of}
 use Rattle.def_collector.specs.Setting.{setting_of}
 use Rattle.def_imports.proofs.ResultLaws.{if_ok}
 use Rattle.def_collector.proofs.CollectLemmas.{begun_sound, collected_answers}

@@ -1,6 +1,6 @@
 use Rattle.std.proofs.Common.{[], Contains, arith, false, subst, sym}
-use Rattle.def_collector.specs.Collector.{state_of}
-use Rattle.def_collector.specs.Passes.{Ends}
+use Rattle.def_passes.specs.Collector.{state_of}
+use Rattle.def_passes.specs.Passes.{Ends}
 use Rattle.def_interner.specs.Session.{session_of}
 use Rattle.def_interner.specs.SessionLaws.{adds_refl, adds_trans}
 use Rattle.def_laws.specs.Sound.{IsSoundWith}

@@ -1,6 +1,6 @@
 use Rattle.std.proofs.Common.{◌≡◌, ◌≤◌, []}
-use Rattle.def_collector.specs.Collector.{state_of}
-use Rattle.def_collector.specs.Passes.{HasMade}
+use Rattle.def_passes.specs.Collector.{state_of}
+use Rattle.def_passes.specs.Passes.{HasMade}
 use Rattle.def_interner.specs.Session.{AddsLocations, session_of}
 use Rattle.def_laws.specs.Depths.{waiting_work}
 use Rattle.def_laws.specs.Sound.{IsSoundWith}

@@ -1,4 +1,4 @@
-use Rattle.std.proofs.Common.{ap, subst, ◌∙◌}
+use Rattle.std.proofs.Common.{subst, ◌∙◌}
 use Rattle.def_items.specs.Parts.{with_parts}
 use Rattle.def_laws.specs.Performs.{Updated}
 use Rattle.def_rules.specs.State.{State}

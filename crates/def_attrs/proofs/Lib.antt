@@ -1,0 +1,3 @@
+pub mod AttrsLemmas
+pub mod DerivesLemmas
+pub mod ImplsLemmas

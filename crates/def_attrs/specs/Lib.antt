@@ -1,0 +1,2 @@
+pub mod ItemAttrs
+pub mod Shown

@@ -1,0 +1,194 @@
+//! Attributes of items: which one an item waits for, and what its macro does with the item.
+ghost use Rattle.std.specs.Prelude.{◌≡◌, map, option_map};
+ghost use Rattle.def_attrs.specs.ItemAttrs.{active_of, skipped_of};
+ghost use Rattle.def_attrs.specs.Shown.{attr_use_of};
+ghost use Rattle.def_calls.specs.Shown.{macro_directive_of, written_attr_of};
+ghost use Rattle.def_items.specs.Parts.{site_of};
+ghost use Rattle.def_map.specs.Asking.{world_lent};
+ghost use Rattle.def_modules.specs.Maps.{helper_state, map_state};
+ghost use Rattle.def_modules.specs.Tables.{bound_by};
+ghost use Rattle.def_rules.specs.Attributes as rules;
+ghost use Rattle.def_rules.specs.Attributes.{with_active};
+ghost use Rattle.def_rules.specs.State.{State};
+
+use crate::item_attrs::ItemAttrs;
+use def_calls::{MacroDirective, PathResolver, WrittenAttr};
+use def_ids::ModuleId;
+use def_interner::{MacroDefId, MacroDefKind};
+use def_items::Site;
+use def_locs::BuiltinAttr;
+use def_map::{
+    AttrCallQuery, DeriveHelper, MacroResolver, MacroSubNs, MapData, SourceDatabase, Table, World,
+};
+use item_tree::{
+    Attr, AttrId, AttrsAfter, Crate, FileAstId, InFile, ItemNode, MacroCallId, ModItemId, ModPath,
+    Name, PathKind,
+};
+
+/// What the macro of an attribute does with the item.
+#[derive(Clone, Copy)]
+pub enum AttrUse {
+    /// Nothing: the item is walked without the attribute.
+    PassesOver,
+    /// Its list of derives is read, and the item is walked without the attribute.
+    ReadsDerives,
+    /// It is called, and its expansion stands in the place of the item.
+    ReplacesItem,
+}
+
+/// The attribute whose macro an item waits for, with its number: the first that is neither builtin
+/// nor a tool's, behind the one that was passed over. At the greatest depth there is none.
+pub fn awaited_attr<'a, D: SourceDatabase>(
+    db: &D,
+    def_map: &MapData,
+    item_attrs: &ItemAttrs,
+    site: Site<'_>,
+    id: ModItemId,
+    node: &'a ItemNode,
+) -> Option<(AttrId, &'a Attr)>
+    ensures { (s : State) → let now = record s { map = map_state def_map.now; skipped = skipped_of item_attrs.now } in
+        option_map (λ a. (a.0, a.1.now)) result ≡ rules.awaited_attr (D.oracle db.now) now (site_of site.entry) id node.now }
+{
+    let Some(written) = &node.attrs else {
+        return None;
+    };
+    if site.depth == u32::MAX {
+        return None;
+    }
+    let skipped = item_attrs.skipped(site.tree_id.file, id);
+    let tools = def_map.krate.registered_tools.as_slice();
+    first_unknown(db, tools, written.attrs().iter_after(skipped))
+}
+
+/// The first of these attributes that is neither builtin nor a tool's, with its number.
+fn first_unknown<'a, D: SourceDatabase>(
+    db: &D,
+    tools: &[Name],
+    attrs: AttrsAfter<'a>,
+) -> Option<(AttrId, &'a Attr)>
+    ensures { option_map (λ a. (a.0, a.1.now)) result ≡ rules.first_unknown (D.oracle db.now) tools.now attrs.entry }
+{
+    let mut rest = attrs;
+    'attrs: while let Some((id, attr)) = rest.next() {
+        if !is_builtin_or_registered_attr(db, tools, &attr.path) {
+            return Some((id, attr));
+        }
+    }
+    None
+}
+
+/// Whether a path is that of a builtin attribute, or of one of these tools.
+pub fn is_builtin_or_registered_attr<D: SourceDatabase>(
+    db: &D,
+    tools: &[Name],
+    path: &ModPath,
+) -> bool
+    ensures { result ≡ rules.is_builtin_or_registered_attr (D.oracle db.now) tools.now path.now }
+{
+    match path.kind {
+        PathKind::Plain => are_known(db, tools, path.segments.as_slice()),
+        _ => false,
+    }
+}
+
+/// Whether segments name a builtin attribute, or one of these tools'.
+fn are_known<D: SourceDatabase>(db: &D, tools: &[Name], segments: &[Name]) -> bool
+    ensures { result ≡ rules.are_known (D.oracle db.now) tools.now segments.now }
+{
+    match segments {
+        [] => false,
+        [name] => tools.contains(name) || db.is_builtin_attr(*name),
+        [name, ..] => tools.contains(name),
+    }
+}
+
+/// Whether an attribute of the item at a position is a helper of one of its derives.
+pub fn is_helper(def_map: &MapData, position: InFile<FileAstId>, attr: &Attr) -> bool
+    ensures { (s : State) → result ≡ rules.is_helper (record s { map = map_state def_map.now }) position attr.now }
+{
+    let Some(name) = attr.path.as_ident() else {
+        return false;
+    };
+    match def_map.derive_helpers.get(&position) {
+        Some(helpers) => helps(helpers.as_slice(), name),
+        None => false,
+    }
+}
+
+/// Whether one of these helpers has this name.
+fn helps(helpers: &[DeriveHelper], name: Name) -> bool
+    ensures { result ≡ rules.helps (map helper_state helpers.now) name }
+{
+    'helpers: for helper in helpers {
+        if helper.name == name {
+            return true;
+        }
+    }
+    false
+}
+
+/// The macro of an attribute, once imports are resolved.
+pub fn attr_macro<D: SourceDatabase>(
+    world: &World<'_, D, Table>,
+    module_id: ModuleId,
+    attr: &Attr,
+) -> Option<MacroDefId>
+    ensures { result ≡ rules.attr_macro (world_lent D.oracle bound_by world.now) module_id attr.now }
+{
+    let resolver = PathResolver {
+        world: *world,
+        module_id,
+        sub: MacroSubNs::Attr,
+    };
+    let found = resolver.resolve(&attr.path)?;
+    if found.is_attribute() {
+        Some(found)
+    } else {
+        None
+    }
+}
+
+/// What a macro does with the item of its attribute.
+pub fn attr_use<D: SourceDatabase>(db: &D, krate: Crate, found: MacroDefId) -> AttrUse
+    ensures { attr_use_of result ≡ rules.attr_use (D.oracle db.now) krate found.kind }
+{
+    let MacroDefKind::BuiltInAttr(builtin) = found.kind else {
+        return AttrUse::ReplacesItem;
+    };
+    match builtin {
+        BuiltinAttr::Derive => AttrUse::ReadsDerives,
+        BuiltinAttr::Other(_) => AttrUse::ReplacesItem,
+        BuiltinAttr::Test | BuiltinAttr::Bench | BuiltinAttr::TestCase => {
+            if db.cfg_flag(krate, Name(26)) {
+                AttrUse::PassesOver
+            } else {
+                AttrUse::ReplacesItem
+            }
+        }
+    }
+}
+
+/// Calls the macro of an attribute that waits, once the attribute is among those that expansions of
+/// the item are not to see.
+pub fn attr_call<D: SourceDatabase>(
+    db: &D,
+    krate: Crate,
+    item_attrs: &ItemAttrs,
+    directive: &MacroDirective<'_>,
+    written: WrittenAttr<'_>,
+    found: MacroDefId,
+) -> MacroCallId
+    ensures { (s : State) → s.map.id.krate ≡ krate → active_of item_attrs.now ≡ with_active s.active directive.now.position written.entry.attr_id →
+        result ≡ (D.oracle db.now).make_attr_call (rules.attr_query s (macro_directive_of directive.now) (written_attr_of written.entry) found) }
+{
+    db.make_attr_call(AttrCallQuery {
+        krate,
+        macro_def: found,
+        position: directive.position,
+        attr_id: written.attr_id,
+        input: written.attr.input.as_ref(),
+        ctxt: written.attr.ctxt,
+        censored: item_attrs.active(directive.position),
+        depth: directive.depth,
+    })
+}

@@ -1,0 +1,46 @@
+//! How derives are deferred, and what becomes of them where an attribute replaces their item.
+ghost use Rattle.std.specs.Prelude.{◌≡◌};
+ghost use Rattle.def_calls.specs.Shown.{expansion_shown, macro_directive_of, written_derive_of};
+ghost use Rattle.def_rules.specs.Deferred.{deferral, deferred_expansion};
+
+use crate::directives::{Expansion, MacroDirective, WrittenDerive};
+use crate::queries::deeper;
+use def_rules::DeferredDerive;
+use item_tree::MacroCallId;
+
+impl<'a> MacroDirective<'a> {
+    /// How a derive of the attribute that waited is deferred: one level deeper.
+    pub fn deferral(
+        &self,
+        written: WrittenDerive<'a>,
+        call: MacroCallId,
+        derive: u32,
+    ) -> DeferredDerive
+        ensures { result ≡ deferral (macro_directive_of self.now) (written_derive_of written.entry) call derive }
+    {
+        DeferredDerive {
+            derive,
+            attr_id: written.attr_id,
+            pos: written.pos,
+            call,
+            module_id: self.module_id,
+            container: self.container,
+            depth: deeper(self.depth),
+        }
+    }
+}
+
+impl Expansion {
+    /// That of a derive that was deferred.
+    pub fn deferred(derive: &DeferredDerive) -> Expansion
+        ensures { expansion_shown result ≡ deferred_expansion derive.now }
+    {
+        Expansion {
+            module_id: derive.module_id,
+            container: derive.container,
+            depth: derive.depth,
+            call: derive.call,
+            replaces: None,
+        }
+    }
+}

@@ -1,0 +1,170 @@
+//! Imports that wake: each is tried again only where a name changed that its path reads, in the order
+//! in which passes over all of them try them.
+ghost use Rattle.std.specs.Prelude.{◌≡◌, ◌<◌, ◌≤◌, [], false, true, length, IfOk, IfSome, OnOk};
+ghost use Rattle.def_passes.specs.Collector.{state_of};
+ghost use Rattle.def_passes.specs.Passes.{entries_of};
+ghost use Rattle.def_laws.specs.Runs.{Leads};
+ghost use Rattle.def_laws.specs.Turns.{Moves, turns_left};
+ghost use Rattle.def_rules.specs.Recording.{NoneReady};
+
+use def_ids::ModuleId;
+use def_imports::{ImportAt, Turns, Watchers};
+use def_interner::Interner;
+use def_map::SourceDatabase;
+use def_passes::{DefCollector, drop_resolved, entries, resolve_imports, try_import};
+use def_steps::{ImportDirective, ImportList};
+use std::alloc::AllocError;
+
+/// How many passes over all imports record some before those that wait watch the names that they read.
+/// In most crates nothing moves after these.
+const PASSES_WITHOUT_WATCHES: u32 = 2;
+
+/// Records each import that is ready, in a pass over all of them; in one that is not among the first,
+/// also those that become ready by what it recorded. Answers whether one was recorded. On `Err` nothing
+/// but safety is promised.
+pub fn import_pass<'a, D: SourceDatabase>(
+    collector: &mut DefCollector<'a>,
+    db: &D,
+    session: &Interner,
+    passes: u32,
+) -> Result<bool, AllocError>
+    ensures run { OnOk result (Leads (D.oracle db.now)
+        [] (state_of collector.old session.now) [] (state_of collector.new session.now)) }
+    ensures settled { IfOk result (λ moved. moved ≡ false →
+        NoneReady (D.oracle db.now) (state_of collector.new session.now)) }
+    ensures fewer { IfOk result (λ moved. moved ≡ true → turns_left (state_of collector.new session.now) < turns_left (state_of collector.old session.now)) }
+{
+    if !resolve_imports(collector, db, session)? {
+        return Ok(false);
+    }
+    if passes < PASSES_WITHOUT_WATCHES {
+        return Ok(true);
+    }
+    record_woken(collector, db, session)?;
+    Ok(true)
+}
+
+/// Records imports until none wakes: each is tried once, and again where a name changed that its path
+/// reads. On `Err` nothing but safety is promised.
+fn record_woken<'a, D: SourceDatabase>(
+    collector: &mut DefCollector<'a>,
+    db: &D,
+    session: &Interner,
+) -> Result<(), AllocError>
+    ensures run { OnOk result (Leads (D.oracle db.now)
+        [] (state_of collector.old session.now) [] (state_of collector.new session.now)) }
+    ensures turns { OnOk result (turns_left (state_of collector.new session.now) ≤ turns_left (state_of collector.old session.now)) }
+{
+    let mut turns = Turns::new(collector.alloc);
+    let mut watchers = Watchers::new(collector.alloc);
+    wake_all(collector, &mut turns)?;
+    collector.table.watch();
+    'woken: while record_next(collector, db, session, &mut turns, &mut watchers)? {}
+    collector.table.unwatch();
+    drop_resolved(collector);
+    Ok(())
+}
+
+/// Records the next import that woke and is ready. Answers whether there is one.
+fn record_next<'a, D: SourceDatabase>(
+    collector: &mut DefCollector<'a>,
+    db: &D,
+    session: &Interner,
+    turns: &mut Turns,
+    watchers: &mut Watchers,
+) -> Result<bool, AllocError>
+    ensures moved { IfOk result (λ moved. moved ≡ true →
+        Moves (D.oracle db.now) (state_of collector.old session.now) (state_of collector.new session.now)) }
+    ensures same { IfOk result (λ moved. moved ≡ false → collector.new ≡ collector.old) }
+{
+    'turns: while let Some(import) = turns.next() {
+        let prelude = collector.def_map.prelude;
+        if try_woken(collector, db, session, watchers, import)? {
+            wake(collector, prelude, turns, watchers)?;
+            return Ok(true);
+        }
+    }
+    Ok(false)
+}
+
+/// Records an import, if it is ready. Answers whether it was. What may still be recorded of it watches
+/// the names that its path reads.
+fn try_woken<'a, D: SourceDatabase>(
+    collector: &mut DefCollector<'a>,
+    db: &D,
+    session: &Interner,
+    watchers: &mut Watchers,
+    import: ImportAt,
+) -> Result<bool, AllocError>
+    ensures moved { IfOk result (λ moved. moved ≡ true →
+        Moves (D.oracle db.now) (state_of collector.old session.now) (state_of collector.new session.now)) }
+    ensures same { IfOk result (λ moved. moved ≡ false → collector.new ≡ collector.old) }
+{
+    let Some(directive) = import_at(collector, import) else {
+        return Ok(false);
+    };
+    watchers.read(&collector.world(db, session), &directive.import)?;
+    let count = collector.indeterminate_imports.len();
+    if !try_import(collector, db, session, import.list, import.index)? {
+        watchers.watch(import)?;
+        return Ok(false);
+    }
+    if let Some(kept) = kept_at(collector, import, count) {
+        watchers.watch(kept)?;
+    }
+    Ok(true)
+}
+
+/// The import at a place, if one is there.
+fn import_at<'a>(collector: &DefCollector<'a>, import: ImportAt) -> Option<ImportDirective<'a>>
+    ensures { IfSome result (λ directive. import.index < length (entries_of import.list collector.now)) }
+{
+    match entries(collector, import.list).get(import.index) {
+        Some(there) => *there,
+        None => None,
+    }
+}
+
+/// Where an import stands that was recorded, if more of it may be recorded: behind the ones that were
+/// indeterminate before, or in its place among them.
+fn kept_at(collector: &DefCollector, import: ImportAt, count: usize) -> Option<ImportAt> {
+    let kept = match import.list {
+        ImportList::Unresolved => ImportAt {
+            list: ImportList::Indeterminate,
+            index: count,
+        },
+        ImportList::Indeterminate => import,
+    };
+    match import_at(collector, kept) {
+        Some(_) => Some(kept),
+        None => None,
+    }
+}
+
+/// Wakes the imports that watch what changed, and all of them where the prelude did.
+fn wake<'a>(
+    collector: &mut DefCollector<'a>,
+    prelude: Option<ModuleId>,
+    turns: &mut Turns,
+    watchers: &mut Watchers,
+) -> Result<(), AllocError>
+    ensures { collector.new ≡ collector.old }
+{
+    'changed: for changed in collector.table.changed() {
+        watchers.wake(*changed, turns)?;
+    }
+    collector.table.forget_changed();
+    if collector.def_map.prelude != prelude {
+        wake_all(collector, turns)?;
+    }
+    Ok(())
+}
+
+/// Wakes all imports.
+fn wake_all<'a>(collector: &DefCollector<'a>, turns: &mut Turns) -> Result<(), AllocError> {
+    turns.wake_list(ImportList::Unresolved, collector.unresolved_imports.len())?;
+    turns.wake_list(
+        ImportList::Indeterminate,
+        collector.indeterminate_imports.len(),
+    )
+}

@@ -1,0 +1,109 @@
+//! What the path of an import reads of the map in work.
+
+use def_bindings::{BindingTable, Namespace};
+use def_ids::{Def, Edition, ModuleId};
+use def_map::{SourceDatabase, Table, World};
+use def_steps::Import;
+use item_tree::{Name, PathKind};
+use std::alloc::AllocError;
+
+/// The names that the path of an import reads, each with the module of the map in work in which it
+/// looks the name up, whether or not it is bound there. While imports are recorded the path gives the
+/// same until one of these changes, or the prelude does.
+pub fn names_read<D: SourceDatabase>(
+    world: &World<'_, D, Table>,
+    import: &Import,
+    names: &mut Vec<(ModuleId, Name)>,
+) -> Result<(), AllocError> {
+    let path = &import.written.path;
+    let segments = path.segments.as_slice();
+    let root = ModuleId::crate_root(world.map.tree.map.krate);
+    match path.kind {
+        PathKind::Crate => read_on(world, Some(root), segments, names),
+        PathKind::DollarCrate(krate) => {
+            read_on(world, Some(ModuleId::crate_root(krate)), segments, names)
+        }
+        PathKind::Super(levels) => {
+            let module = world.map.tree.ancestor(import.module_id, levels as usize);
+            read_on(world, module, segments, names)
+        }
+        PathKind::Abs => read_first(world, scope_of(world, root, None), segments, names),
+        PathKind::Plain => {
+            let scope = scope_of(world, root, Some(import.module_id));
+            read_first(world, scope, segments, names)
+        }
+    }
+}
+
+/// The module that the first name is looked up in: in edition 2015 the crate's root.
+fn scope_of<D>(
+    world: &World<'_, D, Table>,
+    root: ModuleId,
+    later: Option<ModuleId>,
+) -> Option<ModuleId> {
+    if world.map.krate.edition == Edition::Edition2015 {
+        Some(root)
+    } else {
+        later
+    }
+}
+
+/// The names from the first one on, which may also be that of a crate or stand in the prelude.
+fn read_first<D>(
+    world: &World<'_, D, Table>,
+    scope: Option<ModuleId>,
+    segments: &[Name],
+    names: &mut Vec<(ModuleId, Name)>,
+) -> Result<(), AllocError> {
+    let [first, rest @ ..] = segments else {
+        return Ok(());
+    };
+    let mut module = read(world, scope, *first, names)?;
+    if module.is_none() {
+        module = world.local.extern_entry(*first).map(|entry| entry.root);
+    }
+    if module.is_none() || rest.is_empty() {
+        module = read(world, world.map.prelude, *first, names)?;
+    }
+    read_on(world, module, rest, names)
+}
+
+/// The names from a module on.
+fn read_on<D>(
+    world: &World<'_, D, Table>,
+    module: Option<ModuleId>,
+    segments: &[Name],
+    names: &mut Vec<(ModuleId, Name)>,
+) -> Result<(), AllocError> {
+    let mut module = module;
+    for segment in segments {
+        module = read(world, module, *segment, names)?;
+        if module.is_none() {
+            return Ok(());
+        }
+    }
+    Ok(())
+}
+
+/// A name in a module, where that is one of the map in work, and the module that it leads to.
+fn read<D>(
+    world: &World<'_, D, Table>,
+    module: Option<ModuleId>,
+    name: Name,
+    names: &mut Vec<(ModuleId, Name)>,
+) -> Result<Option<ModuleId>, AllocError> {
+    let Some(module) = module else {
+        return Ok(None);
+    };
+    if module.map != world.map.tree.map {
+        return Ok(None);
+    }
+    names.push((module, name))?;
+    match world.table.binding(module, name, Namespace::Types) {
+        Some(binding) => match binding.def {
+            Def::Module(next) => Ok(Some(next)),
+            _ => Ok(None),
+        },
+        None => Ok(None),
+    }
+}

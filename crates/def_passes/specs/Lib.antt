@@ -1,0 +1,3 @@
+pub mod Collector
+pub mod Passes
+pub mod Walk
