@@ -1,5 +1,4 @@
-//! Worked rows of globs, blocks and dependencies over scripted crates. The rows of `defmap` hold
-//! the others.
+//! Worked rows of globs, blocks and dependencies over scripted crates.
 #![tactic(auto)]
 
 #[cfg(test)]
