@@ -1,5 +1,6 @@
 //! When imports are tried that wake.
-ghost use Rattle.std.specs.Prelude.{◌<◌, IfSome};
+ghost use Rattle.std.specs.Prelude.{◌≡◌, ◌<◌, IfNone, IfSome, OnOk};
+ghost use Rattle.def_imports.specs.Turns.{WakesAfter, is_behind, is_indeterminate};
 
 use def_steps::ImportList;
 use std::alloc::{AllocError, Global};
@@ -21,6 +22,43 @@ pub struct Turn {
     index: usize,
 }
 
+/// Whether a list is that of the imports that are indeterminate.
+fn is_indeterminate(list: ImportList) -> bool
+    ensures { result ≡ is_indeterminate list }
+{
+    match list {
+        ImportList::Unresolved => false,
+        ImportList::Indeterminate => true,
+    }
+}
+
+/// Whether a pass comes to an import after it came to the one that had a turn.
+fn is_behind(last: Turn, import: ImportAt) -> bool
+    ensures { result ≡ is_behind last.is_indeterminate last.index (is_indeterminate import.list) import.index }
+{
+    match (last.is_indeterminate, is_indeterminate(import.list)) {
+        (false, true) => true,
+        (true, false) => false,
+        _ => last.index < import.index,
+    }
+}
+
+/// The turn of an import that wakes after the one that had the last turn: in the pass that is under
+/// way, where that has still to come to it, and else in the next.
+fn turn_after(last: Turn, import: ImportAt) -> Turn
+    ensures { WakesAfter last import result }
+{
+    Turn {
+        pass: if is_behind(last, import) {
+            last.pass
+        } else {
+            last.pass.saturating_add(1)
+        },
+        is_indeterminate: is_indeterminate(import.list),
+        index: import.index,
+    }
+}
+
 /// The turns that are to come, of imports that woke.
 #[derive(Drop)]
 pub struct Turns {
@@ -30,7 +68,7 @@ pub struct Turns {
 }
 
 impl Turns {
-    ghost use Rattle.def_imports.specs.Turns.{turns_to_come};
+    ghost use Rattle.def_imports.specs.Turns.{IsNext, Wakes, turns_to_come};
 
     /// No turns.
     pub fn new(alloc: Global) -> Self {
@@ -47,7 +85,9 @@ impl Turns {
 
     /// Takes the next turn.
     pub fn next(&mut self) -> Option<ImportAt>
-        ensures { IfSome result (λ import. turns_to_come self.new < turns_to_come self.old) }
+        ensures fewer { IfSome result (λ import. turns_to_come self.new < turns_to_come self.old) }
+        ensures next { IfSome result (IsNext self.old self.new) }
+        ensures none { IfNone result (turns_to_come self.old ≡ 0) }
     {
         let turn = self.coming.pop_first()?;
         self.last = turn;
@@ -63,24 +103,10 @@ impl Turns {
 
     /// Wakes an import: it has a turn in the pass that is under way, where it comes after the one
     /// that had the last turn, and else in the next pass.
-    pub fn wake(&mut self, import: ImportAt) -> Result<(), AllocError> {
-        let turn = Turn {
-            pass: self.last.pass,
-            is_indeterminate: match import.list {
-                ImportList::Unresolved => false,
-                ImportList::Indeterminate => true,
-            },
-            index: import.index,
-        };
-        let turn = if self.last < turn {
-            turn
-        } else {
-            Turn {
-                pass: turn.pass.saturating_add(1),
-                ..turn
-            }
-        };
-        self.coming.insert(turn)?;
+    pub fn wake(&mut self, import: ImportAt) -> Result<(), AllocError>
+        ensures woken { OnOk result (Wakes ⟦<Turn as Ord>⟧.cmp self.old self.new import) }
+    {
+        self.coming.insert(turn_after(self.last, import))?;
         Ok(())
     }
 
