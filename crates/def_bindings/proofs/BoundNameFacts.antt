@@ -1,5 +1,5 @@
 -- What a name stands for that is kept small, at worked rows.
-use Rattle.std.proofs.Common.{◌≡◌, ℕ, Option, Some, None, Global, refl}
+use Rattle.std.proofs.Common.{◌≡◌, ℕ, Some, None, Global, refl}
 use Rattle.std.specs.Prelude.{Box}
 use Rattle.def_ids.specs.declared.ids.Def.TheVariants.{Struct}
 use Rattle.def_bindings.specs.declared.bindings.Namespace.TheVariants.{Types, Values, Macros}

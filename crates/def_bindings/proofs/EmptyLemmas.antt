@@ -10,7 +10,7 @@ use Rattle.def_bindings.specs.declared.bound_name.BoundName.{BoundName}
 use Rattle.def_bindings.specs.declared.place.Placed.{Placed}
 use Rattle.def_bindings.specs.declared.numbered_table.NumberedTable.{NumberedTable}
 use Rattle.def_bindings.specs.Content.{empty, is_name, is_listed, is_bound}
-use Rattle.def_bindings.specs.IdLaws.{module-refl, name-refl, namespace-refl}
+use Rattle.def_bindings.specs.IdLaws.{module-refl, name-refl}
 use Rattle.def_bindings.specs.Link.{edge_of}
 use Rattle.def_bindings.specs.Lists.{lists_of}
 use Rattle.def_bindings.specs.Numbers.{own_entries, is_placed, placed_at}

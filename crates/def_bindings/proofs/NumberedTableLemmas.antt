@@ -2,7 +2,7 @@
 use Rattle.std.proofs.Common.{◌≡◌, Bool, true, false, not, ◌&&◌, ◌||◌, cond, Option, Some, None, List, [], ◌∷◌, ◌++◌, refl, sym, ap, subst, ◌∙◌, inl, inr}
 use Rattle.std.proofs.Common.{Result, Ok, Err}
 use Rattle.std.specs.declared.alloc.AllocError.{AllocError}
-use Rattle.std.specs.Prelude.{ℕ, OnOk, OnErr, is_some, map, option_map, option_and_then, slice_get}
+use Rattle.std.specs.Prelude.{ℕ, IfOk, OnOk, OnErr, is_some, map, option_map, option_and_then, slice_get}
 use Rattle.std.proofs.lemmas.Option.{slice_get-map}
 use Rattle.def_bindings.specs.declared.place.Placed.{Placed}
 use Rattle.std.specs.Map.{keys_of}
@@ -23,7 +23,9 @@ use Rattle.def_bindings.specs.declared.link.Link.{Link}
 use Rattle.def_bindings.specs.declared.bindings.Namespace.TheVariants.{Types, Values, Macros}
 use Rattle.def_ids.specs.Ids.{is_same_module}
 use Rattle.def_bindings.specs.Content.{Content, is_name, is_namespace, bound_as, listed_as, is_bound, is_listed, with_name, without_name, AreTied, replaced, empty}
-use Rattle.def_bindings.specs.BoundName.{stands_for, with_namespace}
+use Rattle.def_bindings.specs.BoundName.{stands_for, with_namespace, written_in}
+use Rattle.def_bindings.specs.declared.bindings.Slot.TheVariants.{Named}
+use Rattle.def_bindings.specs.Puts.{if_vacant, written}
 use Rattle.def_bindings.specs.Numbers.{is_placed, placed_at}
 use Rattle.def_bindings.specs.Places.{name_of, bindings_of}
 use Rattle.def_bindings.proofs.BoundNameLemmas.{stands-there}
@@ -79,18 +81,22 @@ module _ {V S : Type 0} (old new : HashMap (Placed Name) (BoundName V) S) (m : M
   pub bindings-written : (n : Namespace) (w : Option (Binding V)) → stands_for row ≡ with_namespace (stands_for was) n w → bindings_of new ≡ bound_as (bindings_of old) m x n w
   bindings-written n w now = bindings-updated old new m x n w (Some row) after (now ∙ ap (λ o. with_namespace (λ k. option_and_then (λ t. stands_for t k) o) n w) (sym there))
 
-  -- a name written as it was
-  pub bindings-kept : row ≡ was → bindings_of new ≡ bindings_of old
-  bindings-kept same = λ i m' x' n'. at m' x' n' i
+  -- a name that stands for what it stood for
+  pub bindings-still : stands_for row ≡ stands_for was → bindings_of new ≡ bindings_of old
+  bindings-still same = λ i m' x' n'. at m' x' n' i
     where
       at : (m' : ModuleId) (x' : Name) (n' : Namespace) → bindings_of new m' x' n' ≡ bindings_of old m' x' n'
       at m' x' n' = ap (λ o. option_and_then (λ t. stands_for t n') o) (after (placed_at m' x')) ∙ elim (cases_module m m') [
         | inl e ↦ elim (cases_name x x') [
-          | inl f ↦ rw (e.1, f.1) (ap (λ o. option_and_then (λ t. stands_for t n') o) (ap Some same ∙ sym there ∙ ap (λ q. name_of old q x) e.0 ∙ ap (λ y. name_of old m' y) f.0))
+          | inl f ↦ rw (e.1, f.1) (ap (λ f. f n') same ∙ ap (λ o. option_and_then (λ t. stands_for t n') o) (sym there ∙ ap (λ q. name_of old q x) e.0 ∙ ap (λ y. name_of old m' y) f.0))
           | inr f ↦ rw (e.1, f) refl
         ]
         | inr e ↦ rw e refl
       ]
+
+  -- a name written as it was
+  pub bindings-kept : row ≡ was → bindings_of new ≡ bindings_of old
+  bindings-kept same = bindings-still (ap stands_for same)
 
   -- a name that went with its last binding
   pub bindings-gone : (left : HashMap (Placed Name) (BoundName V) S) (n : Namespace) → ChangesName new left m x None → with_namespace (stands_for was) n None ≡ (λ k. None)
@@ -286,6 +292,32 @@ pub tied-written : {V S : Type 0} (old new : HashMap (Placed Name) (BoundName V)
 tied-written old new l m x was row there after tied n b (Ok done) set same =
     (numbered-known (bindings_of old) (bindings_of new) l tied m x n b (bindings-written old new m x was row there after n (Some b) set) (bound-there old m x was there)).1
 tied-written old new l m x was row there after tied n b (Err e) set same = tied-same _ _ l l (bindings-kept old new m x was row there after same) refl tied
+
+-- a name that has something, and what is put there in one namespace
+module _ {V S : Type 0} (old new : HashMap (Placed Name) (BoundName V) S) (l : ModuleId → List Name) (tied : AreTied (bindings_of old) l) (m : ModuleId) (x : Name) (was row : BoundName V) (there : name_of old m x ≡ Some was) (after : ChangesName old new m x (Some row)) (n : Namespace) where
+  pub put-known : (c : Content V) (s : Option (Binding V)) → stands_for row ≡ written_in (stands_for was) n s
+      → (record c { binding = bindings_of new; names = l } ≡ written (record c { binding = bindings_of old; names = l }) m (Named x n) s) × AreTied (bindings_of new) l
+  put-known c None e =
+      let same = bindings-still old new m x was row there after e in
+      (content-parts c _ _ l l same refl, tied-same _ _ l l same refl tied)
+  put-known c (Some b) e =
+      let set = bindings-written old new m x was row there after n (Some b) e in
+      let names = numbered-known (bindings_of old) (bindings_of new) l tied m x n b set (bound-there old m x was there) in
+      (content-parts c _ _ _ _ set names.0, names.1)
+
+  -- so a binding where it is not bound
+  pub bound-beside : (c : Content V) (b : Binding V) (held : Option (Binding V)) → held ≡ stands_for was n → stands_for row ≡ written_in (stands_for was) n (if_vacant held b)
+      → (held ≡ bindings_of old m x n) × (record c { binding = bindings_of new; names = l } ≡ written (record c { binding = bindings_of old; names = l }) m (Named x n) (if_vacant held b))
+  bound-beside c b held is now = (is ∙ sym (ap (λ k. option_and_then (λ s. stands_for s n) k) there), (put-known c (if_vacant held b) now).0)
+
+  -- names and bindings stay tied, whether that was refused or not
+  pub tied-beside : (b : Binding V) (r : Result (Option (Binding V)) AllocError) → IfOk r (λ held. stands_for row ≡ written_in (stands_for was) n (if_vacant held b)) → OnErr r (row ≡ was) → AreTied (bindings_of new) l
+  tied-beside b (Ok held) now same = (put-known empty (if_vacant held b) now).1
+  tied-beside b (Err e) now same = tied-same _ _ l l (bindings-kept old new m x was row there after same) refl tied
+
+-- a name that has nothing is bound nowhere
+pub held-nowhere : {V S : Type 0} (old : HashMap (Placed Name) (BoundName V) S) (m : ModuleId) (x : Name) (n : Namespace) → name_of old m x ≡ None → None ≡ bindings_of old m x n
+held-nowhere old m x n none = sym (ap (λ k. option_and_then (λ s. stands_for s n) k) none)
 
 -- names that stay are a list written as it was
 pub kept_names : (l : ModuleId → List Name) (m : ModuleId) (ks : List Name) (known : Bool) → known ≡ true → l ≡ listed_as l m (cond known (l m) ks)

@@ -1,6 +1,6 @@
 -- What follows from what a clause says of a result.
 use Rattle.std.proofs.Common.{◌≡◌, Result, Ok, Err, Option, Some, None, false, refl, subst, sym, rules}
-use Rattle.std.specs.Prelude.{OnOk, OnErr, IsOk, IsSome, is_some}
+use Rattle.std.specs.Prelude.{IfOk, OnOk, OnErr, IsOk, IsSome, is_some}
 
 pub OnOk_then : {T E : Type 0} (r : Result T E) {P Q : Type 0} → OnOk r P → (P → Q) → OnOk r Q
 OnOk_then (Ok x) h f = f h
@@ -9,6 +9,10 @@ OnOk_then (Err e) h f = h
 pub OnErr_then : {T E : Type 0} (r : Result T E) {P Q : Type 0} → OnErr r P → (P → Q) → OnErr r Q
 OnErr_then (Ok x) h f = h
 OnErr_then (Err e) h f = f h
+
+pub IfOk_both : {T E : Type 0} (r : Result T E) {P Q R : T → Type 0} → IfOk r P → IfOk r Q → ((x : T) → P x → Q x → R x) → IfOk r R
+IfOk_both (Ok x) p q f = f x p q
+IfOk_both (Err e) p q f = p
 
 pub some_there : {X : Type 0} {o : Option X} {x : X} → o ≡ Some x → IsSome o
 some_there {o = o} {x = x} h = subst IsSome (sym h) (search rules)

@@ -19,3 +19,8 @@ module _ {V : Type 0} where
   -- the first binding hides what is beside it in its namespace
   abbrev pub stands_for : BoundName V → Namespace → Option (Binding V)
   stands_for s n = cond (is_namespace s.ns n) (Some s.binding) (beside s.others n)
+
+  -- what is put in a namespace, where something is
+  abbrev pub written_in : (Namespace → Option (Binding V)) → Namespace → Option (Binding V) → Namespace → Option (Binding V)
+  written_in f n None = f
+  written_in f n (Some b) = with_namespace f n (Some b)

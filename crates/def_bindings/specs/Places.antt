@@ -1,5 +1,5 @@
 -- Bindings by place.
-use Rattle.std.specs.Prelude.{Bool, Option, option_and_then}
+use Rattle.std.specs.Prelude.{Option, option_and_then}
 use Rattle.indexmap.specs.IndexMap.{IndexMap, get}
 use Rattle.item_tree.specs.declared.name.Name.{Name}
 use Rattle.def_ids.specs.declared.ids.ModuleId.{ModuleId}

@@ -80,6 +80,15 @@ written c m slot None = c
 written c m (Named name ns) (Some b) = with_binding c m name ns b
 written c m (Unnamed item) (Some b) = with_unnamed c m item b.vis
 
+-- a binding of these parts
+abbrev pub bound_to : {V : Type 0} → Def → V → Origin → Binding V
+bound_to def vis import = record { def = def; vis = vis; import = import }
+
+-- a binding, where nothing is bound
+abbrev pub if_vacant : {V : Type 0} → Option (Binding V) → Binding V → Option (Binding V)
+if_vacant None b = Some b
+if_vacant (Some there) b = None
+
 -- an offer is put at a place
 abbrev pub put : {V : Type 0} → Order V → Content V → ModuleId → Slot → Binding V → Content V
 put o c m slot offer = written c m slot (settled o (held c m slot) (fitted slot offer))

@@ -1,19 +1,21 @@
 //! Tables of bindings.
-ghost use Rattle.std.specs.Prelude.{◌≡◌, ◌<◌, ◌^◌, List, length, slice_get, OnOk, OnErr};
+ghost use Rattle.std.specs.Prelude.{◌≡◌, ◌<◌, ◌^◌, List, length, slice_get, IfOk, OnOk, OnErr};
 ghost use Rattle.def_ids.specs.declared.ids.ModuleId.{ModuleId};
 ghost use Rattle.def_bindings.specs.Content.{Content, with_binding, without_binding, with_unnamed, with_edge, vis_of, AreSources, AreTied};
 ghost use Rattle.def_bindings.specs.NameBindings.{bound_in};
-ghost use Rattle.def_bindings.specs.Puts.{edge_to};
+ghost use Rattle.def_bindings.specs.Puts.{bound_to, edge_to, held, if_vacant, written};
 
-use crate::bindings::{Binding, EdgeTo, Namespace};
+use crate::bindings::{Binding, EdgeTo, ImportOrExternCrate, Namespace, Slot};
 use crate::name_bindings::NameBindings;
-use def_ids::{ModuleId, TraitId};
+use crate::puts::as_binding;
+use def_ids::{Def, ModuleId, TraitId};
 use item_tree::Name;
 use std::alloc::AllocError;
 
 /// Bindings, names, unnamed traits and glob edges by module, however they are kept. What is read is
-/// copied. A table that finds all bindings of a name, an unnamed trait or an edge by one look-up has
-/// bodies of its own for `bindings`, `unnamed_vis` and `edge_to`.
+/// copied. A table that finds all bindings of a name, an unnamed trait or an edge by one look-up, or
+/// that binds where it has looked, has bodies of its own for `bindings`, `unnamed_vis`, `edge_to` and
+/// `bind`.
 pub trait BindingTable {
     type Vis: Copy;
 
@@ -87,6 +89,39 @@ pub trait BindingTable {
         ensures done { OnOk result (content self.new
             ≡ with_binding (content self.old) «module» name ns binding) }
         ensures refused { OnErr result (content self.new ≡ content self.old) };
+
+    /// Binds a slot where nothing is bound, and answers what is bound there. A refused call changes
+    /// nothing.
+    fn bind(
+        &mut self,
+        module: ModuleId,
+        slot: Slot,
+        def: Def,
+        vis: Self::Vis,
+        import: Option<ImportOrExternCrate>,
+    ) -> Result<Option<Binding<Self::Vis>>, AllocError>
+        ensures done { IfOk result (λ there. let c = content self.old in
+            (there ≡ held c «module» slot)
+            × (content self.new ≡ written c «module» slot (if_vacant there (bound_to def vis import)))) }
+        ensures refused { OnErr result (content self.new ≡ content self.old) }
+    {
+        match slot {
+            Slot::Named(name, ns) => {
+                let there = self.binding(module, name, ns);
+                if there.is_none() {
+                    self.set(module, name, ns, Binding { def, vis, import })?;
+                }
+                Ok(there)
+            }
+            Slot::Unnamed(item) => match self.unnamed_vis(module, item) {
+                Some(there) => Ok(Some(as_binding(item, there))),
+                None => {
+                    self.set_unnamed(module, item, vis)?;
+                    Ok(None)
+                }
+            },
+        }
+    }
 
     fn remove(&mut self, module: ModuleId, name: Name, ns: Namespace)
         ensures { content self.new ≡ without_binding (content self.old) «module» name ns };

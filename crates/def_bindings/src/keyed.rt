@@ -55,6 +55,10 @@ impl<K: Copy + Eq + Hash, W: Copy> Keyed<K, W> {
         ensures entry { result ≡ slice_get (own_entries self.now.entries.entries «module») index }
         ensures few { length (own_entries self.now.entries.entries «module») < 2 ^ 64 }
     {
+        // Most tables have no edges and no unnamed traits, and then nothing is looked up.
+        if self.entries.is_empty() {
+            return None;
+        }
         let _ = self.entries.len();
         match self.numbers.at(module, index) {
             Some(number) => match self.entries.get_index(number) {

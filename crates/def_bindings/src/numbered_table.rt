@@ -1,19 +1,23 @@
 //! A table that keeps the names of all modules in one index.
 ghost use Rattle.std.specs.Prelude.{◌≡◌, ◌↔◌, IsTrue, None, OnOk, OnErr, IfOk};
+ghost use Rattle.def_bindings.specs.BoundName.{stands_for, written_in};
 ghost use Rattle.def_bindings.specs.Content.{AreTied, bound_as, is_bound};
 ghost use Rattle.def_bindings.specs.Lists.{lists_of};
 ghost use Rattle.def_bindings.specs.Places.{bindings_of};
+ghost use Rattle.def_bindings.specs.Puts.{if_vacant};
 
 use crate::binding_table::BindingTable;
-use crate::bindings::{Binding, EdgeTo, Namespace};
+use crate::bindings::{Binding, EdgeTo, ImportOrExternCrate, Namespace, Slot};
 use crate::bound_name::BoundName;
 use crate::keyed::Keyed;
 use crate::link::Link;
 use crate::lists::Lists;
 use crate::name_bindings::NameBindings;
 use crate::place::Placed;
-use def_ids::{ModuleId, TraitId};
+use crate::puts::as_binding;
+use def_ids::{Def, ModuleId, TraitId};
 use indexmap::IndexMap;
+use indexmap::map::Entry;
 use item_tree::Name;
 use std::alloc::{AllocError, Global};
 
@@ -65,10 +69,32 @@ fn take_out<V: Copy>(
     false
 }
 
+/// Binds a name beside its other bindings where nothing is bound, and answers what is bound there. A
+/// refused call changes nothing.
+fn bind_beside<V: Copy>(
+    alloc: Global,
+    bound: &mut BoundName<V>,
+    ns: Namespace,
+    binding: Binding<V>,
+) -> Result<Option<Binding<V>>, AllocError>
+    ensures there { IfOk result (λ there. there ≡ stands_for bound.old ns) }
+    ensures done { IfOk result (λ there. stands_for bound.new
+        ≡ written_in (stands_for bound.old) ns (if_vacant there binding)) }
+    ensures refused { OnErr result (bound.new ≡ bound.old) }
+{
+    let there = bound.get(ns).copied();
+    if there.is_none() {
+        bound.set(alloc, ns, binding)?;
+    }
+    Ok(there)
+}
+
 impl<V: Copy> NumberedTable<V> {
     ghost use Rattle.std.specs.Prelude.{◌<◌, ◌^◌, length, slice_get};
+    ghost use Rattle.def_bindings.specs.declared.bindings.Slot.TheVariants.{Named};
     ghost use Rattle.def_bindings.specs.Content.{empty};
     ghost use Rattle.def_bindings.specs.NumberedTable.{all_edges, content_of};
+    ghost use Rattle.def_bindings.specs.Puts.{written};
 
     /// A table with nothing in it.
     pub fn new(alloc: Global) -> Result<Self, AllocError>
@@ -81,6 +107,43 @@ impl<V: Copy> NumberedTable<V> {
             unnamed: Keyed::new(alloc),
             edges: Keyed::new(alloc),
         })
+    }
+
+    /// Makes room for more names, so that as many are bound with no copy of what is there.
+    pub fn reserve(&mut self, names: usize) -> Result<(), AllocError>
+        ensures { content_of self.new ≡ content_of self.old }
+    {
+        self.bound.reserve(names)
+    }
+
+    /// Binds a name where nothing is bound, and answers what is bound there. A refused call changes
+    /// nothing.
+    fn bind_name(
+        &mut self,
+        module: ModuleId,
+        name: Name,
+        ns: Namespace,
+        binding: Binding<V>,
+    ) -> Result<Option<Binding<V>>, AllocError>
+        ensures done { IfOk result (λ there.
+            (there ≡ (content_of self.old).binding «module» name ns)
+            × (content_of self.new
+            ≡ written (content_of self.old) «module» (Named name ns) (if_vacant there binding))) }
+        ensures refused { OnErr result (content_of self.new ≡ content_of self.old) }
+    {
+        let alloc = self.alloc;
+        let placed = Placed {
+            at: module,
+            key: name,
+        };
+        match self.bound.entry(placed)? {
+            Entry::Occupied(there) => bind_beside(alloc, there.into_mut(), ns, binding),
+            Entry::Vacant(free) => {
+                self.names.push(module, name)?;
+                free.insert(BoundName::of(ns, binding));
+                Ok(None)
+            }
+        }
     }
 
     /// Whether the table has nothing in it.
@@ -203,6 +266,26 @@ impl<V: Copy> BindingTable for NumberedTable<V> {
         self.names.push(module, name)?;
         self.bound.insert(placed, BoundName::of(ns, binding))?;
         Ok(())
+    }
+
+    fn bind(
+        &mut self,
+        module: ModuleId,
+        slot: Slot,
+        def: Def,
+        vis: V,
+        import: Option<ImportOrExternCrate>,
+    ) -> Result<Option<Binding<V>>, AllocError> {
+        match slot {
+            Slot::Named(name, ns) => self.bind_name(module, name, ns, Binding { def, vis, import }),
+            Slot::Unnamed(item) => match self.unnamed_vis(module, item) {
+                Some(there) => Ok(Some(as_binding(item, there))),
+                None => {
+                    self.set_unnamed(module, item, vis)?;
+                    Ok(None)
+                }
+            },
+        }
     }
 
     fn remove(&mut self, module: ModuleId, name: Name, ns: Namespace) {

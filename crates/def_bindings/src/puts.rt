@@ -77,7 +77,7 @@ pub fn settle<O: VisOrder>(
 }
 
 /// An unnamed trait as a binding: by a glob, so that its visibility can rise.
-fn as_binding<V: Copy>(item: TraitId, vis: V) -> Binding<V>
+pub(crate) fn as_binding<V: Copy>(item: TraitId, vis: V) -> Binding<V>
     ensures { result ≡ unnamed_binding item vis }
 {
     Binding {
@@ -149,9 +149,11 @@ pub fn put_at<T: BindingTable, O: VisOrder<Vis = T::Vis>>(
         × (T.content table.new ≡ put o c «module» slot offer)) }
     ensures refused { OnErr result (T.content table.new ≡ T.content table.old) }
 {
-    let there = held_at(table, module, slot);
-    let settled = settle(order, there, fit(slot, offer));
-    write(table, module, slot, settled)
+    let offer = fit(slot, offer);
+    match table.bind(module, slot, offer.def, offer.vis, offer.import)? {
+        Some(there) => write(table, module, slot, settle_over(order, there, offer)),
+        None => Ok(true),
+    }
 }
 
 /// Where an entry goes. One without a name is an unnamed trait where it is in types; in another

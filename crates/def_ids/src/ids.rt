@@ -2,6 +2,7 @@
 ghost use Rattle.std.specs.Prelude.{◌≡◌};
 
 use item_tree::{BlockId, Crate};
+use std::hash::{Hash, Hasher};
 
 /// A map of definitions: that of a crate, or that of one of its blocks.
 #[derive(Clone, Copy, PartialEq, Eq, Hash, Debug)]
@@ -11,10 +12,28 @@ pub struct MapId {
 }
 
 /// A module: its map, and its place there. Place 0 is the root.
-#[derive(Clone, Copy, PartialEq, Eq, Hash, Debug)]
+#[derive(Clone, Copy, PartialEq, Eq, Debug)]
 pub struct ModuleId {
     pub map: MapId,
     pub index: usize,
+}
+
+/// Modules are mostly looked up among those of one map, so the hash leaves the block out. Equal keys
+/// still compare whole.
+impl Hash for ModuleId {
+    ghost use Rattle.std.proofs.Common.{rules};
+    ghost use Rattle.std.specs.Prelude.{◌++◌};
+    ghost use Rattle.std.specs.Cmp.Rules.{hashing};
+    ghost use Rattle.std.specs.Hash as fed;
+
+    ghost hash_input = { λ m. fed.usize m.map.krate.0 ++ fed.usize m.index };
+
+    ghost respects_eq = { Prim.search (hashing, rules) };
+
+    fn hash<H: Hasher>(&self, state: &mut H) {
+        self.map.krate.0.hash(state);
+        self.index.hash(state);
+    }
 }
 
 /// A function.

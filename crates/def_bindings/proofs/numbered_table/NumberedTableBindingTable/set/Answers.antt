@@ -1,4 +1,4 @@
-use Rattle.std.proofs.Common.{None, Some, [], ap, arith, refl, rules, sym, ◌++◌, ◌<◌, ◌∙◌, ◌∷◌}
+use Rattle.std.proofs.Common.{Some, ap, arith, refl, rules, sym, ◌<◌, ◌∙◌}
 use Rattle.std.specs.HashMap.{spare}
 use Rattle.def_bindings.specs.Lists.{lists_of}
 use Rattle.def_bindings.specs.NumberedTable.{content_of}
