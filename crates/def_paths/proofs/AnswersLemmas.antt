@@ -2,7 +2,7 @@
 use Rattle.std.proofs.Common.{◌≡◌, ◌∙◌, ap, sym, refl, arith, ◌+◌, ◌<◌, ◌≤◌, ℕ, suc, Bool, true, false, not, ◌&&◌, ◌||◌, cond, if◌then◌else◌, List, [], ◌∷◌, ◌++◌, length, take, drop, get_or, drop-cons, add-one, Option, Some, None, is_none}
 use Rattle.std.proofs.lemmas.List.{take_more}
 use Rattle.std.specs.List.{list_any, find, cons_option}
-use Rattle.std.specs.Option.{option_or, unwrap_or}
+use Rattle.std.specs.Option.{option_map, option_or, unwrap_or}
 use Rattle.item_tree.specs.declared.mod_path.ModPath.{ModPath}
 use Rattle.item_tree.specs.declared.name.Name.{Name}
 use Rattle.def_ids.specs.declared.ids.ModuleId.{ModuleId}
@@ -13,7 +13,7 @@ use Rattle.def_paths.specs.declared.asked.ReachedFixedPoint.TheVariants.{Yes, No
 use Rattle.def_paths.specs.declared.asked.ResolvePathResult.{ResolvePathResult}
 use Rattle.def_paths.specs.declared.per_ns.MacroSubNs.{MacroSubNs}
 use Rattle.def_paths.specs.declared.per_ns.PerNs.{PerNs}
-use Rattle.def_paths.specs.Answers.{HasSameTypes, missing, walk, step, is_elsewhere, answer_after, answer_from, leading, is_reached, joined, first_resolved}
+use Rattle.def_paths.specs.Answers.{ended_at, missing, walk, step, is_elsewhere, answer_after, answer_from, leading, is_reached, joined, first_resolved}
 use Rattle.def_modules.specs.MapView.{MapView}
 use Rattle.def_paths.specs.Items.{is_fitting}
 use Rattle.def_paths.specs.OuterMaps.{is_alone, answer_outside, answers_outside}
@@ -22,38 +22,54 @@ use Rattle.def_bindings.specs.declared.bindings.Namespace.TheVariants.{Types}
 use Rattle.def_paths.specs.Sources.{Question, first_found, found_in, by_sources, relative_sources}
 use Rattle.def_paths.proofs.SourcesLemmas.{option_or-none, option_or-or, per_namespace-equal}
 
--- with nothing in types no later segment means anything
-pub walk-missing : (q : Question) (own : MapView) (crossed : Bool) (found : PerNs) (i : ℕ) (names : List Name) (result whole : ResolvePathResult)
-    → result ≡ missing crossed → found.types ≡ None → 0 < length names → walk q own crossed found i names ≡ whole → result ≡ whole
-walk-missing q own crossed found i [] result whole p e l w = let none : ⊥ = omega arith in absurd none
-walk-missing q own crossed found i (name ∷ names) result whole p e l w = p ∙ (rw e at w)
-
 -- what later segments mean depends on types alone
 walk-types : (q : Question) (own : MapView) (crossed : Bool) (a b : PerNs) (i : ℕ) (names : List Name)
     → 0 < length names → a.types ≡ b.types → walk q own crossed a i names ≡ walk q own crossed b i names
 walk-types q own crossed a b i [] l e = let none : ⊥ = omega arith in absurd none
 walk-types q own crossed a b i (name ∷ names) l e = rw e
 
--- a segment of a walk: in types at least what the definition has of it, and all of that where it is the last
-pub walk-step : (q : Question) (own : MapView) (crossed : Bool) (found next : PerNs) (i : ℕ) (names rest : List Name) (name : Name) (item : Item)
-    (stepped : Option PerNs) (is_last : Bool) (whole : ResolvePathResult)
-    → names ≡ name ∷ rest → found.types ≡ Some item → stepped ≡ Some next
-    → HasSameTypes stepped (step q own item.def name) → (is_last ≡ true → stepped ≡ step q own item.def name) → (is_last ≡ false → 0 < length rest)
-    → walk q own crossed found i names ≡ whole
-    → walk q own (crossed || is_elsewhere own item.def) next (i + 1) rest ≡ whole
-walk-step q own crossed found next i names rest name item stepped is_last whole split has gives same all more w =
-    ap (λ j. walk q own (crossed || is_elsewhere own item.def) next j rest) (add-one i) ∙ by_step (step q own item.def name) refl
-  where
-    go : PerNs → ResolvePathResult
-    go n = walk q own (crossed || is_elsewhere own item.def) n (suc i) rest
+-- a segment with others behind it, by what the definition before it has of it in types
+module _ (q : Question) (own : MapView) (crossed : Bool) (item : Item) (i : ℕ) (names rest : List Name) (name : Name) (stepped : Option (Option Item)) (whole : ResolvePathResult)
+    (split : names ≡ name ∷ rest) (steps : stepped ≡ option_map (λ (found : PerNs). found.types) (step q own item.def name)) (more : 0 < length rest)
+    (w : walk q own crossed (in_types item) i names ≡ whole) where
+  abbrev go : Option PerNs → ResolvePathResult
+  go None = ended_at item i crossed
+  go (Some next) = walk q own (crossed || is_elsewhere own item.def) next (suc i) rest
 
-    by_step : (s : Option PerNs) → step q own item.def name ≡ s → go next ≡ whole
-    by_step None e = let none : ⊥ = cc in absurd none
-    by_step (Some n) e = by_last is_last refl ∙ (rw (split, has, walk, e) at w)
-      where
-        by_last : (b : Bool) → is_last ≡ b → go next ≡ go n
-        by_last true t = let whole_step = all t in ap go cc
-        by_last false f = walk-types q own (crossed || is_elsewhere own item.def) next n (suc i) rest (more f) cc
+  all : go (step q own item.def name) ≡ whole
+  all = by_step (step q own item.def name) refl
+    where
+      by_step : (s : Option PerNs) → step q own item.def name ≡ s → go s ≡ whole
+      by_step None e = rw (split, walk, e) at w
+      by_step (Some next) e = rw (split, walk, e) at w
+
+  -- it can have no names
+  pub walk-nowhere : stepped ≡ None → ended_at item i crossed ≡ whole
+  walk-nowhere none = by_step (step q own item.def name) refl
+    where
+      by_step : (s : Option PerNs) → step q own item.def name ≡ s → ended_at item i crossed ≡ whole
+      by_step None e = ap go (sym e) ∙ all
+      by_step (Some next) e = let no : ⊥ = cc in absurd no
+
+  -- it has none in types
+  pub walk-lost : stepped ≡ Some None → missing (crossed || is_elsewhere own item.def) ≡ whole
+  walk-lost none = by_step (step q own item.def name) refl
+    where
+      by_step : (s : Option PerNs) → step q own item.def name ≡ s → missing (crossed || is_elsewhere own item.def) ≡ whole
+      by_step None e = let no : ⊥ = cc in absurd no
+      by_step (Some next) e = let types : next.types ≡ None = cc in sym (lost rest more types) ∙ ap go (sym e) ∙ all
+        where
+          lost : (names : List Name) → 0 < length names → next.types ≡ None → walk q own (crossed || is_elsewhere own item.def) next (suc i) names ≡ missing (crossed || is_elsewhere own item.def)
+          lost [] l t = let none : ⊥ = omega arith in absurd none
+          lost (n ∷ ns) l t = rw t refl
+
+  -- it has one
+  pub walk-found : (found : Item) → stepped ≡ Some (Some found) → walk q own (crossed || is_elsewhere own item.def) (in_types found) (i + 1) rest ≡ whole
+  walk-found found has = ap (λ j. walk q own (crossed || is_elsewhere own item.def) (in_types found) j rest) (add-one i) ∙ by_step (step q own item.def name) refl
+    where
+      by_step : (s : Option PerNs) → step q own item.def name ≡ s → walk q own (crossed || is_elsewhere own item.def) (in_types found) (suc i) rest ≡ whole
+      by_step None e = let no : ⊥ = cc in absurd no
+      by_step (Some next) e = let types : next.types ≡ Some found = cc in walk-types q own (crossed || is_elsewhere own item.def) (in_types found) next (suc i) rest more (sym types) ∙ ap go (sym e) ∙ all
 
 -- a path of more segments, after what its first means in types
 pub prefix-some : (q : Question) (own : MapView) (all : PerNs) (item : Item) (names : List Name)

@@ -43,10 +43,6 @@ step q own (Module m) name = Some (per_namespace (scope_source q own m name))
 step q own (Enum e) name = option_map variant_found (variant_named (variants_of q e.0) name)
 step q own _ name = None
 
--- two steps that lead equally far: both to the same in types, or both nowhere
-abbrev pub HasSameTypes : Option PerNs → Option PerNs → Type 0
-HasSameTypes a b = option_map (λ found. found.types) a ≡ option_map (λ found. found.types) b
-
 -- a look-up in a module of another crate
 abbrev pub is_elsewhere : MapView → Def → Bool
 is_elsewhere own (Module m) = not (m.map.krate.0 == own.facts.id.krate.0)

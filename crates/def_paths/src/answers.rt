@@ -1,19 +1,19 @@
 //! What paths answer: a step for each segment after the first, and the answers of several maps as
 //! one.
-ghost use Rattle.std.specs.Prelude.{◌≡◌, ◌≤◌, ◌<◌, ◌||◌, ◌∷◌, ◌++◌, [], None, true, false, length, drop, if◌then◌else◌};
+ghost use Rattle.std.specs.Prelude.{◌≡◌, ◌≤◌, ◌<◌, ◌||◌, ◌∷◌, ◌++◌, [], None, false, length, drop, option_map, if◌then◌else◌};
 ghost use Rattle.std.specs.List.{list_any};
 ghost use Rattle.def_ids.specs.Ids.{is_same_map};
 ghost use Rattle.def_paths.specs.Answers.{missing as missing_after, reached as reached_with};
 ghost use Rattle.def_paths.specs.Answers.{variants_of, variant_named as first_named, variant_found as found_of};
 ghost use Rattle.def_paths.specs.Answers.{step as step_of, is_elsewhere as elsewhere, walk as walk_of};
-ghost use Rattle.def_paths.specs.Answers.{HasSameTypes, answer_after, answer_from, joined};
+ghost use Rattle.def_paths.specs.Answers.{answer_after, answer_from, joined};
 ghost use Rattle.def_paths.specs.declared.per_ns.PerNs.{PerNs};
 ghost use Rattle.def_paths.specs.Asking.{question_in, map_in, map_with};
 ghost use Rattle.def_paths.specs.Items.{is_fitting};
 ghost use Rattle.def_paths.specs.OuterMaps.{is_alone as stands_alone, is_plain as has_no_word};
 ghost use Rattle.def_paths.specs.OuterMaps.{answer_in as answer_in_map, answer_outside as answer_outside_of};
 ghost use Rattle.def_paths.specs.OuterMaps.{answers_outside, answer_of};
-ghost use Rattle.def_paths.specs.PerNs.{is_nothing};
+ghost use Rattle.def_paths.specs.PerNs.{in_types, is_nothing};
 ghost use Rattle.def_paths.specs.Sources.{at_module, by_sources, absolute_sources, relative_sources};
 
 use crate::asked::{PrefixInfo, ReachedFixedPoint, ResolvePathResult};
@@ -146,6 +146,7 @@ impl ResolvePathResult {
 }
 
 /// The variant of a name of an enum.
+#[inline(never)]
 fn variant<D: PathDatabase, T>(
     asking: &Asking<'_, D, T>,
     id: EnumId,
@@ -163,26 +164,42 @@ fn variant<D: PathDatabase, T>(
     }
 }
 
-/// What a definition has of the next segment, where it can have names: in all namespaces where
-/// that is the last, and else in types at least.
+/// What a definition has of the next segment, where it can have names.
+#[inline(always)]
 fn step<D: PathDatabase, T: BindingTable<Vis = Visibility>>(
     asking: &Asking<'_, D, T>,
     def: Def,
     name: Name,
-    is_last: bool,
 ) -> Option<PerNs>
-    ensures types { let q = question_in D.oracle asking.now in
+    ensures { let q = question_in D.oracle asking.now in
         let own = map_in T.content asking.now in
-        HasSameTypes result (step_of q own def name) }
-    ensures last { let q = question_in D.oracle asking.now in
-        let own = map_in T.content asking.now in
-        is_last ≡ true → result ≡ step_of q own def name }
+        result ≡ step_of q own def name }
 {
     match def {
-        Def::Module(place) if is_last => Some(scope(asking, place, name)),
-        Def::Module(place) => Some(PerNs::types_alone(scope_type(asking, place, name))),
+        Def::Module(place) => Some(scope(asking, place, name)),
         Def::Enum(id) => match variant(asking, id, name) {
             Some(variant) => Some(variant_found(variant)),
+            None => None,
+        },
+        _ => None,
+    }
+}
+
+/// What a definition has of the next segment in types, where it can have names.
+#[inline(always)]
+fn step_in_types<D: PathDatabase, T: BindingTable<Vis = Visibility>>(
+    asking: &Asking<'_, D, T>,
+    def: Def,
+    name: Name,
+) -> Option<Option<Item>>
+    ensures { let q = question_in D.oracle asking.now in
+        let own = map_in T.content asking.now in
+        result ≡ option_map (λ found. found.types) (step_of q own def name) }
+{
+    match def {
+        Def::Module(place) => Some(scope_type(asking, place, name)),
+        Def::Enum(id) => match variant(asking, id, name) {
+            Some(variant) => Some(Some(public_item(Def::Variant(variant.id)))),
             None => None,
         },
         _ => None,
@@ -199,37 +216,63 @@ fn is_elsewhere(map: &MapData, def: Def) -> bool
     }
 }
 
-/// The segments from `begin` on, after what was found.
+/// The last segment, after the definition that those before it give.
+#[inline(never)]
+fn last_step<D: PathDatabase, T: BindingTable<Vis = Visibility>>(
+    asking: &Asking<'_, D, T>,
+    item: Item,
+    name: Name,
+    index: usize,
+    crossed: bool,
+) -> ResolvePathResult
+    ensures { let q = question_in D.oracle asking.now in
+        let own = map_in T.content asking.now in
+        result ≡ walk_of q own crossed (in_types item) index (name ∷ []) }
+{
+    match step(asking, item.def, name) {
+        Some(found) => {
+            let crosses = is_elsewhere(asking.world.map, item.def);
+            reached(found, None, crossed || crosses)
+        }
+        None => reached(PerNs::of_type(item), Some(index), crossed),
+    }
+}
+
+/// The segments from `begin` on, after a definition. One with others behind it is looked up in types
+/// alone.
+#[inline(always)]
 fn walk<D: PathDatabase, T: BindingTable<Vis = Visibility>>(
     asking: &Asking<'_, D, T>,
-    first: PerNs,
+    first: Item,
     begin: usize,
     segments: &[Name],
 ) -> ResolvePathResult
     requires { begin ≤ length segments.now }
     ensures { let q = question_in D.oracle asking.now in
         let own = map_in T.content asking.now in
-        result ≡ walk_of q own false first begin (drop begin segments.now) }
+        result ≡ walk_of q own false (in_types first) begin (drop begin segments.now) }
 {
-    let mut found = first;
+    let mut item = first;
     let mut crossed = false;
     'segments: for i in begin..segments.len() {
         let name = segments[i];
-        let item = match found.types {
-            Some(item) => item,
-            None => return missing(crossed),
-        };
-        let is_last = i + 1 == segments.len();
-        let Some(next) = step(asking, item.def, name, is_last) else {
+        if i + 1 == segments.len() {
+            return last_step(asking, item, name, i, crossed);
+        }
+        let Some(next) = step_in_types(asking, item.def, name) else {
             return reached(PerNs::of_type(item), Some(i), crossed);
         };
         crossed = crossed || is_elsewhere(asking.world.map, item.def);
-        found = next;
+        match next {
+            Some(found) => item = found,
+            None => return missing(crossed),
+        }
     }
-    reached(found, None, crossed)
+    reached(PerNs::of_type(item), None, crossed)
 }
 
 /// A path from a module on, if that is there.
+#[inline(always)]
 fn from_module<D: PathDatabase, T: BindingTable<Vis = Visibility>>(
     asking: &Asking<'_, D, T>,
     place: Option<ModuleId>,
@@ -241,7 +284,7 @@ fn from_module<D: PathDatabase, T: BindingTable<Vis = Visibility>>(
 {
     match place {
         Some(found) => {
-            let first = PerNs::of_type(public_item(Def::Module(found)));
+            let first = public_item(Def::Module(found));
             walk(asking, first, 0, path.segments.as_slice())
         }
         None => missing(false),
@@ -260,6 +303,7 @@ fn from_name(found: PerNs) -> ResolvePathResult
 }
 
 /// A path of more segments, after what the first means in types.
+#[inline(never)]
 fn from_prefix<D: PathDatabase, T: BindingTable<Vis = Visibility>>(
     asking: &Asking<'_, D, T>,
     found: Option<Item>,
@@ -271,12 +315,13 @@ fn from_prefix<D: PathDatabase, T: BindingTable<Vis = Visibility>>(
         (all : PerNs) → all.types ≡ found → result ≡ answer_after q own all (drop 1 segments.now) }
 {
     match found {
-        Some(item) => walk(asking, PerNs::of_type(item), 1, segments),
+        Some(item) => walk(asking, item, 1, segments),
         None => missing(false),
     }
 }
 
 /// An absolute path.
+#[inline(never)]
 fn absolute_path<D: PathDatabase, T: BindingTable<Vis = Visibility>>(
     asking: &Asking<'_, D, T>,
     place: ModuleId,
@@ -306,6 +351,7 @@ fn absolute_path<D: PathDatabase, T: BindingTable<Vis = Visibility>>(
 }
 
 /// A plain path.
+#[inline(never)]
 fn plain_path<D: PathDatabase, T: BindingTable<Vis = Visibility>>(
     asking: &Asking<'_, D, T>,
     place: ModuleId,
@@ -336,6 +382,7 @@ fn plain_path<D: PathDatabase, T: BindingTable<Vis = Visibility>>(
 }
 
 /// What a path means in the map that is asked.
+#[inline(always)]
 fn answer_in<D: PathDatabase, T: BindingTable<Vis = Visibility>>(
     asking: &Asking<'_, D, T>,
     place: ModuleId,
@@ -412,6 +459,7 @@ fn with_map<D: PathDatabase, T>(
 }
 
 /// What a path means, with what it means in the maps around a block.
+#[inline(never)]
 fn with_outside<D: PathDatabase, T>(
     asking: &Asking<'_, D, T>,
     path: &ModPath,

@@ -9,7 +9,7 @@ returns-in-Some g c all e =
     let own = map_in g.T.BindingTable.content c.args.asking.now in
     let rest = drop 1 c.args.segments.now in
     let more : 0 < length rest = simp length-drop (omega (arith, c.requires)) in
-    c.walk.ensures ∙ (rw c.of_type.ensures (prefix-some q own all c.in-Some.item rest more (e ∙ c.in-Some.is)))
+    c.walk.ensures ∙ prefix-some q own all c.in-Some.item rest more (e ∙ c.in-Some.is)
 
 pub returns-in-None : goal.returns-in-None
 returns-in-None g c all e =
