@@ -10,6 +10,7 @@ ghost use Rattle.def_map.specs.DefMaps as whole;
 ghost use Rattle.def_map.specs.Fresh.{IsFresh};
 ghost use Rattle.def_modules.specs.Locals.{local_view};
 ghost use Rattle.def_modules.specs.Maps.{map_state};
+ghost use Rattle.def_modules.specs.Tables.{bound_by};
 ghost use Rattle.def_laws.specs.Finished.{shown};
 ghost use Rattle.def_passes.specs.Collector.{state_of};
 ghost use Rattle.def_passes.specs.Passes.{Ends};
@@ -29,7 +30,7 @@ use def_crates::{MissingCrates, deps_by_name, is_proc_macro_crate, top_attrs};
 use def_ids::{ItemContainerId, MapId, ModuleId};
 use def_interner::Interner;
 use def_items::{ItemList, ModDirs, disabled_by, report_disabled, top_items};
-use def_map::{DefMap, LocalDefMap, SourceDatabase};
+use def_map::{DefMap, LocalDefMap, SourceDatabase, Table};
 use def_parts::{Globs, ModDir};
 use def_passes::{DefCollector, fall_back, resolve_macros, seed, walk};
 use def_rules::Collected;
@@ -67,7 +68,8 @@ pub fn collect_defs<D: SourceDatabase>(
     // Whatever is answered, the session keeps its entries, and no name gets a text.
     ensures session { AddsLocations (session_of session.old) (session_of session.new) }
 {
-    let mut collector = begin(alloc, db, def_map, crate_local)?;
+    let mut collector = begin(alloc, db, def_map, tree_id, crate_local)?;
+    make_room_for_items(db, collector.def_map.tree.map, tree_id, session)?;
     let limit_met = collect(&mut collector, db, session, tree_id)?;
     report_macros(&mut collector, db, session)?;
     collector.finish(limit_met)
@@ -78,6 +80,7 @@ fn begin<'a, D: SourceDatabase>(
     alloc: Global,
     db: &D,
     def_map: DefMap,
+    tree_id: TreeId,
     crate_local: Option<&'a LocalDefMap>,
 ) -> Result<DefCollector<'a>, AllocError>
     requires { IsFresh (whole.state_of def_map) (whole.content_of def_map) }
@@ -88,6 +91,8 @@ fn begin<'a, D: SourceDatabase>(
         state_of collector session ≡ seeded_state setting (session_of session)) }
 {
     let (data, table) = def_map.into_parts();
+    let mut table = table;
+    make_room(db, data.tree.map, tree_id, &mut table)?;
     let is_proc_macro = is_proc_macro_crate(db, data.tree.map.krate);
     let deps = deps_by_name(alloc, db, data.tree.map.krate)?;
     Ok(DefCollector {
@@ -109,6 +114,36 @@ fn begin<'a, D: SourceDatabase>(
         expansions: VecDeque::new(alloc),
         diagnostics: Vec::new(alloc),
     })
+}
+
+/// Makes room in the table for the names of the first tree, one for each of its items.
+fn make_room<D: SourceDatabase>(
+    db: &D,
+    map: MapId,
+    tree_id: TreeId,
+    table: &mut Table,
+) -> Result<(), AllocError>
+    ensures { bound_by table.new ≡ bound_by table.old }
+{
+    match db.item_tree(first_tree(db, map, tree_id)) {
+        Some(tree) => table.reserve(tree.items.len()),
+        None => Ok(()),
+    }
+}
+
+/// Makes room in the session for the items of the first tree.
+fn make_room_for_items<D: SourceDatabase>(
+    db: &D,
+    map: MapId,
+    tree_id: TreeId,
+    session: &mut Interner,
+) -> Result<(), AllocError>
+    ensures { session.new ≡ session.old }
+{
+    match db.item_tree(first_tree(db, map, tree_id)) {
+        Some(tree) => session.reserve(tree),
+        None => Ok(()),
+    }
 }
 
 /// Walks the items, and then records imports and expands macros until nothing moves, or too many

@@ -6,6 +6,7 @@ mod interner;
 mod location;
 mod macro_def;
 mod numbering;
+mod room;
 
 pub use exact::Exact;
 pub use interner::Interner;

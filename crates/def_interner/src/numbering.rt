@@ -49,7 +49,15 @@ impl<T: Exact + Hash + Drop> Numbering<T> {
         self.values.len()
     }
 
+    /// Makes room for more values, so that as many are added with no copy of what is there.
+    pub fn reserve(&mut self, additional: usize) -> Result<(), AllocError>
+        ensures { self.new ≡ self.old }
+    {
+        self.values.reserve(additional)
+    }
+
     /// The number of this value: its own if it has one, else the next.
+    #[inline(never)]
     pub fn number(&mut self, value: T) -> Result<usize, AllocError>
         // On success the number stands for the value, and no other number does.
         ensures stored { IfOk result (λ i. slice_get self.new i ≡ Some value) }
