@@ -1,7 +1,7 @@
 -- Turns of single imports, and what is known once none had one.
 use Rattle.std.proofs.Common.{◌≡◌, ◌<◌, ◌||◌, ℕ, Bool, false, true, List, ◌++◌, Option, Some, None, slice_get, get_or, length, refl, sym, ap, subst, arith, ◌∙◌, inl, inr, Contains, IsPermutation, sum_by}
 use Rattle.std.proofs.lemmas.List.Elements.{All-contains, All-map, Contains-append_cases}
-use Rattle.std.proofs.lemmas.Option.{none-some, same_Some, slice_get-get_or}
+use Rattle.std.proofs.lemmas.Option.{none-some, same_Some, slice_get-get_or, slice_get_within}
 use Rattle.def_interner.specs.declared.interner.Interner.{Interner}
 use Rattle.def_paths.specs.declared.asked.ResolvePathResult.{ResolvePathResult}
 use Rattle.def_map.specs.Oracle.{Oracle}
@@ -109,6 +109,20 @@ module _ (oracle : Oracle) (session : Interner) where
   settled_after_both old mid new false false none unready first_same unready' second_same =
       subst (λ c. NoneReady oracle (state_of c session)) (sym (second_same refl))
       (none_ready mid (subst (λ c. (index : ℕ) → IsUnready oracle session Unresolved c index) (sym (first_same refl)) (unready refl)) (unready' refl))
+
+  -- nor where none was unresolved and nothing was recorded since
+  pub settled_after_last : (mid new : DefCollector) (second : Bool) → second ≡ false
+      → ((index : ℕ) → index < length (entries_of Unresolved mid) → slice_get (entries_of Unresolved mid) index ≡ Some None)
+      → (second ≡ false → (index : ℕ) → IsUnready oracle session Indeterminate mid index) → (second ≡ false → new ≡ mid)
+      → NoneReady oracle (state_of new session)
+  settled_after_last mid new second none left unready second_same =
+      settled_after_both mid mid new false second none
+      (λ first index d here. unready_left oracle session Unresolved mid (entries_of Unresolved mid) index refl (left index (slice_get_within (entries_of Unresolved mid) index (Some d) here)) d here) (λ first. refl)
+      unready second_same
+
+pub or_second : (a b : Bool) → b ≡ true → (a || b) ≡ true
+or_second true b h = refl
+or_second false b h = h
 
 module _ (session : Interner) where
   -- after both passes, in one of which something was recorded, fewer turns are left

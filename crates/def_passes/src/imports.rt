@@ -1,8 +1,9 @@
 //! Imports: each pass records those that are ready.
-ghost use Rattle.std.specs.Prelude.{◌≡◌, ◌<◌, [], ℕ, true, false, length, IfOk, OnOk};
+ghost use Rattle.std.specs.Prelude.{◌≡◌, ◌<◌, [], ℕ, true, false, Some, None, length, slice_get, IfOk, OnOk};
 ghost use Rattle.def_interner.specs.declared.interner.Interner.{Interner};
 ghost use Rattle.def_passes.specs.Collector.{state_of};
 ghost use Rattle.def_passes.specs.Passes.{IsUnready, entries_of};
+ghost use Rattle.def_steps.specs.declared.import_lists.ImportList.TheVariants.{Unresolved};
 ghost use Rattle.def_steps.specs.Shown.{import_of};
 ghost use Rattle.def_laws.specs.Turns.{Moves, turns_left};
 ghost use Rattle.def_laws.specs.Performs.{Performs};
@@ -22,8 +23,8 @@ use item_tree::ImportKind;
 use std::alloc::AllocError;
 
 /// Records each import that is ready: those that are unresolved first, and then those that are
-/// indeterminate, in the order in which they became so. Answers whether one was recorded. On `Err`
-/// nothing but safety is promised.
+/// indeterminate, in the order in which they became so. Answers whether another pass may record one.
+/// On `Err` nothing but safety is promised.
 pub fn resolve_imports<'a, D: SourceDatabase>(
     collector: &mut DefCollector<'a>,
     db: &D,
@@ -36,12 +37,26 @@ pub fn resolve_imports<'a, D: SourceDatabase>(
     ensures fewer { IfOk result (λ moved. moved ≡ true → turns_left (state_of collector.new session.now) < turns_left (state_of collector.old session.now)) }
 {
     let unresolved = try_imports(collector, db, session, ImportList::Unresolved)?;
+    let waits = is_one_unresolved(collector);
     let indeterminate = try_imports(collector, db, session, ImportList::Indeterminate)?;
-    let moved = unresolved || indeterminate;
-    if moved {
+    if indeterminate {
         drop_resolved(collector);
+        return Ok(true);
     }
-    Ok(moved)
+    if unresolved {
+        // Where none is unresolved, all that wait were tried after the last that was recorded.
+        drop_resolved(collector);
+        return Ok(waits);
+    }
+    Ok(false)
+}
+
+/// Whether an import is unresolved.
+fn is_one_unresolved<'a>(collector: &DefCollector<'a>) -> bool
+    ensures { result ≡ false → (index : ℕ) → index < length (entries_of Unresolved collector.now) →
+        slice_get (entries_of Unresolved collector.now) index ≡ Some None }
+{
+    next_tried(entries(collector, ImportList::Unresolved), 0).is_some()
 }
 
 /// Tries each import of a list in order. Answers whether one was recorded.
@@ -115,6 +130,7 @@ pub fn entries<'b, 'a>(
 }
 
 /// Records an import with what its path gives, by its kind. On `Err` nothing but safety is promised.
+#[inline(never)]
 fn record_resolved_import<'a, D: SourceDatabase>(
     collector: &mut DefCollector<'a>,
     db: &D,

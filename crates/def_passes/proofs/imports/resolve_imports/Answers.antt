@@ -1,39 +1,48 @@
-use Rattle.std.proofs.Common.{◌≡◌, ◌<◌, ◌||◌, [], ap, sym, subst, ◌∙◌}
+use Rattle.std.proofs.Common.{◌≡◌, ◌<◌, ◌||◌, [], true, false, Bool, refl, ap, sym, subst, ◌∙◌}
 use Rattle.def_passes.specs.Collector.{state_of}
 use Rattle.def_laws.specs.Turns.{turns_left}
 use Rattle.def_laws.specs.Runs.{Leads}
+use Rattle.def_rules.specs.Recording.{NoneReady}
 use Rattle.def_laws.proofs.StepsLaws.{leads_trans}
-use Rattle.def_passes.proofs.TriesLemmas.{fewer_after_both, settled_after_both}
+use Rattle.def_passes.proofs.TriesLemmas.{fewer_after_both, or_second, settled_after_both, settled_after_last}
 use Rattle.def_passes.proofs.imports.resolve_imports.Goals as goal
-use Rattle.def_passes.proofs.imports.resolve_imports.Goals.{then-unresolved, else-unresolved}
 
-pub returns-then-moved-clause-run : goal.returns-then-moved-clause-run
-returns-then-moved-clause-run g c =
+pub returns-then-indeterminate-clause-run : goal.returns-then-indeterminate-clause-run
+returns-then-indeterminate-clause-run g c =
     subst (Leads (g.D.SourceDatabase.oracle c.args.db.now) [] (state_of c.args.collector.now c.args.session.now) []) (sym (c.drop_resolved.ensures c.args.session.now))
     (leads_trans c.in_ok-unresolved.ensures.run c.in_ok-indeterminate.ensures.run)
 
-pub returns-then-moved-clause-fewer : goal.returns-then-moved-clause-fewer
-returns-then-moved-clause-fewer g c = λ moved.
+pub returns-then-indeterminate-clause-fewer : goal.returns-then-indeterminate-clause-fewer
+returns-then-indeterminate-clause-fewer g c = λ more.
     let first = c.in_ok-unresolved.unresolved in
-    let second = c.in_ok-indeterminate.indeterminate in
-    let either : c.if-unresolved.moved ≡ (first || second) = elim c.if-unresolved.branch [
-      | then-unresolved w ↦ w.moved-is ∙ w.if-unresolved.true ∙ ap (λ b. b || second) (sym w.if-unresolved.true)
-      | else-unresolved w ↦ w.moved-is ∙ ap (λ b. b || second) (sym w.if-unresolved.false)
-    ] in
     subst (λ s. turns_left s < turns_left (state_of c.args.collector.now c.args.session.now)) (sym (c.drop_resolved.ensures c.args.session.now))
-    (fewer_after_both c.args.session.now c.args.collector.now c.try_imports.new.collector c.try_imports-2.new.collector first second (sym either ∙ moved)
+    (fewer_after_both c.args.session.now c.args.collector.now c.try_imports.new.collector c.try_imports-2.new.collector first c.in_ok-indeterminate.indeterminate (or_second first _ c.if-indeterminate.true)
     c.in_ok-unresolved.ensures.fewer c.in_ok-unresolved.ensures.same c.in_ok-indeterminate.ensures.fewer c.in_ok-indeterminate.ensures.same)
 
-pub returns-else-moved-clause-run : goal.returns-else-moved-clause-run
-returns-else-moved-clause-run g c = leads_trans c.in_ok-unresolved.ensures.run c.in_ok-indeterminate.ensures.run
+pub returns-then-unresolved-clause-run : goal.returns-then-unresolved-clause-run
+returns-then-unresolved-clause-run g c =
+    subst (Leads (g.D.SourceDatabase.oracle c.args.db.now) [] (state_of c.args.collector.now c.args.session.now) []) (sym (c.drop_resolved-then-unresolved.ensures c.args.session.now))
+    (leads_trans c.in_ok-unresolved.ensures.run c.in_ok-indeterminate.ensures.run)
 
-pub returns-else-moved-clause-settled : goal.returns-else-moved-clause-settled
-returns-else-moved-clause-settled g c = λ moved.
-    let first = c.in_ok-unresolved.unresolved in
+pub returns-then-unresolved-clause-settled : goal.returns-then-unresolved-clause-settled
+returns-then-unresolved-clause-settled g c = λ none.
+    let oracle = g.D.SourceDatabase.oracle c.args.db.now in
+    subst (NoneReady oracle) (sym (c.drop_resolved-then-unresolved.ensures c.args.session.now))
+    (settled_after_last oracle c.args.session.now c.try_imports.new.collector c.try_imports-2.new.collector c.in_ok-indeterminate.indeterminate c.if-indeterminate.false
+    (c.is_one_unresolved-waits.ensures none) c.in_ok-indeterminate.ensures.unready c.in_ok-indeterminate.ensures.same)
+
+pub returns-then-unresolved-clause-fewer : goal.returns-then-unresolved-clause-fewer
+returns-then-unresolved-clause-fewer g c = λ more.
     let second = c.in_ok-indeterminate.indeterminate in
-    let either : c.if-unresolved.moved ≡ (first || second) = elim c.if-unresolved.branch [
-      | then-unresolved w ↦ w.moved-is ∙ w.if-unresolved.true ∙ ap (λ b. b || second) (sym w.if-unresolved.true)
-      | else-unresolved w ↦ w.moved-is ∙ ap (λ b. b || second) (sym w.if-unresolved.false)
-    ] in
-    settled_after_both (g.D.SourceDatabase.oracle c.args.db.now) c.args.session.now c.args.collector.now c.try_imports.new.collector c.try_imports-2.new.collector first second (sym either ∙ moved)
+    subst (λ s. turns_left s < turns_left (state_of c.args.collector.now c.args.session.now)) (sym (c.drop_resolved-then-unresolved.ensures c.args.session.now))
+    (fewer_after_both c.args.session.now c.args.collector.now c.try_imports.new.collector c.try_imports-2.new.collector c.in_ok-unresolved.unresolved second (ap (λ b. b || second) c.if-unresolved.true)
+    c.in_ok-unresolved.ensures.fewer c.in_ok-unresolved.ensures.same c.in_ok-indeterminate.ensures.fewer c.in_ok-indeterminate.ensures.same)
+
+pub returns-clause-run : goal.returns-clause-run
+returns-clause-run g c = leads_trans c.in_ok-unresolved.ensures.run c.in_ok-indeterminate.ensures.run
+
+pub returns-clause-settled : goal.returns-clause-settled
+returns-clause-settled g c = λ none.
+    let second = c.in_ok-indeterminate.indeterminate in
+    settled_after_both (g.D.SourceDatabase.oracle c.args.db.now) c.args.session.now c.args.collector.now c.try_imports.new.collector c.try_imports-2.new.collector c.in_ok-unresolved.unresolved second (ap (λ b. b || second) c.if-unresolved.false ∙ c.if-indeterminate.false)
     c.in_ok-unresolved.ensures.unready c.in_ok-unresolved.ensures.same c.in_ok-indeterminate.ensures.unready c.in_ok-indeterminate.ensures.same
