@@ -61,6 +61,7 @@ pub fn awaited_attr<'a, D: SourceDatabase>(
 }
 
 /// The first of these attributes that is neither builtin nor a tool's, with its number.
+#[inline(never)]
 fn first_unknown<'a, D: SourceDatabase>(
     db: &D,
     tools: &[Name],

@@ -24,6 +24,7 @@ pub struct DerivedItem {
 
 /// Lets each of the derives that were deferred for an item give its impls. On `Err` nothing but safety
 /// is promised. It is `consider_deferred_derives` of rust-analyzer's collector.
+#[inline(never)]
 pub fn give_impls<D: SourceDatabase>(
     def_map: &mut MapData,
     db: &D,

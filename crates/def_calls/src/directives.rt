@@ -115,6 +115,7 @@ pub struct Expansion {
 
 /// Lets an item wait for a macro, whose expansion is to stand one level deeper. On `Err` nothing but
 /// safety is promised.
+#[inline(never)]
 pub fn queue_macro<'a>(
     directives: &mut VecDeque<MacroDirective<'a>>,
     site: Site<'_>,

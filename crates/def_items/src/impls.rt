@@ -15,6 +15,7 @@ use item_tree::ItemNode;
 use std::alloc::AllocError;
 
 /// Records an impl in its module. On `Err` nothing but safety is promised.
+#[inline(never)]
 pub fn define_impl(
     def_map: &mut MapData,
     session: &mut Interner,

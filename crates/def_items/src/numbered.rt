@@ -110,6 +110,7 @@ pub fn number_item<'a>(
 }
 
 /// Numbers a struct, a union or an enum, as what gives the impls of its derives.
+#[inline(never)]
 pub fn number_adt(
     session: &mut Interner,
     site: Site<'_>,

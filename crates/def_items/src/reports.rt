@@ -15,6 +15,7 @@ use item_tree::{CfgExpr, FileAstId, InFile, ItemNode, TreeId};
 use std::alloc::AllocError;
 
 /// Reports something of an item. On `Err` nothing but safety is promised.
+#[inline(never)]
 pub fn report(
     diagnostics: &mut Vec<DefDiagnostic>,
     site: Site<'_>,

@@ -23,6 +23,7 @@ use std::alloc::AllocError;
 
 /// Tries a macro call where it stands. Answers the list of its expansion's items, if they are to be
 /// walked. A call whose macro is not found waits. On `Err` nothing but safety is promised.
+#[inline(never)]
 pub(crate) fn collect_macro_call<'a, D: SourceDatabase>(
     collector: &mut DefCollector<'a>,
     db: &'a D,

@@ -17,6 +17,7 @@ use std::alloc::AllocError;
 
 /// Records a glob with the definition that its path gives: puts what it brings, and adds its
 /// edge last. On `Err` nothing but safety is promised.
+#[inline(never)]
 pub fn record_glob<'a, D: SourceDatabase>(
     collector: &mut DefCollector<'a>,
     db: &D,

@@ -55,6 +55,7 @@ pub(crate) fn give_deferred<'a, D: SourceDatabase>(
 
 /// Handles an item by its kind. Answers the list of items that are to be walked next, if it opens one. On
 /// `Err` nothing but safety is promised.
+#[inline(always)]
 pub(crate) fn collect_item<'a, D: SourceDatabase>(
     collector: &mut DefCollector<'a>,
     db: &'a D,
@@ -107,6 +108,7 @@ pub(crate) fn collect_item<'a, D: SourceDatabase>(
 }
 
 /// Handles an item of a kind that opens no list. On `Err` nothing but safety is promised.
+#[inline(always)]
 fn collect_leaf<'a, D: SourceDatabase>(
     collector: &mut DefCollector<'a>,
     db: &D,
@@ -168,6 +170,7 @@ fn collect_leaf<'a, D: SourceDatabase>(
 
 /// Records an extern block. Answers the list of its items. On `Err` nothing but safety is
 /// promised.
+#[inline(never)]
 fn collect_extern_block<'a, D: SourceDatabase>(
     collector: &mut DefCollector<'a>,
     db: &'a D,

@@ -25,6 +25,7 @@ pub(crate) struct WrittenMacro<'a> {
 
 /// Defines a macro by rules for the text behind it, and declares it where it is exported. On `Err`
 /// nothing but safety is promised.
+#[inline(never)]
 pub(crate) fn collect_macro_rules<D: SourceDatabase>(
     collector: &mut DefCollector<'_>,
     db: &D,
@@ -47,6 +48,7 @@ pub(crate) fn collect_macro_rules<D: SourceDatabase>(
 
 /// Defines a `macro` item, and declares it as visible as is written. On `Err` nothing but safety is
 /// promised.
+#[inline(never)]
 pub(crate) fn collect_macro<D: SourceDatabase>(
     collector: &mut DefCollector<'_>,
     db: &D,

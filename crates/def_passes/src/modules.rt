@@ -57,6 +57,7 @@ fn inline_origin(item: ModuleItem<'_>) -> ModuleOrigin
 
 /// Declares a module. Answers the list of its items, if they are to be walked. On `Err` nothing
 /// but safety is promised.
+#[inline(never)]
 pub(crate) fn collect_module<'a, D: SourceDatabase>(
     collector: &mut DefCollector<'a>,
     db: &'a D,

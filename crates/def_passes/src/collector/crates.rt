@@ -49,6 +49,7 @@ pub struct WrittenCrate<'a> {
 impl<'a> DefCollector<'a> {
     /// Records an extern crate, and puts it where it is found. On `Err` nothing but safety is
     /// promised.
+    #[inline(never)]
     pub fn collect_crate<D: SourceDatabase>(
         &mut self,
         db: &D,

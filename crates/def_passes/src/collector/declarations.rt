@@ -60,6 +60,7 @@ impl DefCollector<'_> {
     }
 
     /// Declares a struct, and its constructor. On `Err` nothing but safety is promised.
+    #[inline(never)]
     pub fn collect_struct<D: SourceDatabase>(
         &mut self,
         db: &D,

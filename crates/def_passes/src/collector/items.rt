@@ -17,6 +17,7 @@ use std::alloc::AllocError;
 
 impl<'a> DefCollector<'a> {
     /// Queues the imports of a `use` item. On `Err` nothing but safety is promised.
+    #[inline(never)]
     pub fn collect_use(
         &mut self,
         session: &mut Interner,
