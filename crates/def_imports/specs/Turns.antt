@@ -2,6 +2,7 @@
 use Rattle.std.specs.Prelude.{◌≡◌, ℕ, ◌+◌, ◌<◌, ◌^◌, Bool, true, false, ◌∷◌, nat_lt}
 use Rattle.std.specs.BTreeSet.{btree_set_len, insert_key}
 use Rattle.std.specs.declared.cmp.Ordering.{Ordering}
+use Rattle.std.specs.Ordering.{bool_cmp, nat_cmp, ordering_then}
 use Rattle.def_steps.specs.declared.import_lists.ImportList.{ImportList}
 use Rattle.def_steps.specs.declared.import_lists.ImportList.TheVariants.{Unresolved, Indeterminate}
 use Rattle.def_imports.specs.declared.turns.ImportAt.{ImportAt}
@@ -37,9 +38,13 @@ pub record IsNext (old new : Turns) (import : ImportAt) : Type 0 where
   pub list : is_indeterminate import.list ≡ new.last.is_indeterminate
   pub place : import.index ≡ new.last.index
 
--- an import woke: its turn stands among those that are to come, by their order, and all else stays
-pub record Wakes (order : Turn → Turn → Ordering) (old new : Turns) (import : ImportAt) : Type 0 where
+-- the order of turns: pass by pass, in a pass those that are unresolved first, and of two in one list the one with the lower place
+abbrev pub turn_order : Turn → Turn → Ordering
+turn_order first second = ordering_then (nat_cmp first.pass second.pass) (ordering_then (bool_cmp first.is_indeterminate second.is_indeterminate) (nat_cmp first.index second.index))
+
+-- an import woke: its turn stands among those that are to come, in their order, and all else stays
+pub record Wakes (old new : Turns) (import : ImportAt) : Type 0 where
   pub turn : Turn
   pub wakes : WakesAfter old.last import turn
-  pub comes : new.coming.keys ≡ insert_key order old.coming.keys turn
+  pub comes : new.coming.keys ≡ insert_key turn_order old.coming.keys turn
   pub last : new.last ≡ old.last

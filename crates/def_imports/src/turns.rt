@@ -104,7 +104,7 @@ impl Turns {
     /// Wakes an import: it has a turn in the pass that is under way, where it comes after the one
     /// that had the last turn, and else in the next pass.
     pub fn wake(&mut self, import: ImportAt) -> Result<(), AllocError>
-        ensures woken { OnOk result (Wakes ⟦<Turn as Ord>⟧.cmp self.old self.new import) }
+        ensures woken { OnOk result (Wakes self.old self.new import) }
     {
         self.coming.insert(turn_after(self.last, import))?;
         Ok(())
