@@ -1,7 +1,7 @@
 -- The impls of deferred derives, one after the other.
 use Rattle.std.proofs.Common.{◌≡◌, ℕ, List, [], ◌∷◌, ◌++◌, Option, Some, None, refl, sym, ap, ◌∙◌}
-use Rattle.item_tree.specs.declared.ids.FileAstId.{FileAstId}
-use Rattle.item_tree.specs.declared.ids.InFile.{InFile}
+use Rattle.tree_ids.specs.declared.ids.FileAstId.{FileAstId}
+use Rattle.tree_ids.specs.declared.ids.InFile.{InFile}
 use Rattle.def_ids.specs.declared.ids.Adt.{Adt}
 use Rattle.def_ids.specs.declared.ids.BuiltinDeriveImplId.{BuiltinDeriveImplId}
 use Rattle.def_ids.specs.declared.ids.ModuleId.{ModuleId}

@@ -1,10 +1,10 @@
 -- What is noted of items whose attributes are macros, as the rules see it.
 use Rattle.std.specs.Prelude.{Bool, List, [], Option, unwrap_or}
-use Rattle.item_tree.specs.declared.ids.AttrId.{AttrId}
-use Rattle.item_tree.specs.declared.ids.FileAstId.{FileAstId}
-use Rattle.item_tree.specs.declared.ids.HirFileId.{HirFileId}
-use Rattle.item_tree.specs.declared.ids.InFile.{InFile}
-use Rattle.item_tree.specs.declared.ids.ModItemId.{ModItemId}
+use Rattle.tree_ids.specs.declared.ids.AttrId.{AttrId}
+use Rattle.tree_ids.specs.declared.ids.FileAstId.{FileAstId}
+use Rattle.tree_ids.specs.declared.ids.HirFileId.{HirFileId}
+use Rattle.tree_ids.specs.declared.ids.InFile.{InFile}
+use Rattle.tree_ids.specs.declared.ids.ModItemId.{ModItemId}
 use Rattle.def_attrs.specs.declared.item_attrs.ItemAttrs.{ItemAttrs}
 use Rattle.def_modules.specs.Equality.{position_eq}
 use Rattle.def_rules.specs.Attributes.{is_item}

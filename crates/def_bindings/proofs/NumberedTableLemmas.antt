@@ -13,7 +13,7 @@ use Rattle.std.specs.List.{IsDistinct}
 use Rattle.std.specs.HashMap.{HashMap, get}
 use Rattle.std.proofs.lemmas.Bool.{cases_Bool}
 use Rattle.def_ids.specs.declared.ids.ModuleId.{ModuleId}
-use Rattle.item_tree.specs.declared.name.Name.{Name}
+use Rattle.tree_ids.specs.declared.name.Name.{Name}
 use Rattle.def_bindings.specs.declared.bindings.Namespace.{Namespace}
 use Rattle.def_bindings.specs.declared.bound_name.BoundName.{BoundName}
 use Rattle.def_bindings.specs.declared.bindings.Binding.{Binding}

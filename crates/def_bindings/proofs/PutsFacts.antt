@@ -1,6 +1,6 @@
 -- What is put where, row by row.
 use Rattle.std.proofs.Common.{◌≡◌, Bool, true, false, not, ◌||◌, ◌&&◌, Some, None, refl, ℕ, [], ◌∷◌}
-use Rattle.item_tree.specs.declared.name.Name.{Name}
+use Rattle.tree_ids.specs.declared.name.Name.{Name}
 use Rattle.def_ids.specs.declared.ids.ModuleId.{ModuleId}
 use Rattle.def_ids.specs.declared.ids.TraitId.{TraitId}
 use Rattle.def_ids.specs.declared.ids.Def.{Def}

@@ -1,7 +1,7 @@
 -- Bindings by place.
 use Rattle.std.specs.Prelude.{Option, option_and_then}
 use Rattle.indexmap.specs.IndexMap.{IndexMap, get}
-use Rattle.item_tree.specs.declared.name.Name.{Name}
+use Rattle.tree_ids.specs.declared.name.Name.{Name}
 use Rattle.def_ids.specs.declared.ids.ModuleId.{ModuleId}
 use Rattle.def_bindings.specs.declared.bindings.Namespace.{Namespace}
 use Rattle.def_bindings.specs.declared.bindings.Binding.{Binding}

@@ -1,6 +1,6 @@
 -- What a place is bound to after something is put there, and copies along the edges of globs.
 use Rattle.std.specs.Prelude.{◌≡◌, Bool, false, cond, is_some, unwrap_or, option_map, Option, Some, None, List, [], ◌∷◌}
-use Rattle.item_tree.specs.declared.name.Name.{Name}
+use Rattle.tree_ids.specs.declared.name.Name.{Name}
 use Rattle.def_ids.specs.declared.ids.ModuleId.{ModuleId}
 use Rattle.def_ids.specs.declared.ids.TraitId.{TraitId}
 use Rattle.def_ids.specs.declared.ids.GlobId.{GlobId}

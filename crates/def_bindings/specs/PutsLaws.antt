@@ -1,7 +1,7 @@
 -- What puts and copies keep and what they leave: a declaration stays, what is bound stays bound, and other places stay.
 use Rattle.std.specs.Prelude.{◌≡◌, Bool, true, false, cond, Option, Some, None, List, [], ◌∷◌, refl, ◌⊎◌}
 use Rattle.std.proofs.Common.{ap, sym, ◌∙◌, subst, inl, inr}
-use Rattle.item_tree.specs.declared.name.Name.{Name}
+use Rattle.tree_ids.specs.declared.name.Name.{Name}
 use Rattle.def_ids.specs.declared.ids.ModuleId.{ModuleId}
 use Rattle.def_ids.specs.declared.ids.GlobId.{GlobId}
 use Rattle.def_ids.specs.declared.ids.Def.{Def}

@@ -1,7 +1,7 @@
 -- What an offer makes of a place, and what stays where it is written.
 use Rattle.std.specs.Prelude.{◌≡◌, Bool, true, false, cond, Option, Some, None, refl, ◌⊎◌}
 use Rattle.std.proofs.Common.{ap, sym, ◌∙◌, inl, inr}
-use Rattle.item_tree.specs.declared.name.Name.{Name}
+use Rattle.tree_ids.specs.declared.name.Name.{Name}
 use Rattle.def_ids.specs.declared.ids.ModuleId.{ModuleId}
 use Rattle.def_ids.specs.declared.ids.GlobId.{GlobId}
 use Rattle.def_ids.specs.Equality.{def_eq, glob_eq}

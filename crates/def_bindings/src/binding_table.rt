@@ -9,8 +9,8 @@ use crate::bindings::{Binding, EdgeTo, ImportOrExternCrate, Namespace, Slot};
 use crate::name_bindings::NameBindings;
 use crate::puts::as_binding;
 use def_ids::{Def, ModuleId, TraitId};
-use item_tree::Name;
 use std::alloc::AllocError;
+use tree_ids::Name;
 
 /// Bindings, names, unnamed traits and glob edges by module, however they are kept. What is read is
 /// copied. A table that finds all bindings of a name, an unnamed trait or an edge by one look-up, or

@@ -1,7 +1,7 @@
 //! What modules bind.
 
 use def_ids::{Def, ExternCrateId, GlobId, ImportId, ModuleId, TraitId};
-use item_tree::Name;
+use tree_ids::Name;
 
 /// A namespace.
 #[derive(Clone, Copy, PartialEq, Eq, Hash, Debug)]

@@ -7,8 +7,8 @@ ghost use Rattle.def_bindings.specs.Lists.{lists_of};
 
 use def_ids::ModuleId;
 use indexmap::IndexMap;
-use item_tree::Name;
 use std::alloc::{AllocError, Global};
+use tree_ids::Name;
 
 /// A list for each module.
 #[derive(Drop)]

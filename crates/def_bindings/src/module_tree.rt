@@ -7,8 +7,8 @@ ghost use Rattle.def_bindings.specs.Tree.{are_apart as apart_from, AreParentsLow
 
 use crate::visibility::{VisOrder, Visibility};
 use def_ids::{MapId, ModuleId};
-use item_tree::Seq;
 use std::alloc::{AllocError, Global};
+use tree_ids::Seq;
 
 /// The parents of a map's modules, and for a block the modules that contain it, the nearest first.
 #[derive(Drop)]

@@ -18,8 +18,8 @@ use crate::puts::as_binding;
 use def_ids::{Def, ModuleId, TraitId};
 use indexmap::IndexMap;
 use indexmap::map::Entry;
-use item_tree::Name;
 use std::alloc::{AllocError, Global};
+use tree_ids::Name;
 
 /// What all names stand for in one index over modules and names, and so the unnamed traits and the
 /// edges; and the names of each module in first-bound order.

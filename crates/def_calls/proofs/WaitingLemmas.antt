@@ -4,10 +4,15 @@ use Rattle.std.specs.Prelude.{Bool, true, false, cond, filter, IsSome, OnSome, O
 use Rattle.std.specs.List.{remove}
 use Rattle.std.proofs.lemmas.List.Elements.{filter-append}
 use Rattle.std.proofs.lemmas.List.{map-append, take_all, take_more}
+use Rattle.std.proofs.lemmas.Option.{slice_get-get_or}
 use Rattle.def_calls.specs.declared.directives.MacroDirective.{MacroDirective}
 use Rattle.def_calls.specs.Shown.{IsLeft, macro_directive_of, macros_in}
 use Rattle.def_rules.specs.declared.outcome.LeftMacro.{LeftMacro}
 use Rattle.def_rules.specs.Report.{left_macro}
+
+-- an element that was read stands at its place
+pub read_at : {X : Type 0} (xs : List X) (i : ℕ) (shown known : X) → i < length xs → shown ≡ get_or xs i shown → shown ≡ known → slice_get xs i ≡ Some known
+read_at xs i shown known within read is = slice_get-get_or xs i shown within ∙ ap (λ x. Some x) (sym read ∙ is)
 
 -- what waits first stands before the others
 pub first_is : {X : Type 0} (xs : List X) (x : X) → slice_get xs 0 ≡ Some x → (rest : List X) × (xs ≡ x ∷ rest)

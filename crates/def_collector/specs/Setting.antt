@@ -1,6 +1,6 @@
 -- What a run is given.
 use Rattle.std.specs.Prelude.{Option}
-use Rattle.item_tree.specs.declared.ids.TreeId.{TreeId}
+use Rattle.tree_ids.specs.declared.ids.TreeId.{TreeId}
 use Rattle.def_map.specs.declared.def_map.DefMap.{DefMap}
 use Rattle.def_map.specs.DefMaps as whole
 use Rattle.def_map.specs.Oracle.{Oracle}

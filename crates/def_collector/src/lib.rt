@@ -4,8 +4,9 @@
 mod run;
 mod wakes;
 
+pub use def_answer::Collected;
 pub use def_rules::{
-    Collected, DefDiagnostic, DefDiagnosticKind, DefDiagnostics, Edge, LeftImport, LeftMacro,
-    LeftMacroKind, Outcome,
+    DefDiagnostic, DefDiagnosticKind, DefDiagnostics, Edge, LeftImport, LeftMacro, LeftMacroKind,
+    Outcome,
 };
 pub use run::collect_defs;

@@ -100,10 +100,9 @@ fn try_woken<'a, D: SourceDatabase>(
         Moves (D.oracle db.now) (state_of collector.old session.now) (state_of collector.new session.now)) }
     ensures same { IfOk result (λ moved. moved ≡ false → collector.new ≡ collector.old) }
 {
-    let Some(directive) = import_at(collector, import) else {
+    if !read_names(collector, db, session, watchers, import)? {
         return Ok(false);
-    };
-    watchers.read(&collector.world(db, session), &directive.import)?;
+    }
     let count = collector.indeterminate_imports.len();
     if !try_import(collector, db, session, import.list, import.index)? {
         watchers.watch(import)?;
@@ -112,6 +111,23 @@ fn try_woken<'a, D: SourceDatabase>(
     if let Some(kept) = kept_at(collector, import, count) {
         watchers.watch(kept)?;
     }
+    Ok(true)
+}
+
+/// Notes the names that the path of an import reads. Answers whether an import is there.
+fn read_names<D: SourceDatabase>(
+    collector: &DefCollector<'_>,
+    db: &D,
+    session: &Interner,
+    watchers: &mut Watchers,
+    import: ImportAt,
+) -> Result<bool, AllocError>
+    ensures { IfOk result (λ there. there ≡ true → import.index < length (entries_of import.list collector.now)) }
+{
+    let Some(directive) = import_at(collector, import) else {
+        return Ok(false);
+    };
+    watchers.read(&collector.world(db, session), &directive.import)?;
     Ok(true)
 }
 

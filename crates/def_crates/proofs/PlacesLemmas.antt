@@ -2,7 +2,7 @@
 use Rattle.std.proofs.Math.Seq.{drop-cons}
 use Rattle.std.proofs.Common.{◌≡◌, ◌<◌, ◌+◌, ℕ, suc, drop, get_or, length, add-one, Bool, true, false, cond, List, [], ◌∷◌, Option, refl, sym, ap, ◌∙◌, ◌⊎◌, inl, inr}
 use Rattle.std.proofs.lemmas.Bool.{cases_Bool}
-use Rattle.item_tree.specs.declared.name.Name.{Name}
+use Rattle.tree_ids.specs.declared.name.Name.{Name}
 use Rattle.def_bindings.specs.Content.{is_name}
 use Rattle.def_bindings.specs.IdLaws.{cases_name}
 use Rattle.def_oracle.specs.declared.source_database.Dependency.{Dependency}

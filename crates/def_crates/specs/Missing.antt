@@ -1,6 +1,6 @@
 -- What the set of crates that were not found stands for.
 use Rattle.std.specs.Prelude.{Bool}
-use Rattle.item_tree.specs.declared.name.Name.{Name}
+use Rattle.tree_ids.specs.declared.name.Name.{Name}
 use Rattle.def_bindings.specs.Content.{is_name}
 use Rattle.def_crates.specs.declared.missing_crates.MissingCrates.{MissingCrates}
 use Rattle.indexmap.specs.IndexSet.{contains}

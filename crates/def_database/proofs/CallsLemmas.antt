@@ -11,9 +11,9 @@ use Rattle.def_oracle.specs.declared.source_database.UnresolvedMacro.{Unresolved
 use Rattle.def_modules.specs.MapState.{Position}
 use Rattle.def_oracle.specs.Queries.{PlainAttrCall, PlainCall}
 use Rattle.def_oracle.specs.declared.source_database.DeriveCallQuery.{DeriveCallQuery}
-use Rattle.item_tree.specs.declared.ids.Crate.{Crate}
-use Rattle.item_tree.specs.declared.ids.MacroCallId.{MacroCallId}
-use Rattle.item_tree.specs.declared.macro_flags.MacroCallStyles.{MacroCallStyles}
+use Rattle.tree_ids.specs.declared.ids.Crate.{Crate}
+use Rattle.tree_ids.specs.declared.ids.MacroCallId.{MacroCallId}
+use Rattle.tree_ids.specs.declared.macro_flags.MacroCallStyles.{MacroCallStyles}
 use Rattle.def_database.specs.declared.database.CallKey.{CallKey}
 use Rattle.def_database.specs.contracts.database.CallKeyPartialEq.TheImpl as keys
 use Rattle.def_database.specs.declared.database.DeriveCallKey.{DeriveCallKey}

@@ -5,13 +5,13 @@ use Rattle.std.specs.String.{string_bytes}
 use Rattle.std.specs.Map.{lookup}
 use Rattle.std.proofs.lemmas.Bool.{eqb-true}
 use Rattle.indexmap.specs.IndexMap.{IndexMap, IsEmpty, get, get_by_text}
-use Rattle.item_tree.specs.declared.ids.BlockId.{BlockId}
-use Rattle.item_tree.specs.declared.ids.FileId.{FileId}
-use Rattle.item_tree.specs.declared.ids.HirFileId.{HirFileId}
-use Rattle.item_tree.specs.declared.ids.HirFileId.TheVariants.{File, Macro}
-use Rattle.item_tree.specs.declared.ids.TreeId.{TreeId}
-use Rattle.item_tree.specs.contracts.ids.HirFileIdPartialEq.TheImpl as files
-use Rattle.item_tree.specs.contracts.ids.TreeIdPartialEq.TheImpl as trees
+use Rattle.tree_ids.specs.declared.ids.BlockId.{BlockId}
+use Rattle.tree_ids.specs.declared.ids.FileId.{FileId}
+use Rattle.tree_ids.specs.declared.ids.HirFileId.{HirFileId}
+use Rattle.tree_ids.specs.declared.ids.HirFileId.TheVariants.{File, Macro}
+use Rattle.tree_ids.specs.declared.ids.TreeId.{TreeId}
+use Rattle.tree_ids.specs.contracts.ids.HirFileIdPartialEq.TheImpl as files
+use Rattle.tree_ids.specs.contracts.ids.TreeIdPartialEq.TheImpl as trees
 use Rattle.def_modules.specs.Equality.{file_eq}
 use Rattle.def_modules.specs.Updates.{set_where}
 use Rattle.def_database.specs.Database.{file_id_eq, path_in, tree_eq}

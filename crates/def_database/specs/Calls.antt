@@ -1,7 +1,7 @@
 -- What macro calls are answered, by what was written down of them.
 use Rattle.std.specs.Prelude.{Bool, false, true, ◌==◌, ◌&&◌, ◌-◌, ◌^◌, cond, List, [], ◌∷◌, Option, Some, None, unwrap_or, Result, Ok, Err}
-use Rattle.item_tree.specs.declared.ids.MacroCallId.{MacroCallId}
-use Rattle.item_tree.specs.declared.macro_flags.MacroCallStyles.{MacroCallStyles}
+use Rattle.tree_ids.specs.declared.ids.MacroCallId.{MacroCallId}
+use Rattle.tree_ids.specs.declared.macro_flags.MacroCallStyles.{MacroCallStyles}
 use Rattle.def_ids.specs.declared.ids.MacroId.{MacroId}
 use Rattle.def_interner.specs.declared.macro_def.MacroDefId.{MacroDefId}
 use Rattle.def_ids.specs.Equality.{macro_eq}

@@ -3,13 +3,13 @@ use Rattle.std.specs.Prelude.{Bool, false, ◌==◌, ◌&&◌, ◌||◌, nat_le,
 use Rattle.std.specs.Option.{option_map_or}
 use Rattle.indexmap.specs.IndexMap.{IndexMap, get, get_by_text}
 use Rattle.indexmap.specs.IndexSet.{contains}
-use Rattle.item_tree.specs.declared.ids.BlockId.{BlockId}
-use Rattle.item_tree.specs.declared.ids.Crate.{Crate}
-use Rattle.item_tree.specs.declared.ids.FileId.{FileId}
-use Rattle.item_tree.specs.declared.ids.HirFileId.{HirFileId}
-use Rattle.item_tree.specs.declared.ids.HirFileId.TheVariants.{File, Macro}
-use Rattle.item_tree.specs.declared.ids.TreeId.{TreeId}
-use Rattle.item_tree.specs.declared.name.Name.{Name}
+use Rattle.tree_ids.specs.declared.ids.BlockId.{BlockId}
+use Rattle.tree_ids.specs.declared.ids.Crate.{Crate}
+use Rattle.tree_ids.specs.declared.ids.FileId.{FileId}
+use Rattle.tree_ids.specs.declared.ids.HirFileId.{HirFileId}
+use Rattle.tree_ids.specs.declared.ids.HirFileId.TheVariants.{File, Macro}
+use Rattle.tree_ids.specs.declared.ids.TreeId.{TreeId}
+use Rattle.tree_ids.specs.declared.name.Name.{Name}
 use Rattle.def_ids.specs.Ids.{is_same_block}
 use Rattle.def_bindings.specs.Content.{is_name}
 use Rattle.def_map.specs.DefMaps.{view_of}

@@ -1,12 +1,12 @@
 -- What a database answers once something more is written down: what is given, and all else as before.
 use Rattle.std.specs.Prelude.{ℕ, Bool, true, ◌&&◌, nat_eq, cond, List, Option, Some, bytes_eq}
 use Rattle.either.specs.declared.Either.{Either}
-use Rattle.item_tree.specs.declared.ids.BlockId.{BlockId}
-use Rattle.item_tree.specs.declared.ids.Crate.{Crate}
-use Rattle.item_tree.specs.declared.ids.FileId.{FileId}
-use Rattle.item_tree.specs.declared.ids.HirFileId.{HirFileId}
-use Rattle.item_tree.specs.declared.ids.TreeId.{TreeId}
-use Rattle.item_tree.specs.declared.name.Name.{Name}
+use Rattle.tree_ids.specs.declared.ids.BlockId.{BlockId}
+use Rattle.tree_ids.specs.declared.ids.Crate.{Crate}
+use Rattle.tree_ids.specs.declared.ids.FileId.{FileId}
+use Rattle.tree_ids.specs.declared.ids.HirFileId.{HirFileId}
+use Rattle.tree_ids.specs.declared.ids.TreeId.{TreeId}
+use Rattle.tree_ids.specs.declared.name.Name.{Name}
 use Rattle.item_tree.specs.declared.tree.ItemTree.{ItemTree}
 use Rattle.def_locs.specs.declared.expander.BuiltinAttr.{BuiltinAttr}
 use Rattle.def_bindings.specs.Content.{is_name}

@@ -1,7 +1,7 @@
 -- Slots of entries, rows of the put table on which waves rest, and climbs in a small order.
 use Rattle.std.proofs.Common.{◌≡◌, ℕ, Option, Some, None, [], ◌∷◌, refl}
 use Rattle.std.specs.Prelude.{nat_le}
-use Rattle.item_tree.specs.declared.name.Name.{Name}
+use Rattle.tree_ids.specs.declared.name.Name.{Name}
 use Rattle.def_ids.specs.declared.ids.ModuleId.{ModuleId}
 use Rattle.def_ids.specs.declared.ids.GlobId.{GlobId}
 use Rattle.def_ids.specs.declared.ids.Def.{Def}

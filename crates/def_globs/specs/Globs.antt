@@ -1,6 +1,6 @@
 -- What updates and added edges leave of a table.
 use Rattle.std.specs.Prelude.{◌≡◌, Bool, false, Option, Some, List}
-use Rattle.item_tree.specs.declared.name.Name.{Name}
+use Rattle.tree_ids.specs.declared.name.Name.{Name}
 use Rattle.def_ids.specs.declared.ids.ModuleId.{ModuleId}
 use Rattle.def_ids.specs.declared.ids.GlobId.{GlobId}
 use Rattle.def_bindings.specs.declared.bindings.Namespace.{Namespace}

@@ -1,6 +1,6 @@
 -- Waves: what changed in a module is copied along the edges of globs, to the end.
 use Rattle.std.specs.Prelude.{◌≡◌, ℕ, Bool, true, false, option_to_list, Option, Some, None, List, [], ◌∷◌, ◌++◌, slice_get, Contains, ◌⊎◌}
-use Rattle.item_tree.specs.declared.name.Name.{Name}
+use Rattle.tree_ids.specs.declared.name.Name.{Name}
 use Rattle.def_ids.specs.declared.ids.ModuleId.{ModuleId}
 use Rattle.def_ids.specs.declared.ids.GlobId.{GlobId}
 use Rattle.def_ids.specs.declared.ids.Def.{Def}

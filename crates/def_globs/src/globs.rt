@@ -12,9 +12,9 @@ mod wave;
 use changes::Changes;
 use def_bindings::{BindingTable, EdgeTo, Entry, Namespace, VisOrder, is_raised};
 use def_ids::{GlobId, ModuleId};
-use item_tree::Name;
 use std::alloc::{AllocError, Global};
 use std::marker::Model;
+use tree_ids::Name;
 use wave::{put_list, spread};
 
 /// An edge beside the one that is there.

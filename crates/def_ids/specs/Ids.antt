@@ -1,7 +1,7 @@
 -- Tests on maps and modules.
 use Rattle.std.specs.Prelude.{◌==◌, ◌&&◌, Bool, true, false, Option, Some, None, is_some}
-use Rattle.item_tree.specs.declared.ids.BlockId.{BlockId}
-use Rattle.item_tree.specs.declared.ids.Crate.{Crate}
+use Rattle.tree_ids.specs.declared.ids.BlockId.{BlockId}
+use Rattle.tree_ids.specs.declared.ids.Crate.{Crate}
 use Rattle.def_ids.specs.declared.ids.MapId.{MapId}
 use Rattle.def_ids.specs.declared.ids.ModuleId.{ModuleId}
 

@@ -1,8 +1,8 @@
 //! Numbers of maps, modules and definitions.
 ghost use Rattle.std.specs.Prelude.{◌≡◌};
 
-use item_tree::{BlockId, Crate};
 use std::hash::{Hash, Hasher};
+use tree_ids::{BlockId, Crate};
 
 /// A map of definitions: that of a crate, or that of one of its blocks.
 #[derive(Clone, Copy, PartialEq, Eq, Hash, Debug)]

@@ -1,2 +1,1 @@
 pub mod GlobLemmas
-pub mod ResultLaws

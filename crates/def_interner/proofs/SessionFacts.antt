@@ -1,6 +1,6 @@
 -- Worked rows of what a session shows.
 use Rattle.std.specs.Prelude.{◌≡◌, [], ◌∷◌, Some, None, codes, refl}
-use Rattle.item_tree.specs.declared.ids.HirFileId.TheVariants.{File}
+use Rattle.tree_ids.specs.declared.ids.HirFileId.TheVariants.{File}
 use Rattle.def_interner.specs.Interner.{first_tables}
 use Rattle.def_ids.specs.Ids.{crate_root}
 use Rattle.def_interner.specs.Session.{session_of, shown_item, shown_macro, macro_def, macro_kind, FunctionItem, StructItem, UnionItem}
@@ -13,8 +13,8 @@ use Rattle.def_ids.specs.declared.edition.Edition.TheVariants.{Edition2021, Edit
 use Rattle.def_interner.specs.declared.macro_def.MacroDefKind.TheVariants as kind
 use Rattle.def_locs.specs.declared.expander.MacroExpander.TheVariants as expander
 use Rattle.def_locs.specs.declared.expander.ProcMacroUse.TheVariants.{Attr}
-use Rattle.item_tree.specs.declared.ids.FileAstId.{FileAstId}
-use Rattle.item_tree.specs.declared.ids.InFile.{InFile}
+use Rattle.tree_ids.specs.declared.ids.FileAstId.{FileAstId}
+use Rattle.tree_ids.specs.declared.ids.InFile.{InFile}
 
 -- the first known names
 pub first_names : ((session_of first_tables).text (record { 0 = 0 }) ≡ Some (codes "self")) × ((session_of first_tables).text (record { 0 = 31 }) ≡ Some (codes "rust_analyzer")) × ((session_of first_tables).text (record { 0 = 32 }) ≡ None)

@@ -1,7 +1,7 @@
 -- The ways in which a macro may be called.
 use Rattle.std.specs.Prelude.{ℕ, Bool, true, false, ◌==◌}
 use Rattle.std.specs.Int.RustNames.{bit_and}
-use Rattle.item_tree.specs.declared.macro_flags.MacroCallStyles.{MacroCallStyles}
+use Rattle.tree_ids.specs.declared.macro_flags.MacroCallStyles.{MacroCallStyles}
 use Rattle.def_interner.specs.declared.macro_def.MacroDefKind.{MacroDefKind}
 use Rattle.def_interner.specs.declared.macro_def.MacroDefKind.TheVariants as kind
 use Rattle.def_locs.specs.declared.expander.MacroExpander.{MacroExpander}

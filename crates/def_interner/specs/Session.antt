@@ -1,9 +1,9 @@
 -- What a session shows: the location of each id and the text of each name.
 use Rattle.std.specs.Prelude.{◌≡◌, ℕ, List, Option, Some, option_map, slice_get}
-use Rattle.item_tree.specs.declared.ids.FileAstId.{FileAstId}
-use Rattle.item_tree.specs.declared.ids.InFile.{InFile}
-use Rattle.item_tree.specs.declared.macro_flags.MacroRulesLocFlags.{MacroRulesLocFlags}
-use Rattle.item_tree.specs.declared.name.Name.{Name}
+use Rattle.tree_ids.specs.declared.ids.FileAstId.{FileAstId}
+use Rattle.tree_ids.specs.declared.ids.InFile.{InFile}
+use Rattle.tree_ids.specs.declared.macro_flags.MacroRulesLocFlags.{MacroRulesLocFlags}
+use Rattle.tree_ids.specs.declared.name.Name.{Name}
 use Rattle.def_interner.specs.MacroKinds.{kind_of_expander}
 use Rattle.def_ids.specs.declared.ids.ItemContainerId.{ItemContainerId}
 use Rattle.def_ids.specs.declared.ids.ItemContainerId.TheVariants.{Module}

@@ -1,7 +1,7 @@
 -- States after what an item puts.
 use Rattle.std.proofs.Common.{◌≡◌, ℕ, List, length, map, Option, [], ◌∷◌, ◌++◌, Some, None, refl, sym, ap, subst, ◌∙◌, append-nil, Bool}
-use Rattle.item_tree.specs.declared.ids.FileAstId.{FileAstId}
-use Rattle.item_tree.specs.declared.ids.InFile.{InFile}
+use Rattle.tree_ids.specs.declared.ids.FileAstId.{FileAstId}
+use Rattle.tree_ids.specs.declared.ids.InFile.{InFile}
 use Rattle.item_tree.specs.declared.items.CtorVisibility.{CtorVisibility}
 use Rattle.item_tree.specs.declared.items.ImportAlias.{ImportAlias}
 use Rattle.item_tree.specs.declared.items.ItemNode.{ItemNode}
@@ -9,7 +9,7 @@ use Rattle.item_tree.specs.declared.items.ModContents.{ModContents}
 use Rattle.item_tree.specs.declared.items.ModItemKind.TheVariants.{Mod, Use, Struct, ExternCrate, ExternBlock, Impl}
 use Rattle.item_tree.specs.declared.items.RawVisibility.{RawVisibility}
 use Rattle.item_tree.specs.declared.items.UseImport.{UseImport}
-use Rattle.item_tree.specs.declared.name.Name.{Name}
+use Rattle.tree_ids.specs.declared.name.Name.{Name}
 use Rattle.def_ids.specs.declared.ids.Def.{Def}
 use Rattle.def_ids.specs.declared.ids.Def.TheVariants.{Module}
 use Rattle.def_ids.specs.declared.ids.Def.TheVariants as def
@@ -35,7 +35,7 @@ use Rattle.def_rules.specs.ExternCrates.{crate_effect, crate_name, named_crate}
 use Rattle.def_rules.specs.Rules.{Handles}
 use Rattle.def_parts.specs.Directories.{Directory}
 use Rattle.def_rules.specs.State.{State, Effect, ImportDirective, Rearranges, Site, Task, only, with_map, order, followed_by}
-use Rattle.item_tree.specs.declared.ids.ModItemId.{ModItemId}
+use Rattle.tree_ids.specs.declared.ids.ModItemId.{ModItemId}
 use Rattle.def_ids.specs.declared.ids.ItemContainerId.TheVariants as contained
 use Rattle.def_bindings.specs.declared.bindings.Namespace.{Namespace}
 use Rattle.def_laws.proofs.StepsLaws.{performs_none, performs_rearranged, performs_updated}

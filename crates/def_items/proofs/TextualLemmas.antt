@@ -1,10 +1,9 @@
 -- Textual macros of a module that is there, or is not.
-use Rattle.std.proofs.Common.{◌≡◌, ℕ, List, [], Option, Some, None, map, slice_get, sym, ap, ◌∙◌}
+use Rattle.std.proofs.Common.{◌≡◌, ℕ, List, [], Option, Some, None, slice_get, sym, ap, ◌∙◌}
 use Rattle.std.proofs.lemmas.Option.{slice_get-map}
 use Rattle.std.specs.Prelude.{option_map}
 use Rattle.std.specs.Option.{option_map_or}
-use Rattle.item_tree.specs.declared.name.Name.{Name}
-use Rattle.def_ids.specs.declared.ids.MacroId.{MacroId}
+use Rattle.tree_ids.specs.declared.name.Name.{Name}
 use Rattle.def_modules.specs.declared.map.MapData.{MapData}
 use Rattle.def_modules.specs.declared.module_data.ModuleData.{ModuleData}
 use Rattle.def_modules.specs.Maps.{map_state, textual_at}

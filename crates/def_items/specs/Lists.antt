@@ -1,7 +1,7 @@
 -- The order in which the items of a list are visited, and what is done behind it.
 use Rattle.std.specs.declared.alloc.Global.{Global}
 use Rattle.std.specs.Prelude.{◌≡◌, List, [], ◌∷◌, ◌++◌, drop, Option, Some, None, Vec}
-use Rattle.item_tree.specs.declared.ids.ModItemId.{ModItemId}
+use Rattle.tree_ids.specs.declared.ids.ModItemId.{ModItemId}
 use Rattle.def_ids.specs.declared.ids.ModuleId.{ModuleId}
 use Rattle.def_modules.specs.Maps.{textual_at, with_module}
 use Rattle.def_modules.specs.MapState.{MapState}

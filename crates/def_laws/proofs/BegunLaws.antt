@@ -1,8 +1,8 @@
 -- The seeded map: nothing is bound, so all is of the map and names are sound.
 use Rattle.std.proofs.Common.{◌≡◌, zero, suc, Bool, List, [], ◌∷◌, length, Option, Some, None, refl, sym, subst, arith, inl, inr}
-use Rattle.item_tree.specs.declared.ids.BlockId.{BlockId}
-use Rattle.item_tree.specs.declared.ids.CfgExpr.{CfgExpr}
-use Rattle.item_tree.specs.declared.ids.ModItemId.{ModItemId}
+use Rattle.tree_ids.specs.declared.ids.BlockId.{BlockId}
+use Rattle.tree_ids.specs.declared.ids.CfgExpr.{CfgExpr}
+use Rattle.tree_ids.specs.declared.ids.ModItemId.{ModItemId}
 use Rattle.def_ids.specs.declared.ids.ModuleId.{ModuleId}
 use Rattle.def_interner.specs.Session.{Session}
 use Rattle.def_bindings.specs.declared.bindings.Binding.{Binding}
@@ -12,7 +12,7 @@ use Rattle.def_bindings.specs.declared.visibility.Visibility.{Visibility}
 use Rattle.def_bindings.specs.Content.{Content, empty}
 use Rattle.def_bindings.specs.Puts.{held}
 use Rattle.def_bindings.specs.Tree.{AreParentsLower}
-use Rattle.def_map.specs.Fresh.{IsFresh, fresh_by}
+use Rattle.def_seed.specs.Fresh.{IsFresh, fresh_by}
 use Rattle.def_modules.specs.MapState.{MapState}
 use Rattle.def_globs.proofs.ListLaws.{none_in}
 use Rattle.def_oracle.specs.Oracle.{Oracle}

@@ -1,6 +1,6 @@
 -- What a macro call leads to.
 use Rattle.std.proofs.Common.{◌≡◌, List, [], refl, sym, ap, subst}
-use Rattle.item_tree.specs.declared.ids.SyntaxContext.{SyntaxContext}
+use Rattle.tree_ids.specs.declared.ids.SyntaxContext.{SyntaxContext}
 use Rattle.item_tree.specs.declared.items.ExpandTo.{ExpandTo}
 use Rattle.item_tree.specs.declared.items.ItemNode.{ItemNode}
 use Rattle.item_tree.specs.declared.items.ModItemKind.TheVariants.{MacroCall}

@@ -11,10 +11,10 @@ use Rattle.std.proofs.lemmas.List.Quantifiers.{position-Some}
 use Rattle.std.proofs.lemmas.List.Sorted.{Contains-permutation, IsPermutation-map, IsPermutation-swap_remove, IsPermutation-sym}
 use Rattle.indexmap.proofs.MapLemmas.{Found-position, Missing-position, distinct_permutation, swap_remove-default}
 use Rattle.indexmap.specs.IndexMap.{insert_entry, swap_remove_entry}
-use Rattle.item_tree.specs.declared.ids.FileAstId.{FileAstId}
-use Rattle.item_tree.specs.declared.ids.HirFileId.{HirFileId}
-use Rattle.item_tree.specs.declared.ids.HirFileId.TheVariants.{File, Macro}
-use Rattle.item_tree.specs.declared.ids.InFile.{InFile}
+use Rattle.tree_ids.specs.declared.ids.FileAstId.{FileAstId}
+use Rattle.tree_ids.specs.declared.ids.HirFileId.{HirFileId}
+use Rattle.tree_ids.specs.declared.ids.HirFileId.TheVariants.{File, Macro}
+use Rattle.tree_ids.specs.declared.ids.InFile.{InFile}
 use Rattle.def_globs.proofs.ListLaws.{first_in, in_cases, later_in, none_in}
 use Rattle.def_modules.specs.Equality.{file_eq, position_eq}
 

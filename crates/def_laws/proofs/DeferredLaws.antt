@@ -11,8 +11,8 @@ use Rattle.std.proofs.lemmas.List.Sums.{sum_by-append, sum_by-cons, sum_by-swap_
 use Rattle.indexmap.proofs.MapLemmas.{Found-position, Missing-position, swap_remove-default}
 use Rattle.def_globs.proofs.ListLaws.{first_in, in_cases, later_in, none_in, only_in}
 use Rattle.indexmap.specs.IndexMap.{insert_entry, swap_remove_entry}
-use Rattle.item_tree.specs.declared.ids.FileAstId.{FileAstId}
-use Rattle.item_tree.specs.declared.ids.InFile.{InFile}
+use Rattle.tree_ids.specs.declared.ids.FileAstId.{FileAstId}
+use Rattle.tree_ids.specs.declared.ids.InFile.{InFile}
 use Rattle.def_ids.specs.declared.ids.ModuleId.{ModuleId}
 use Rattle.def_modules.specs.Equality.{position_eq}
 use Rattle.def_rules.specs.declared.deferred.DeferredDerive.{DeferredDerive}

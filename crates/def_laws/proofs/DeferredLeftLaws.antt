@@ -6,14 +6,14 @@ use Rattle.std.specs.Map.{keys_of}
 use Rattle.std.proofs.lemmas.List.Elements.{Contains-append_cases, Contains-append_left, Contains-append_right}
 use Rattle.std.proofs.lemmas.List.Sorted.{Contains-permutation, IsPermutation-sym}
 use Rattle.item_tree.specs.declared.attrs.Attr.{Attr as WrittenAs}
-use Rattle.item_tree.specs.declared.ids.AttrId.{AttrId}
-use Rattle.item_tree.specs.declared.ids.CfgExpr.{CfgExpr}
-use Rattle.item_tree.specs.declared.ids.FileAstId.{FileAstId}
-use Rattle.item_tree.specs.declared.ids.InFile.{InFile}
-use Rattle.item_tree.specs.declared.ids.MacroCallId.{MacroCallId}
-use Rattle.item_tree.specs.declared.ids.ModItemId.{ModItemId}
-use Rattle.item_tree.specs.declared.ids.SyntaxContext.{SyntaxContext}
-use Rattle.item_tree.specs.declared.ids.TreeId.{TreeId}
+use Rattle.tree_ids.specs.declared.ids.AttrId.{AttrId}
+use Rattle.tree_ids.specs.declared.ids.CfgExpr.{CfgExpr}
+use Rattle.tree_ids.specs.declared.ids.FileAstId.{FileAstId}
+use Rattle.tree_ids.specs.declared.ids.InFile.{InFile}
+use Rattle.tree_ids.specs.declared.ids.MacroCallId.{MacroCallId}
+use Rattle.tree_ids.specs.declared.ids.ModItemId.{ModItemId}
+use Rattle.tree_ids.specs.declared.ids.SyntaxContext.{SyntaxContext}
+use Rattle.tree_ids.specs.declared.ids.TreeId.{TreeId}
 use Rattle.item_tree.specs.declared.items.ItemNode.{ItemNode}
 use Rattle.item_tree.specs.declared.mod_path.ModPath.{ModPath}
 use Rattle.item_tree.specs.Attrs.{disabled_by}

@@ -3,18 +3,18 @@ use Rattle.std.proofs.Common.{◌≡◌, ◌⊎◌, ◌<◌, ◌≤◌, ◌+◌,
 use Rattle.std.proofs.lemmas.Bool.{ltb-true}
 use Rattle.std.proofs.lemmas.List.Elements.{Contains-append_cases}
 use Rattle.item_tree.specs.declared.attrs.Attr.{Attr}
-use Rattle.item_tree.specs.declared.ids.AttrId.{AttrId}
-use Rattle.item_tree.specs.declared.ids.CfgExpr.{CfgExpr}
-use Rattle.item_tree.specs.declared.ids.FileAstId.{FileAstId}
-use Rattle.item_tree.specs.declared.ids.InFile.{InFile}
-use Rattle.item_tree.specs.declared.ids.MacroCallId.{MacroCallId}
-use Rattle.item_tree.specs.declared.ids.ModItemId.{ModItemId}
+use Rattle.tree_ids.specs.declared.ids.AttrId.{AttrId}
+use Rattle.tree_ids.specs.declared.ids.CfgExpr.{CfgExpr}
+use Rattle.tree_ids.specs.declared.ids.FileAstId.{FileAstId}
+use Rattle.tree_ids.specs.declared.ids.InFile.{InFile}
+use Rattle.tree_ids.specs.declared.ids.MacroCallId.{MacroCallId}
+use Rattle.tree_ids.specs.declared.ids.ModItemId.{ModItemId}
 use Rattle.item_tree.specs.declared.items.ItemNode.{ItemNode}
 use Rattle.item_tree.specs.declared.items.ModContents.{ModContents}
 use Rattle.item_tree.specs.declared.items.ModContents.TheVariants.{Inline, Outline}
 use Rattle.item_tree.specs.declared.items.RawVisibility.{RawVisibility}
 use Rattle.item_tree.specs.declared.items.UseImport.{UseImport}
-use Rattle.item_tree.specs.declared.name.Name.{Name}
+use Rattle.tree_ids.specs.declared.name.Name.{Name}
 use Rattle.item_tree.specs.Attrs.{attrs_of, disabled_by, has_attr, iter_after, path_attr}
 use Rattle.item_tree.specs.KnownNames.{macro_export_name}
 use Rattle.def_ids.specs.declared.ids.Def.{Def}
@@ -41,8 +41,8 @@ use Rattle.def_oracle.specs.declared.source_database.UnresolvedMacro.{Unresolved
 use Rattle.def_oracle.specs.Oracle.{Oracle}
 use Rattle.def_modules.specs.Maps.{limit_of, textual_at, with_module}
 use Rattle.def_modules.specs.Scopes.{brought, declared_in, with_extern_block, with_extern_crate, with_impl, with_textual, with_unnamed_const}
-use Rattle.def_parts.specs.Directories.{Directory, FoundFile, descend}
-use Rattle.def_parts.specs.ProcMacros.{NameAndHelpers}
+use Rattle.def_rules.specs.Directories.{Directory, FoundFile, descend}
+use Rattle.def_rules.specs.DeriveNames.{NameAndHelpers}
 use Rattle.def_globs.proofs.ListLaws.{none_in, in_cases, only_in}
 use Rattle.def_rules.specs.declared.diagnostics.DefDiagnostic.{DefDiagnostic}
 use Rattle.def_rules.specs.declared.diagnostics.DefDiagnosticKind.TheVariants.{UnconfiguredCode, UnimplementedBuiltinMacro, UnresolvedExternCrate, UnresolvedModule}

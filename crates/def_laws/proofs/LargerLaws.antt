@@ -4,13 +4,13 @@ use Rattle.std.specs.Prelude.{nat_lt}
 use Rattle.std.specs.Option.{option_and_then}
 use Rattle.std.proofs.lemmas.Bool.{ltb-true}
 use Rattle.either.specs.declared.Either.TheVariants.{Right}
-use Rattle.item_tree.specs.declared.ids.FileAstId.{FileAstId}
-use Rattle.item_tree.specs.declared.ids.InFile.{InFile}
-use Rattle.item_tree.specs.declared.ids.MacroCallId.{MacroCallId}
-use Rattle.item_tree.specs.declared.ids.ModItemId.{ModItemId}
-use Rattle.item_tree.specs.declared.ids.TreeId.{TreeId}
+use Rattle.tree_ids.specs.declared.ids.FileAstId.{FileAstId}
+use Rattle.tree_ids.specs.declared.ids.InFile.{InFile}
+use Rattle.tree_ids.specs.declared.ids.MacroCallId.{MacroCallId}
+use Rattle.tree_ids.specs.declared.ids.ModItemId.{ModItemId}
+use Rattle.tree_ids.specs.declared.ids.TreeId.{TreeId}
 use Rattle.item_tree.specs.declared.items.ItemNode.{ItemNode}
-use Rattle.item_tree.specs.declared.name.Name.{Name}
+use Rattle.tree_ids.specs.declared.name.Name.{Name}
 use Rattle.def_ids.specs.declared.ids.Adt.{Adt}
 use Rattle.def_ids.specs.declared.ids.BuiltinDeriveImplId.{BuiltinDeriveImplId}
 use Rattle.def_ids.specs.declared.ids.MacroId.{MacroId}
@@ -25,7 +25,7 @@ use Rattle.def_modules.specs.Maps.{known_parent, pushed, with_helper, with_macro
 use Rattle.def_modules.specs.Scopes.{called_at, with_derive_impl, with_invocation}
 use Rattle.def_modules.specs.Updates.{update_at}
 use Rattle.def_oracle.specs.Oracle.{Oracle}
-use Rattle.def_parts.specs.ProcMacros.{NameAndHelpers}
+use Rattle.def_rules.specs.DeriveNames.{NameAndHelpers}
 use Rattle.def_laws.specs.Own.{IsOwn}
 use Rattle.def_rules.specs.Calls.{each_helped, expansion_tree, helped, invoking, replaced_by, with_helpers}
 use Rattle.def_rules.specs.Derives.{derived_map, helper_names, helper_of, with_derive_call, with_shown_helpers}

@@ -41,3 +41,4 @@ pub mod PassLaws
 pub mod RoundsLaws
 pub mod HeadlineLaws
 pub mod GlobsLaws
+pub mod ResultLaws

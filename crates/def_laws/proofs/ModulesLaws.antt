@@ -2,11 +2,11 @@
 use Rattle.std.proofs.Common.{◌≡◌, ℕ, Bool, ◌||◌, List, [], ◌∷◌, ◌++◌, Option, Some, None, Result, Ok, Err, map, refl, sym, ap, subst, ◌∙◌}
 use Rattle.std.specs.Global.{Global}
 use Rattle.std.specs.Prelude.{String, Vec, string_bytes}
-use Rattle.item_tree.specs.declared.ids.CfgExpr.{CfgExpr}
-use Rattle.item_tree.specs.declared.ids.HirFileId.{HirFileId}
-use Rattle.item_tree.specs.declared.ids.ModItemId.{ModItemId}
+use Rattle.tree_ids.specs.declared.ids.CfgExpr.{CfgExpr}
+use Rattle.tree_ids.specs.declared.ids.HirFileId.{HirFileId}
+use Rattle.tree_ids.specs.declared.ids.ModItemId.{ModItemId}
 use Rattle.item_tree.specs.declared.items.ItemNode.{ItemNode}
-use Rattle.item_tree.specs.declared.name.Name.{Name}
+use Rattle.tree_ids.specs.declared.name.Name.{Name}
 use Rattle.item_tree.specs.Attrs.{attrs_of}
 use Rattle.def_ids.specs.declared.ids.Def.TheVariants.{Module}
 use Rattle.def_ids.specs.declared.ids.ModuleId.{ModuleId}
@@ -15,7 +15,7 @@ use Rattle.def_bindings.specs.declared.visibility.Visibility.{Visibility}
 use Rattle.def_modules.specs.declared.module_data.ModuleOrigin.{ModuleOrigin}
 use Rattle.def_modules.specs.declared.module_data.ModuleOrigin.TheVariants as origin
 use Rattle.def_oracle.specs.Oracle.{Oracle}
-use Rattle.def_parts.specs.Directories.{AnswersFile, Directory, Files, FoundFile, resolve_declaration}
+use Rattle.def_rules.specs.Directories.{AnswersFile, Directory, Files, FoundFile, resolve_declaration}
 use Rattle.def_rules.specs.declared.diagnostics.DefDiagnosticKind.TheVariants.{UnconfiguredCode, UnresolvedModule}
 use Rattle.def_laws.specs.Performs.{IsDone, Performs, Updated}
 use Rattle.def_rules.specs.Crates.{tree_attrs}

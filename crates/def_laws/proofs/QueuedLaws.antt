@@ -1,15 +1,15 @@
 -- What handling an item queues: calls alone, and no derive that is to be tried.
 use Rattle.std.proofs.Common.{◌≡◌, ◌∙◌, append-nil, nat_eq, nat_lt, ℕ, Bool, true, false, cond, ◌||◌, List, [], ◌∷◌, ◌++◌, Option, Some, None, Result, Ok, Err, Contains, refl, sym, ap, subst}
 use Rattle.std.specs.List.{flat_map}
-use Rattle.item_tree.specs.declared.ids.CfgExpr.{CfgExpr}
-use Rattle.item_tree.specs.declared.ids.MacroCallId.{MacroCallId}
-use Rattle.item_tree.specs.declared.ids.ModItemId.{ModItemId}
+use Rattle.tree_ids.specs.declared.ids.CfgExpr.{CfgExpr}
+use Rattle.tree_ids.specs.declared.ids.MacroCallId.{MacroCallId}
+use Rattle.tree_ids.specs.declared.ids.ModItemId.{ModItemId}
 use Rattle.item_tree.specs.declared.items.ItemNode.{ItemNode}
 use Rattle.item_tree.specs.declared.items.ImportKind.{ImportKind}
 use Rattle.item_tree.specs.declared.items.ImportKind.TheVariants as kind
 use Rattle.item_tree.specs.declared.items.ModContents.{ModContents}
 use Rattle.item_tree.specs.declared.items.ModContents.TheVariants.{Inline, Outline}
-use Rattle.item_tree.specs.declared.name.Name.{Name}
+use Rattle.tree_ids.specs.declared.name.Name.{Name}
 use Rattle.item_tree.specs.Attrs.{attrs_of, has_attr, path_attr}
 use Rattle.item_tree.specs.KnownNames.{macro_export_name}
 use Rattle.def_ids.specs.declared.ids.Def.{Def}
@@ -29,7 +29,7 @@ use Rattle.def_modules.specs.Maps.{limit_of}
 use Rattle.def_oracle.specs.declared.source_database.CallAnswer.{CallAnswer}
 use Rattle.def_oracle.specs.declared.source_database.UnresolvedMacro.{UnresolvedMacro}
 use Rattle.def_oracle.specs.Oracle.{Oracle}
-use Rattle.def_parts.specs.Directories.{Directory, FoundFile, descend}
+use Rattle.def_rules.specs.Directories.{Directory, FoundFile, descend}
 use Rattle.def_paths.specs.declared.asked.ResolvePathResult.{ResolvePathResult}
 use Rattle.def_paths.specs.Answers.{variants_of}
 use Rattle.def_paths.specs.Paths.{for_import, map_of, question}

@@ -2,9 +2,9 @@
 use Rattle.std.proofs.Common.{Bor, ◌≡◌, ℕ, false, cond, List, [], ◌++◌, Option, Some, None, option_and_then, option_map, refl, sym, ap, subst, append-nil, is_some, ◌∙◌}
 use Rattle.std.specs.Option.{option_copied, unwrap_or}
 use Rattle.item_tree.specs.declared.attrs.Attr.{Attr}
-use Rattle.item_tree.specs.declared.ids.CfgExpr.{CfgExpr}
-use Rattle.item_tree.specs.declared.ids.ModItemId.{ModItemId}
-use Rattle.item_tree.specs.declared.ids.TreeId.{TreeId}
+use Rattle.tree_ids.specs.declared.ids.CfgExpr.{CfgExpr}
+use Rattle.tree_ids.specs.declared.ids.ModItemId.{ModItemId}
+use Rattle.tree_ids.specs.declared.ids.TreeId.{TreeId}
 use Rattle.item_tree.specs.declared.tree.ItemTree.{ItemTree}
 use Rattle.item_tree.specs.Attrs.{attrs_in, cfg_in}
 use Rattle.item_tree.specs.declared.mod_path.ModPath.{ModPath}
@@ -14,7 +14,7 @@ use Rattle.def_modules.specs.MapState.{MapState}
 use Rattle.def_modules.specs.MapView.{LocalView}
 use Rattle.def_oracle.specs.Oracle.{Oracle}
 use Rattle.def_paths.specs.Paths.{for_module, module_found, module_reached, resolve}
-use Rattle.def_parts.specs.Directories.{Directory, root_directory}
+use Rattle.def_rules.specs.Directories.{Directory, root_directory}
 use Rattle.def_rules.specs.Crates.{prelude_module, prelude_path, tree_attrs}
 use Rattle.def_rules.specs.Items.{top_items, tree_cfg, walk}
 use Rattle.def_rules.specs.Start.{crate_head, first_depth, first_head, first_reports, first_tasks, first_tree, first_walk, head_of, informed, site_at, started, told, with_attrs, with_deps, with_head, with_prelude}

@@ -1,11 +1,8 @@
 -- What is answered at the end.
 use Rattle.std.specs.Prelude.{◌≡◌, Bool, false, All, Contains}
-use Rattle.item_tree.specs.declared.name.Name.{Name}
-use Rattle.def_map.specs.DefMaps as whole
-use Rattle.def_modules.specs.Locals.{local_view}
+use Rattle.tree_ids.specs.declared.name.Name.{Name}
 use Rattle.def_modules.specs.MapState.{MapState}
 use Rattle.def_oracle.specs.Oracle.{Oracle}
-use Rattle.def_rules.specs.declared.outcome.Collected.{Collected}
 use Rattle.def_rules.specs.Directives.{AllStay}
 use Rattle.def_rules.specs.Imports.{unresolved_imports}
 use Rattle.def_rules.specs.Recording.{NoneReady}
@@ -13,17 +10,6 @@ use Rattle.def_rules.specs.Settled.{IsNoAttribute}
 use Rattle.def_rules.specs.State.{State}
 use Rattle.def_rules.specs.Report.{Answer, marked, IsOutcome, with_import_reports}
 use Rattle.def_rules.specs.Waiting.{MacroDirective}
-
--- all that is answered
-abbrev pub shown : Collected → Answer
-shown c =
-    record {
-      map = whole.state_of c.def_map;
-      content = whole.content_of c.def_map;
-      local = local_view c.local_def_map;
-      outcome = c.outcome;
-      diagnostics = c.diagnostics;
-    }
 
 -- no name is marked as failed
 abbrev pub NoneFailed : MapState → Type 0

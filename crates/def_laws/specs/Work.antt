@@ -1,6 +1,6 @@
 -- The work of a walk: more than the visits that it can still lead to.
 use Rattle.std.specs.Prelude.{ℕ, suc, ◌<◌, ◌+◌, ◌-◌, ◌*◌, ◌^◌, List, [], ◌∷◌, Option, None, Some, sum_by}
-use Rattle.item_tree.specs.declared.ids.ModItemId.{ModItemId}
+use Rattle.tree_ids.specs.declared.ids.ModItemId.{ModItemId}
 use Rattle.def_rules.specs.State.{Site, Task, Visit}
 
 -- how far a visit is from the end of a walk, as one number: first the levels of expansions that are left, then those of directories, which lie at most 32 deep, then the items of its tree from it on

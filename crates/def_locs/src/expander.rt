@@ -1,6 +1,6 @@
 //! What expands macros.
 
-use item_tree::MacroCallStyles;
+use tree_ids::MacroCallStyles;
 
 /// A builtin attribute macro.
 #[derive(Clone, Copy, PartialEq, Eq, Hash)]

@@ -1,7 +1,7 @@
 //! Where definitions stand.
 use crate::expander::{CustomProcMacroExpander, MacroExpander, ProcMacroUse};
 use def_ids::{Adt, Edition, ItemContainerId, ModuleId};
-use item_tree::{AttrId, FileAstId, InFile, MacroRulesLocFlags};
+use tree_ids::{AttrId, FileAstId, InFile, MacroRulesLocFlags};
 
 /// Where a function stands.
 #[derive(Clone, Copy, PartialEq, Eq, Hash)]

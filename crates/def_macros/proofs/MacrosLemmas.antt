@@ -3,13 +3,13 @@ use Rattle.std.proofs.Common.{◌≡◌, false, List, [], ◌∷◌, ◌++◌, O
 use Rattle.std.specs.Option.{option_map_or}
 use Rattle.std.specs.Prelude.{IfOk, if◌then◌else◌}
 use Rattle.item_tree.specs.declared.attrs.Attr.{Attr}
-use Rattle.item_tree.specs.declared.ids.FileAstId.{FileAstId}
-use Rattle.item_tree.specs.declared.ids.InFile.{InFile}
+use Rattle.tree_ids.specs.declared.ids.FileAstId.{FileAstId}
+use Rattle.tree_ids.specs.declared.ids.InFile.{InFile}
 use Rattle.item_tree.specs.declared.items.ItemNode.{ItemNode}
 use Rattle.item_tree.specs.declared.items.ModItemKind.TheVariants.{MacroRules, Macro2}
 use Rattle.item_tree.specs.declared.items.RawVisibility.{RawVisibility}
-use Rattle.item_tree.specs.declared.macro_flags.MacroRulesLocFlags.{MacroRulesLocFlags}
-use Rattle.item_tree.specs.declared.name.Name.{Name}
+use Rattle.tree_ids.specs.declared.macro_flags.MacroRulesLocFlags.{MacroRulesLocFlags}
+use Rattle.tree_ids.specs.declared.name.Name.{Name}
 use Rattle.item_tree.specs.Attrs.{attrs_of, has_attr}
 use Rattle.item_tree.specs.KnownNames.{macro_export_name}
 use Rattle.def_ids.specs.declared.ids.MacroId.{MacroId}

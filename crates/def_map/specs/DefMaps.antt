@@ -1,6 +1,6 @@
 -- What finished maps show, and what a block's map is made of.
 use Rattle.std.specs.Prelude.{[], Option, None, Some}
-use Rattle.item_tree.specs.declared.ids.Crate.{Crate}
+use Rattle.tree_ids.specs.declared.ids.Crate.{Crate}
 use Rattle.def_ids.specs.declared.ids.MapId.{MapId}
 use Rattle.def_ids.specs.declared.edition.Edition.{Edition}
 use Rattle.def_bindings.specs.declared.visibility.Visibility.{Visibility}

@@ -1,6 +1,6 @@
 -- What is seen of a module's scope.
 use Rattle.std.specs.Prelude.{◌≡◌, ℕ, List, Some, map, drop, slice_get}
-use Rattle.item_tree.specs.declared.name.Name.{Name}
+use Rattle.tree_ids.specs.declared.name.Name.{Name}
 use Rattle.def_ids.specs.declared.ids.ModuleId.{ModuleId}
 use Rattle.def_ids.specs.declared.ids.TraitId.{TraitId}
 use Rattle.def_bindings.specs.Content.{Content}

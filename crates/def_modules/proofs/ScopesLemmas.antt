@@ -6,9 +6,9 @@ use Rattle.std.proofs.lemmas.List.{reverse-append}
 use Rattle.std.specs.Prelude.{option_map}
 use Rattle.indexmap.specs.IndexMap.{IndexMap, get}
 use Rattle.indexmap.specs.IndexSet.{IndexSet, contains}
-use Rattle.item_tree.specs.declared.ids.AttrId.{AttrId}
-use Rattle.item_tree.specs.declared.ids.MacroCallId.{MacroCallId}
-use Rattle.item_tree.specs.declared.name.Name.{Name}
+use Rattle.tree_ids.specs.declared.ids.AttrId.{AttrId}
+use Rattle.tree_ids.specs.declared.ids.MacroCallId.{MacroCallId}
+use Rattle.tree_ids.specs.declared.name.Name.{Name}
 use Rattle.def_modules.specs.declared.module_data.DeriveKey.{DeriveKey}
 use Rattle.def_modules.specs.declared.module_data.DeriveMacroInvocation.{DeriveMacroInvocation}
 use Rattle.def_modules.specs.declared.module_data.Invocation.{Invocation}

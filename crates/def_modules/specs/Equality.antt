@@ -1,7 +1,7 @@
 -- Tests of equality of positions and of what maps keep by them.
 use Rattle.std.specs.Prelude.{Bool, false, ◌==◌, ◌&&◌}
-use Rattle.item_tree.specs.declared.ids.HirFileId.{HirFileId}
-use Rattle.item_tree.specs.declared.ids.HirFileId.TheVariants.{File, Macro}
+use Rattle.tree_ids.specs.declared.ids.HirFileId.{HirFileId}
+use Rattle.tree_ids.specs.declared.ids.HirFileId.TheVariants.{File, Macro}
 use Rattle.def_ids.specs.declared.ids.FunctionId.{FunctionId}
 use Rattle.def_ids.specs.declared.ids.ProcMacroId.{ProcMacroId}
 use Rattle.def_modules.specs.declared.module_data.DeriveKey.{DeriveKey}

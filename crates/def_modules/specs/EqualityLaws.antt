@@ -1,8 +1,8 @@
 -- The derived tests of equality are those of the definitions.
 use Rattle.std.proofs.Common.{◌≡◌, Bool, ◌==◌, ◌&&◌, refl, ap}
-use Rattle.item_tree.specs.declared.ids.HirFileId.{HirFileId}
-use Rattle.item_tree.specs.declared.ids.HirFileId.TheVariants.{File, Macro}
-use Rattle.item_tree.specs.contracts.ids.HirFileIdPartialEq.TheImpl as files
+use Rattle.tree_ids.specs.declared.ids.HirFileId.{HirFileId}
+use Rattle.tree_ids.specs.declared.ids.HirFileId.TheVariants.{File, Macro}
+use Rattle.tree_ids.specs.contracts.ids.HirFileIdPartialEq.TheImpl as files
 use Rattle.def_modules.specs.MapState.{Position}
 use Rattle.def_ids.specs.declared.ids.MacroId.{MacroId}
 use Rattle.def_ids.specs.declared.ids.MacroId.TheVariants.{MacroRules, Macro2, ProcMacro}

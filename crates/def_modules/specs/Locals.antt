@@ -1,7 +1,7 @@
 -- What a local map shows.
 use Rattle.std.specs.Prelude.{Option, Some, option_map}
 use Rattle.indexmap.specs.IndexMap.{get}
-use Rattle.item_tree.specs.declared.name.Name.{Name}
+use Rattle.tree_ids.specs.declared.name.Name.{Name}
 use Rattle.def_bindings.specs.Content.{is_name}
 use Rattle.def_modules.specs.declared.local_def_map.ExternPreludeEntry.{ExternPreludeEntry}
 use Rattle.def_modules.specs.declared.local_def_map.LocalDefMap.{LocalDefMap}

@@ -1,11 +1,11 @@
 -- All that a map shows beside its bindings.
 use Rattle.std.specs.Prelude.{ℕ, Bool, List, Option}
 use Rattle.either.specs.declared.Either.{Either}
-use Rattle.item_tree.specs.declared.ids.AttrId.{AttrId}
-use Rattle.item_tree.specs.declared.ids.FileAstId.{FileAstId}
-use Rattle.item_tree.specs.declared.ids.InFile.{InFile}
-use Rattle.item_tree.specs.declared.ids.MacroCallId.{MacroCallId}
-use Rattle.item_tree.specs.declared.name.Name.{Name}
+use Rattle.tree_ids.specs.declared.ids.AttrId.{AttrId}
+use Rattle.tree_ids.specs.declared.ids.FileAstId.{FileAstId}
+use Rattle.tree_ids.specs.declared.ids.InFile.{InFile}
+use Rattle.tree_ids.specs.declared.ids.MacroCallId.{MacroCallId}
+use Rattle.tree_ids.specs.declared.name.Name.{Name}
 use Rattle.def_ids.specs.declared.ids.BuiltinDeriveImplId.{BuiltinDeriveImplId}
 use Rattle.def_ids.specs.declared.ids.ConstId.{ConstId}
 use Rattle.def_ids.specs.declared.ids.Def.{Def}

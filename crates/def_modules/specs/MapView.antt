@@ -1,6 +1,6 @@
 -- What paths read of a map, as records of functions.
 use Rattle.std.specs.Prelude.{List, Option, None}
-use Rattle.item_tree.specs.declared.name.Name.{Name}
+use Rattle.tree_ids.specs.declared.name.Name.{Name}
 use Rattle.def_ids.specs.declared.ids.ExternCrateId.{ExternCrateId}
 use Rattle.def_ids.specs.declared.ids.MacroId.{MacroId}
 use Rattle.def_ids.specs.declared.ids.MapId.{MapId}

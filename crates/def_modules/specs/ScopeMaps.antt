@@ -3,9 +3,9 @@ use Rattle.std.specs.Prelude.{◌≡◌, ◌++◌, ℕ, Bool, true, cond, ◌&&�
 use Rattle.std.specs.Option.{option_map_or}
 use Rattle.indexmap.specs.IndexMap.{IndexMap, get}
 use Rattle.indexmap.specs.IndexSet.{IndexSet, contains}
-use Rattle.item_tree.specs.declared.ids.AttrId.{AttrId}
-use Rattle.item_tree.specs.declared.ids.MacroCallId.{MacroCallId}
-use Rattle.item_tree.specs.declared.name.Name.{Name}
+use Rattle.tree_ids.specs.declared.ids.AttrId.{AttrId}
+use Rattle.tree_ids.specs.declared.ids.MacroCallId.{MacroCallId}
+use Rattle.tree_ids.specs.declared.name.Name.{Name}
 use Rattle.def_ids.specs.declared.ids.MacroId.{MacroId}
 use Rattle.def_bindings.specs.Content.{is_name}
 use Rattle.def_modules.specs.declared.module_data.DeriveKey.{DeriveKey}

@@ -4,8 +4,8 @@ ghost use Rattle.def_modules.specs.Maps.{crate_state};
 
 use def_ids::{Edition, FunctionId, MacroId, ProcMacroId};
 use indexmap::{IndexMap, IndexSet};
-use item_tree::{Name, Seq};
 use std::alloc::AllocError;
+use tree_ids::{Name, Seq};
 
 /// The features that a crate enables.
 #[derive(Drop)]

@@ -9,9 +9,9 @@ use crate::map::{DeriveHelper, MapData};
 use crate::module_data::Position;
 use def_ids::{BuiltinDeriveImplId, FunctionId, MacroId, ProcMacroId};
 use either::Either;
-use item_tree::{MacroCallId, Name, Seq};
 use std::alloc::{AllocError, Global};
 use std::mem;
+use tree_ids::{MacroCallId, Name, Seq};
 
 impl DefMapCrateData {
     /// Enables a feature.

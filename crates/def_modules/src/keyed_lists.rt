@@ -4,9 +4,9 @@ ghost use Rattle.indexmap.specs.IndexMap.{get};
 ghost use Rattle.def_modules.specs.KeyedLists.{PushesUnder};
 
 use indexmap::IndexMap;
-use item_tree::Seq;
 use std::alloc::{AllocError, Global};
 use std::hash::Hash;
+use tree_ids::Seq;
 
 /// The list without elements.
 pub(crate) fn no_items<T>(alloc: Global) -> Seq<T>

@@ -7,8 +7,8 @@ ghost use Rattle.def_modules.specs.Scopes.{module_state, with_textual_of, brough
 use crate::map::MapData;
 use crate::module_data::ModuleData;
 use def_ids::MacroId;
-use item_tree::{Name, Seq};
 use std::alloc::{AllocError, Global};
+use tree_ids::{Name, Seq};
 
 /// Adds a name with its last macro, if it has one.
 fn push_last(

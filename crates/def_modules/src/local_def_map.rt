@@ -5,8 +5,8 @@ ghost use Rattle.def_modules.specs.MapView.{empty_local};
 
 use def_ids::{ExternCrateId, ModuleId};
 use indexmap::IndexMap;
-use item_tree::Name;
 use std::alloc::{AllocError, Global};
+use tree_ids::Name;
 
 /// A crate that is named outside all modules: its root, and the `extern crate` that put it there,
 /// if one did.

@@ -8,8 +8,8 @@ use crate::module_data::{DeriveCall, ModuleData, Position};
 use def_bindings::ModuleTree;
 use def_ids::{MacroId, ModuleId};
 use indexmap::IndexMap;
-use item_tree::{Name, Seq};
 use std::alloc::AllocError;
+use tree_ids::{Name, Seq};
 
 /// An attribute that a derive macro reads, with the macro and what its derive gave.
 #[derive(Clone, Copy)]

@@ -7,7 +7,7 @@ use crate::crate_data::UnstableFeatures;
 use crate::map::MapData;
 use crate::module_data::ModuleData;
 use def_ids::{MacroId, ModuleId};
-use item_tree::Name;
+use tree_ids::Name;
 
 impl ModuleData {
     /// The last textual macro of a name.

@@ -7,8 +7,8 @@ use def_bindings::Visibility;
 use def_ids::{BuiltinDeriveImplId, ConstId, Def, ExternBlockId, ExternCrateId, ImplId, MacroId};
 use either::Either;
 use indexmap::{IndexMap, IndexSet};
-use item_tree::{AttrId, FileAstId, FileId, InFile, MacroCallId, Name, Seq, TreeId};
 use std::alloc::{AllocError, Global};
+use tree_ids::{AttrId, FileAstId, FileId, InFile, MacroCallId, Name, Seq, TreeId};
 
 /// An item's place in its file.
 pub type Position = InFile<FileAstId>;

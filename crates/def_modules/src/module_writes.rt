@@ -6,8 +6,8 @@ ghost use Rattle.def_modules.specs.Maps.{map_state, with_module};
 use crate::map::MapData;
 use crate::module_data::{DeriveCall, DeriveMacroInvocation, Position};
 use def_ids::{BuiltinDeriveImplId, ConstId, Def, ExternBlockId, ExternCrateId, ImplId, MacroId};
-use item_tree::{AttrId, MacroCallId, Name};
 use std::alloc::AllocError;
+use tree_ids::{AttrId, MacroCallId, Name};
 
 #[tactic(auto, using(crate::proofs::MapsLemmas::module_missing))]
 impl MapData {

@@ -1,9 +1,9 @@
 -- What a database is asked, with the values that the code lends in the place of its references.
 use Rattle.std.specs.Prelude.{ℕ, List, Option, option_map}
 use Rattle.item_tree.specs.declared.attrs.AttrInput.{AttrInput}
-use Rattle.item_tree.specs.declared.ids.AttrId.{AttrId}
-use Rattle.item_tree.specs.declared.ids.Crate.{Crate}
-use Rattle.item_tree.specs.declared.ids.SyntaxContext.{SyntaxContext}
+use Rattle.tree_ids.specs.declared.ids.AttrId.{AttrId}
+use Rattle.tree_ids.specs.declared.ids.Crate.{Crate}
+use Rattle.tree_ids.specs.declared.ids.SyntaxContext.{SyntaxContext}
 use Rattle.item_tree.specs.declared.items.ExpandTo.{ExpandTo}
 use Rattle.item_tree.specs.declared.mod_path.ModPath.{ModPath}
 use Rattle.def_interner.specs.declared.macro_def.MacroDefId.{MacroDefId}

@@ -1,10 +1,11 @@
 -- The shapes of derive declarations.
 use Rattle.std.proofs.Common.{◌≡◌, ℕ, Some, None, [], ◌∷◌, refl}
-use Rattle.item_tree.specs.declared.name.Name.{Name}
+use Rattle.tree_ids.specs.declared.name.Name.{Name}
 use Rattle.item_tree.specs.declared.tt.Leaf.TheVariants.{Ident, Punct}
 use Rattle.item_tree.specs.TokenTrees.{TtElement, token, group, no_trees, leaf, TokenTrees}
 use Rattle.item_tree.specs.KnownNames.{attributes_name}
-use Rattle.def_parts.specs.ProcMacros.{name_and_helpers, derive_macro, derive}
+use Rattle.def_rules.specs.DeriveNames.{name_and_helpers}
+use Rattle.def_parts.specs.ProcMacros.{derive_macro, derive}
 
 abbrev name : ℕ → Name
 name n = record { 0 = n }

@@ -1,3 +1,4 @@
-pub mod Directories
+pub use Rattle.def_rules.specs.Directories
+pub use Rattle.def_rules.specs.DeriveNames
 pub mod DirectoriesLaws
 pub mod ProcMacros

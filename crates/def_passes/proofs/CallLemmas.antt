@@ -1,6 +1,6 @@
 -- A macro call once it is answered.
 use Rattle.std.proofs.Common.{◌≡◌, ℕ, List, [], ◌∷◌, None, Some, Ok, sym, ap, ◌∙◌}
-use Rattle.item_tree.specs.declared.ids.MacroCallId.{MacroCallId}
+use Rattle.tree_ids.specs.declared.ids.MacroCallId.{MacroCallId}
 use Rattle.item_tree.specs.declared.items.ItemNode.{ItemNode}
 use Rattle.def_map.specs.Oracle.{Oracle}
 use Rattle.def_oracle.specs.declared.source_database.CallAnswer.{CallAnswer}

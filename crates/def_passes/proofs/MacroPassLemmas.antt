@@ -42,10 +42,6 @@ pub both_ok : {T E P : Type 0} {Q R : T → Type 0} (r : Result T E) → OnOk r 
 both_ok (Ok x) p q f = f x p q
 both_ok (Err e) p q f = q
 
--- an element that was read stands at its place
-pub read_at : {X : Type 0} (xs : List X) (i : ℕ) (shown known : X) → i < length xs → shown ≡ get_or xs i shown → shown ≡ known → slice_get xs i ≡ Some known
-read_at xs i shown known within read is = slice_get-get_or xs i shown within ∙ ap (λ x. Some x) (sym read ∙ is)
-
 -- within a list an element stands at each place
 there : {X : Type 0} (xs : List X) (i : ℕ) → i < length xs → (x : X) × (slice_get xs i ≡ Some x) × (x ≡ get_or xs i x)
 there [] i within = absurd (omega (arith, within))
@@ -54,9 +50,6 @@ there (y ∷ ys) i within = (get_or (y ∷ ys) i y, slice_get-get_or (y ∷ ys) 
 -- at one place stands one element
 pub one_at : {X : Type 0} (o : Option X) (x y : X) → o ≡ Some x → o ≡ Some y → x ≡ y
 one_at o x y first second = let twice : Some x ≡ Some y = sym first ∙ second in cc
-
-pub same_some : {X : Type 0} {x y : X} → Some x ≡ Some y → x ≡ y
-same_some same = cc
 
 -- no expansion is shown where none is there, and the other way round
 pub none_shown : (xs : List Expansion) → map expansion_shown xs ≡ [] → xs ≡ []

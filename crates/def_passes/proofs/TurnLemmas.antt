@@ -2,7 +2,7 @@
 use Rattle.std.proofs.Common.{◌≡◌, ◌<◌, ◌≤◌, ◌^◌, Bool, true, false, true≢false, List, [], ◌∷◌, length, Option, Some, None, Result, Ok, Err, append-nil, refl, sym, ap, subst, ◌∙◌}
 use Rattle.def_ids.specs.declared.ids.ModuleId.{ModuleId}
 use Rattle.def_interner.specs.declared.macro_def.MacroDefId.{MacroDefId}
-use Rattle.item_tree.specs.declared.ids.MacroCallId.{MacroCallId}
+use Rattle.tree_ids.specs.declared.ids.MacroCallId.{MacroCallId}
 use Rattle.def_calls.specs.Shown.{IsTurned, leaves}
 use Rattle.def_passes.specs.Passes.{HasLeft, IsAsked, IsWalked, OnlyAsked}
 use Rattle.def_oracle.specs.declared.source_database.CallAnswer.{CallAnswer}

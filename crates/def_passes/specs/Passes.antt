@@ -1,8 +1,8 @@
 -- What the items of a walk wait for, and what passes over imports and macros leave.
 use Rattle.std.specs.Prelude.{◌≡◌, ◌≢◌, ◌<◌, ℕ, Bool, true, false, All, List, [], ◌∷◌, ◌++◌, Option, Some, slice_get}
 use Rattle.item_tree.specs.declared.attrs.Attr.{Attr}
-use Rattle.item_tree.specs.declared.ids.AttrId.{AttrId}
-use Rattle.item_tree.specs.declared.ids.ModItemId.{ModItemId}
+use Rattle.tree_ids.specs.declared.ids.AttrId.{AttrId}
+use Rattle.tree_ids.specs.declared.ids.ModItemId.{ModItemId}
 use Rattle.item_tree.specs.declared.items.ItemNode.{ItemNode}
 use Rattle.def_interner.specs.declared.interner.Interner.{Interner}
 use Rattle.def_map.specs.Oracle.{Oracle}

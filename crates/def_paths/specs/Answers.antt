@@ -2,7 +2,7 @@
 use Rattle.std.specs.Prelude.{◌≡◌, ℕ, suc, Bool, true, false, not, ◌==◌, ◌||◌, List, [], ◌∷◌, find, Option, Some, None, unwrap_or, if◌then◌else◌}
 use Rattle.std.specs.List.{list_any}
 use Rattle.std.specs.Option.{option_map, option_map_or, option_or, option_and_then}
-use Rattle.item_tree.specs.declared.name.Name.{Name}
+use Rattle.tree_ids.specs.declared.name.Name.{Name}
 use Rattle.def_ids.specs.declared.ids.Def.{Def}
 use Rattle.def_ids.specs.declared.ids.Def.TheVariants.{Module, Enum, Variant}
 use Rattle.def_paths.specs.declared.asked.ReachedFixedPoint.{ReachedFixedPoint}

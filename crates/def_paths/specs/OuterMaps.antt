@@ -5,7 +5,7 @@ use Rattle.std.specs.Option.{option_map}
 use Rattle.item_tree.specs.declared.mod_path.ModPath.{ModPath}
 use Rattle.item_tree.specs.declared.mod_path.PathKind.{PathKind}
 use Rattle.item_tree.specs.declared.mod_path.PathKind.TheVariants.{Plain}
-use Rattle.item_tree.specs.declared.name.Name.{Name}
+use Rattle.tree_ids.specs.declared.name.Name.{Name}
 use Rattle.def_ids.specs.declared.ids.ModuleId.{ModuleId}
 use Rattle.def_ids.specs.Ids.{is_same_map, is_block_root}
 use Rattle.def_paths.specs.declared.asked.ResolvePathResult.{ResolvePathResult}

@@ -1,13 +1,13 @@
 -- Macro calls: which macro a call finds where it stands, and what its answer does.
 use Rattle.std.specs.Prelude.{ℕ, suc, ◌-◌, ◌^◌, Bool, cond, ◌||◌, nat_eq, nat_lt, List, [], ◌∷◌, ◌++◌, map, Option, None, Some, option_and_then, unwrap_or, Result, Ok, Err}
 use Rattle.std.specs.Option.{option_or}
-use Rattle.item_tree.specs.declared.ids.FileAstId.{FileAstId}
-use Rattle.item_tree.specs.declared.ids.HirFileId.TheVariants.{Macro as MacroFile}
-use Rattle.item_tree.specs.declared.ids.InFile.{InFile}
-use Rattle.item_tree.specs.declared.ids.MacroCallId.{MacroCallId}
-use Rattle.item_tree.specs.declared.ids.TreeId.{TreeId}
+use Rattle.tree_ids.specs.declared.ids.FileAstId.{FileAstId}
+use Rattle.tree_ids.specs.declared.ids.HirFileId.TheVariants.{Macro as MacroFile}
+use Rattle.tree_ids.specs.declared.ids.InFile.{InFile}
+use Rattle.tree_ids.specs.declared.ids.MacroCallId.{MacroCallId}
+use Rattle.tree_ids.specs.declared.ids.TreeId.{TreeId}
 use Rattle.item_tree.specs.declared.items.ItemNode.{ItemNode}
-use Rattle.item_tree.specs.declared.name.Name.{Name}
+use Rattle.tree_ids.specs.declared.name.Name.{Name}
 use Rattle.item_tree.specs.Paths.{as_ident}
 use Rattle.def_ids.specs.declared.ids.MacroId.{MacroId}
 use Rattle.def_ids.specs.declared.ids.ModuleId.{ModuleId}
@@ -21,11 +21,11 @@ use Rattle.def_oracle.specs.declared.source_database.CallAnswer.{CallAnswer}
 use Rattle.def_oracle.specs.declared.source_database.UnresolvedMacro.{UnresolvedMacro}
 use Rattle.def_oracle.specs.Oracle.{Meaning, Oracle}
 use Rattle.def_oracle.specs.Queries.{PlainCall}
-use Rattle.def_parts.specs.Directories.{Directory, root_directory}
+use Rattle.def_rules.specs.Directories.{Directory, root_directory}
 use Rattle.def_paths.specs.OuterMaps.{first_of_each_map}
 use Rattle.def_paths.specs.Paths.{macro_named, map_of, scope}
 use Rattle.def_paths.specs.Sources.{World}
-use Rattle.item_tree.specs.declared.ids.ModItemId.{ModItemId}
+use Rattle.tree_ids.specs.declared.ids.ModItemId.{ModItemId}
 use Rattle.def_rules.specs.Items.{node_at, position_of, top_items, walk}
 use Rattle.def_rules.specs.State.{State, Effect, only, followed_by, Site, with_map, world}
 use Rattle.def_rules.specs.Waiting.{Expansion, MacroDirective, MacroDirectiveKind, FnLike, WrittenCall}

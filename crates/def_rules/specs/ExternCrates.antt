@@ -2,7 +2,7 @@
 use Rattle.std.specs.Prelude.{Bool, true, false, cond, List, [], ◌∷◌, Option, None, Some, option_map}
 use Rattle.item_tree.specs.declared.items.ImportAlias.{ImportAlias}
 use Rattle.item_tree.specs.declared.items.ItemNode.{ItemNode}
-use Rattle.item_tree.specs.declared.name.Name.{Name}
+use Rattle.tree_ids.specs.declared.name.Name.{Name}
 use Rattle.item_tree.specs.KnownNames.{name_eq, self_name}
 use Rattle.def_ids.specs.declared.ids.Def.TheVariants as def
 use Rattle.def_ids.specs.declared.ids.ExternCrateId.{ExternCrateId}

@@ -8,7 +8,7 @@ use Rattle.item_tree.specs.declared.items.UseImport.{UseImport}
 use Rattle.item_tree.specs.declared.mod_path.ModPath.{ModPath}
 use Rattle.item_tree.specs.declared.mod_path.PathKind.{PathKind}
 use Rattle.item_tree.specs.declared.mod_path.PathKind.TheVariants.{Plain, Super}
-use Rattle.item_tree.specs.declared.name.Name.{Name}
+use Rattle.tree_ids.specs.declared.name.Name.{Name}
 use Rattle.def_bindings.specs.declared.bindings.Entry.{Entry}
 use Rattle.def_bindings.specs.declared.bindings.ImportOrExternCrate.{ImportOrExternCrate}
 use Rattle.def_bindings.specs.declared.bindings.ImportOrExternCrate.TheVariants as made_by

@@ -5,12 +5,12 @@ use Rattle.std.specs.Option.{option_map_or}
 use Rattle.either.specs.declared.Either.{Either}
 use Rattle.either.specs.declared.Either.TheVariants.{Left, Right}
 use Rattle.item_tree.specs.declared.attrs.Attr.{Attr}
-use Rattle.item_tree.specs.declared.ids.Crate.{Crate}
-use Rattle.item_tree.specs.declared.ids.SyntaxContext.{SyntaxContext}
+use Rattle.tree_ids.specs.declared.ids.Crate.{Crate}
+use Rattle.tree_ids.specs.declared.ids.SyntaxContext.{SyntaxContext}
 use Rattle.item_tree.specs.declared.items.ItemNode.{ItemNode}
-use Rattle.item_tree.specs.declared.macro_flags.MacroRulesLocFlags.{MacroRulesLocFlags}
+use Rattle.tree_ids.specs.declared.macro_flags.MacroRulesLocFlags.{MacroRulesLocFlags}
 use Rattle.item_tree.specs.declared.mod_path.ModPath.{ModPath}
-use Rattle.item_tree.specs.declared.name.Name.{Name}
+use Rattle.tree_ids.specs.declared.name.Name.{Name}
 use Rattle.item_tree.specs.Attrs.{attrs_of, has_attr, has_key, string_value, tt_values}
 use Rattle.item_tree.specs.KnownNames.{name_eq, allow_internal_unsafe_name, local_inner_macros_name, macro_export_name, macro_use_name, rustc_builtin_macro_name, self_name}
 use Rattle.item_tree.specs.Lists.{first_of_list, or_else}
@@ -35,7 +35,7 @@ use Rattle.def_modules.specs.MapState.{MapState}
 use Rattle.def_modules.specs.MapView.{MapView}
 use Rattle.def_modules.specs.Scopes.{with_textual}
 use Rattle.def_oracle.specs.Oracle.{Oracle}
-use Rattle.def_parts.specs.ProcMacros.{NameAndHelpers, is_word, name_and_helpers}
+use Rattle.def_rules.specs.DeriveNames.{NameAndHelpers, is_word, name_and_helpers}
 use Rattle.def_paths.specs.Items.{macro_of_def}
 use Rattle.def_paths.specs.Paths.{map_of}
 use Rattle.def_paths.specs.Sources.{World}

@@ -2,10 +2,10 @@
 use Rattle.std.specs.Prelude.{ℕ, Bool, true, false, List, [], ◌∷◌, ◌++◌, ◌||◌, cond, Option, None, Some, is_some}
 use Rattle.std.specs.List.{list_any}
 use Rattle.item_tree.specs.declared.attrs.Attr.{Attr}
-use Rattle.item_tree.specs.declared.ids.CfgExpr.{CfgExpr}
-use Rattle.item_tree.specs.declared.ids.HirFileId.TheVariants.{File}
-use Rattle.item_tree.specs.declared.ids.ModItemId.{ModItemId}
-use Rattle.item_tree.specs.declared.ids.TreeId.{TreeId}
+use Rattle.tree_ids.specs.declared.ids.CfgExpr.{CfgExpr}
+use Rattle.tree_ids.specs.declared.ids.HirFileId.TheVariants.{File}
+use Rattle.tree_ids.specs.declared.ids.ModItemId.{ModItemId}
+use Rattle.tree_ids.specs.declared.ids.TreeId.{TreeId}
 use Rattle.def_ids.specs.declared.ids.MapId.{MapId}
 use Rattle.def_ids.specs.declared.ids.ModuleId.{ModuleId}
 use Rattle.def_interner.specs.Session.{Session}
@@ -14,7 +14,7 @@ use Rattle.def_oracle.specs.declared.source_database.CrateData.{CrateData}
 use Rattle.def_modules.specs.MapState.{CrateState, MapState}
 use Rattle.def_modules.specs.MapView.{LocalView, empty_local}
 use Rattle.def_oracle.specs.Oracle.{Oracle}
-use Rattle.def_parts.specs.Directories.{root_directory}
+use Rattle.def_rules.specs.Directories.{root_directory}
 use Rattle.def_rules.specs.declared.diagnostics.DefDiagnostic.{DefDiagnostic}
 use Rattle.def_rules.specs.declared.diagnostics.DefDiagnosticKind.TheVariants.{UnconfiguredCode}
 use Rattle.def_rules.specs.State.{Setting, State, Site, Task, Moment, root, module_site}

@@ -1,13 +1,13 @@
 -- What waits for macros, and expansions that are to be walked.
 use Rattle.std.specs.Prelude.{ℕ, List, Option}
 use Rattle.item_tree.specs.declared.attrs.Attr as attrs
-use Rattle.item_tree.specs.declared.ids.AttrId.{AttrId}
-use Rattle.item_tree.specs.declared.ids.FileAstId.{FileAstId}
-use Rattle.item_tree.specs.declared.ids.InFile.{InFile}
-use Rattle.item_tree.specs.declared.ids.MacroCallId.{MacroCallId}
-use Rattle.item_tree.specs.declared.ids.ModItemId.{ModItemId}
-use Rattle.item_tree.specs.declared.ids.TreeId.{TreeId}
-use Rattle.item_tree.specs.declared.ids.SyntaxContext.{SyntaxContext}
+use Rattle.tree_ids.specs.declared.ids.AttrId.{AttrId}
+use Rattle.tree_ids.specs.declared.ids.FileAstId.{FileAstId}
+use Rattle.tree_ids.specs.declared.ids.InFile.{InFile}
+use Rattle.tree_ids.specs.declared.ids.MacroCallId.{MacroCallId}
+use Rattle.tree_ids.specs.declared.ids.ModItemId.{ModItemId}
+use Rattle.tree_ids.specs.declared.ids.TreeId.{TreeId}
+use Rattle.tree_ids.specs.declared.ids.SyntaxContext.{SyntaxContext}
 use Rattle.item_tree.specs.declared.items.ExpandTo.{ExpandTo}
 use Rattle.item_tree.specs.declared.mod_path.ModPath.{ModPath}
 use Rattle.def_ids.specs.declared.ids.ItemContainerId.{ItemContainerId}

@@ -8,4 +8,4 @@ mod outcome;
 
 pub use deferred::DeferredDerive;
 pub use diagnostics::{DefDiagnostic, DefDiagnosticKind, DefDiagnostics};
-pub use outcome::{Collected, Edge, LeftImport, LeftMacro, LeftMacroKind, Outcome};
+pub use outcome::{Edge, LeftImport, LeftMacro, LeftMacroKind, Outcome};

@@ -1,9 +1,7 @@
 //! What a run answers, and what it leaves over.
 
-use crate::diagnostics::DefDiagnostics;
 use def_bindings::Visibility;
 use def_ids::{Def, GlobId, ModuleId};
-use def_map::{DefMap, LocalDefMap};
 use item_tree::{AttrId, FileAstId, InFile, ModPath};
 
 /// An import that no pass could resolve: where it is written, its number in its `use` item, and its
@@ -53,14 +51,4 @@ pub struct Outcome {
     pub macros: Vec<LeftMacro>,
     pub edges: Vec<Edge>,
     pub targets: Vec<(GlobId, Vec<Def>)>,
-}
-
-/// What `collect_defs` answers: the map, the names of crates that its paths may begin with, how
-/// the run ended, and its diagnostics in order.
-#[derive(Drop)]
-pub struct Collected {
-    pub def_map: DefMap,
-    pub local_def_map: LocalDefMap,
-    pub outcome: Outcome,
-    pub diagnostics: DefDiagnostics,
 }

@@ -1,8 +1,8 @@
 -- `macro_rules! foo {} #[foo] struct T;`, where foo may be called by attributes and gives `struct S;`: T waits, and is not declared; once all is walked foo is called, and S declared in its place.
 use Rattle.std.proofs.Common.{◌≡◌, ℕ, zero, true, Option, Some, None, [], ◌∷◌, Contains, refl, subst, map, lit<, false}
 use Rattle.item_tree.specs.declared.attrs.AttrsOrCfg.TheVariants.{Enabled}
-use Rattle.item_tree.specs.declared.ids.HirFileId.{HirFileId}
-use Rattle.item_tree.specs.declared.ids.HirFileId.TheVariants.{File, Macro as MacroFile}
+use Rattle.tree_ids.specs.declared.ids.HirFileId.{HirFileId}
+use Rattle.tree_ids.specs.declared.ids.HirFileId.TheVariants.{File, Macro as MacroFile}
 use Rattle.item_tree.specs.declared.items.ItemNode.{ItemNode}
 use Rattle.item_tree.specs.declared.items.ModItemKind.TheVariants.{MacroRules as RulesItem}
 use Rattle.item_tree.specs.declared.tree.ItemTree.{ItemTree}

@@ -1,14 +1,14 @@
 -- `macro_rules! foo {} foo!(); struct T;`, where the call gives `struct S;`: the call is settled where it stands, S is declared before T, and nothing waits.
 use Rattle.std.proofs.Common.{◌≡◌, ℕ, zero, suc, Bool, true, false, Option, Some, None, Ok, Err, List, Result, [], ◌∷◌, refl, map}
-use Rattle.item_tree.specs.declared.ids.FileAstId.{FileAstId}
-use Rattle.item_tree.specs.declared.ids.HirFileId.{HirFileId}
-use Rattle.item_tree.specs.declared.ids.HirFileId.TheVariants.{File, Macro as MacroFile}
-use Rattle.item_tree.specs.declared.ids.InFile.{InFile}
+use Rattle.tree_ids.specs.declared.ids.FileAstId.{FileAstId}
+use Rattle.tree_ids.specs.declared.ids.HirFileId.{HirFileId}
+use Rattle.tree_ids.specs.declared.ids.HirFileId.TheVariants.{File, Macro as MacroFile}
+use Rattle.tree_ids.specs.declared.ids.InFile.{InFile}
 use Rattle.item_tree.specs.declared.items.ExpandTo.TheVariants.{Items}
 use Rattle.item_tree.specs.declared.items.ModItemKind.TheVariants.{MacroCall, MacroRules as RulesItem}
 use Rattle.item_tree.specs.declared.mod_path.ModPath.{ModPath}
 use Rattle.item_tree.specs.declared.mod_path.PathKind.TheVariants.{Plain}
-use Rattle.item_tree.specs.declared.name.Name.{Name}
+use Rattle.tree_ids.specs.declared.name.Name.{Name}
 use Rattle.item_tree.specs.declared.tree.ItemTree.{ItemTree}
 use Rattle.def_ids.specs.declared.ids.Def.TheVariants.{Struct as StructDef}
 use Rattle.def_ids.specs.declared.ids.ItemContainerId.TheVariants.{Module}

@@ -4,7 +4,7 @@ use Rattle.item_tree.specs.declared.items.ImportKind.TheVariants.{Glob as GlobIm
 use Rattle.item_tree.specs.declared.items.RawVisibility.TheVariants.{Public as RawPublic}
 use Rattle.item_tree.specs.declared.mod_path.ModPath.{ModPath}
 use Rattle.item_tree.specs.declared.mod_path.PathKind.TheVariants.{Crate}
-use Rattle.item_tree.specs.declared.name.Name.{Name}
+use Rattle.tree_ids.specs.declared.name.Name.{Name}
 use Rattle.item_tree.specs.declared.tree.ItemTree.{ItemTree}
 use Rattle.def_ids.specs.declared.ids.Def.TheVariants.{Module as ModuleDef, Struct}
 use Rattle.def_ids.specs.declared.ids.GlobId.{GlobId}

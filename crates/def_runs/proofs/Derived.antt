@@ -3,13 +3,13 @@ use Rattle.std.proofs.Common.{◌≡◌, ℕ, zero, Option, Some, None, [], ◌�
 use Rattle.either.specs.declared.Either.TheVariants.{Left}
 use Rattle.item_tree.specs.declared.attrs.Attr.{Attr as AttrNode}
 use Rattle.item_tree.specs.declared.attrs.AttrsOrCfg.TheVariants.{Enabled}
-use Rattle.item_tree.specs.declared.ids.HirFileId.{HirFileId}
-use Rattle.item_tree.specs.declared.ids.HirFileId.TheVariants.{File, Macro as MacroFile}
-use Rattle.item_tree.specs.declared.ids.MacroCallId.{MacroCallId}
+use Rattle.tree_ids.specs.declared.ids.HirFileId.{HirFileId}
+use Rattle.tree_ids.specs.declared.ids.HirFileId.TheVariants.{File, Macro as MacroFile}
+use Rattle.tree_ids.specs.declared.ids.MacroCallId.{MacroCallId}
 use Rattle.item_tree.specs.declared.items.ItemNode.{ItemNode}
 use Rattle.item_tree.specs.declared.items.ModItemKind.TheVariants.{MacroRules as RulesItem, Macro2 as MacroItem}
 use Rattle.item_tree.specs.declared.items.RawVisibility.TheVariants.{PubSelf}
-use Rattle.item_tree.specs.declared.name.Name.{Name}
+use Rattle.tree_ids.specs.declared.name.Name.{Name}
 use Rattle.item_tree.specs.declared.tree.ItemTree.{ItemTree}
 use Rattle.item_tree.specs.KnownNames.{rustc_builtin_macro_name}
 use Rattle.def_ids.specs.declared.ids.ItemContainerId.TheVariants.{Module}

@@ -7,7 +7,7 @@ use Rattle.item_tree.specs.declared.items.RawVisibility.TheVariants.{PubSelf}
 use Rattle.item_tree.specs.declared.mod_path.ModPath.{ModPath}
 use Rattle.item_tree.specs.declared.mod_path.PathKind.{PathKind}
 use Rattle.item_tree.specs.declared.mod_path.PathKind.TheVariants.{Abs, Plain, Super}
-use Rattle.item_tree.specs.declared.name.Name.{Name}
+use Rattle.tree_ids.specs.declared.name.Name.{Name}
 use Rattle.item_tree.specs.declared.tree.ItemTree.{ItemTree}
 use Rattle.def_interner.specs.Session.{Session, ItemKind, ItemLoc, ExternCrateItem, UseItem}
 use Rattle.def_bindings.specs.Content.{empty}

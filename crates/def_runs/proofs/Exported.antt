@@ -5,7 +5,7 @@ use Rattle.item_tree.specs.declared.attrs.AttrsOrCfg.TheVariants.{Enabled}
 use Rattle.item_tree.specs.declared.items.ItemNode.{ItemNode}
 use Rattle.item_tree.specs.declared.items.ModItemKind.TheVariants.{MacroRules as RulesItem}
 use Rattle.item_tree.specs.declared.mod_path.PathKind.TheVariants.{Plain}
-use Rattle.item_tree.specs.declared.name.Name.{Name}
+use Rattle.tree_ids.specs.declared.name.Name.{Name}
 use Rattle.item_tree.specs.declared.tree.ItemTree.{ItemTree}
 use Rattle.item_tree.specs.KnownNames.{macro_export_name, rustc_builtin_macro_name}
 use Rattle.def_ids.specs.declared.ids.Def.TheVariants.{Macro, Module as ModuleDef}

@@ -1,6 +1,6 @@
 -- `pub struct S;`: it is numbered, recorded as a declaration, and bound in types and values.
 use Rattle.std.proofs.Common.{◌≡◌, ℕ, zero, Option, Some, None, [], ◌∷◌, refl}
-use Rattle.item_tree.specs.declared.name.Name.{Name}
+use Rattle.tree_ids.specs.declared.name.Name.{Name}
 use Rattle.item_tree.specs.declared.tree.ItemTree.{ItemTree}
 use Rattle.def_ids.specs.declared.ids.Def.TheVariants.{Struct}
 use Rattle.def_interner.specs.Session.{Session, ItemKind, ItemLoc, StructItem}

@@ -1,9 +1,9 @@
 -- Each answer of `pub struct S;` binds S, whatever run is taken: so the map as it was seeded, with nothing bound, is no answer.
 use Rattle.std.proofs.Common.{◌≡◌, inl, inr, ℕ, true, ◌+◌, Option, Some, None, List, [], ◌∷◌, ◌++◌, refl, sym, subst, ap, ◌∙◌, append-nil}
 use Rattle.std.proofs.Math.Seq.{drop-nil}
-use Rattle.item_tree.specs.declared.ids.AttrId.{AttrId}
+use Rattle.tree_ids.specs.declared.ids.AttrId.{AttrId}
 use Rattle.item_tree.specs.declared.items.ItemNode.{ItemNode}
-use Rattle.item_tree.specs.declared.name.Name.{Name}
+use Rattle.tree_ids.specs.declared.name.Name.{Name}
 use Rattle.item_tree.specs.Attrs.{iter_after, numbered_from}
 use Rattle.def_ids.specs.declared.ids.Def.TheVariants.{Struct}
 use Rattle.def_interner.specs.Session.{Session}

@@ -6,7 +6,7 @@ use Rattle.item_tree.specs.declared.items.ModItemKind.{ModItemKind}
 use Rattle.item_tree.specs.declared.items.ModItemKind.TheVariants.{Struct as StructKind}
 use Rattle.item_tree.specs.declared.items.RawVisibility.TheVariants.{Public as RawPublic, PubSelf}
 use Rattle.item_tree.specs.declared.mod_path.PathKind.TheVariants.{Plain}
-use Rattle.item_tree.specs.declared.name.Name.{Name}
+use Rattle.tree_ids.specs.declared.name.Name.{Name}
 use Rattle.item_tree.specs.declared.tree.ItemTree.{ItemTree}
 use Rattle.def_ids.specs.declared.ids.Def.TheVariants.{Module as ModuleDef, Struct}
 use Rattle.def_ids.specs.declared.ids.GlobId.{GlobId}

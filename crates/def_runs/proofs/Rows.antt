@@ -3,7 +3,7 @@ use Rattle.std.proofs.Common.{ℕ, nat_lt, false, Option, Some, None, Err, [], r
 use Rattle.item_tree.specs.declared.items.ImportKind.{ImportKind}
 use Rattle.item_tree.specs.declared.items.RawVisibility.{RawVisibility}
 use Rattle.item_tree.specs.declared.mod_path.ModPath.{ModPath}
-use Rattle.item_tree.specs.declared.name.Name.{Name}
+use Rattle.tree_ids.specs.declared.name.Name.{Name}
 use Rattle.item_tree.specs.declared.tree.ItemTree.{ItemTree}
 use Rattle.def_ids.specs.declared.ids.Def.TheVariants.{Module as ModuleDef}
 use Rattle.def_ids.specs.declared.ids.GlobId.{GlobId}

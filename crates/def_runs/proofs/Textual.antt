@@ -7,7 +7,7 @@ use Rattle.item_tree.specs.declared.items.RawVisibility.TheVariants.{PubSelf}
 use Rattle.item_tree.specs.declared.items.UseImport.{UseImport}
 use Rattle.item_tree.specs.declared.mod_path.ModPath.{ModPath}
 use Rattle.item_tree.specs.declared.mod_path.PathKind.TheVariants.{Plain}
-use Rattle.item_tree.specs.declared.name.Name.{Name}
+use Rattle.tree_ids.specs.declared.name.Name.{Name}
 use Rattle.item_tree.specs.declared.tree.ItemTree.{ItemTree}
 use Rattle.def_ids.specs.declared.ids.Def.TheVariants.{Macro}
 use Rattle.def_ids.specs.declared.ids.MacroId.{MacroId}

@@ -1,9 +1,9 @@
 -- Trees that are written out.
 use Rattle.std.proofs.Common.{◌≡◌, ℕ, true, None, List, [], ◌∷◌}
 use Rattle.item_tree.specs.declared.attrs.AttrsOrCfg.TheVariants.{Enabled}
-use Rattle.item_tree.specs.declared.ids.HirFileId.TheVariants.{File}
-use Rattle.item_tree.specs.declared.ids.ModItemId.{ModItemId}
-use Rattle.item_tree.specs.declared.ids.TreeId.{TreeId}
+use Rattle.tree_ids.specs.declared.ids.HirFileId.TheVariants.{File}
+use Rattle.tree_ids.specs.declared.ids.ModItemId.{ModItemId}
+use Rattle.tree_ids.specs.declared.ids.TreeId.{TreeId}
 use Rattle.item_tree.specs.declared.items.CtorVisibility.TheVariants.{ValueNsCtorWithVis}
 use Rattle.item_tree.specs.declared.items.ImportKind.{ImportKind}
 use Rattle.item_tree.specs.declared.items.ItemNode.{ItemNode}
@@ -13,7 +13,7 @@ use Rattle.item_tree.specs.declared.items.ModItemKind.TheVariants.{Mod, Struct, 
 use Rattle.item_tree.specs.declared.items.RawVisibility.{RawVisibility}
 use Rattle.item_tree.specs.declared.items.RawVisibility.TheVariants.{Public, PubSelf}
 use Rattle.item_tree.specs.declared.mod_path.ModPath.{ModPath}
-use Rattle.item_tree.specs.declared.name.Name.{Name}
+use Rattle.tree_ids.specs.declared.name.Name.{Name}
 use Rattle.item_tree.specs.declared.tree.ItemTree.{ItemTree}
 use Rattle.item_tree.specs.TreesLaws.{is_tree, sound_from_test}
 

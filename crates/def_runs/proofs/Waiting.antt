@@ -1,8 +1,8 @@
 -- `foo!(); macro_rules! foo {}`, where the call gives `struct S;`: no macro is in scope where the call stands, so it waits; once all is walked it is asked, S is declared, and nothing is left over.
 use Rattle.std.proofs.Common.{◌≡◌, ℕ, zero, true, false, Option, Some, None, [], ◌∷◌, Contains, refl, subst, map, lit<}
-use Rattle.item_tree.specs.declared.ids.HirFileId.{HirFileId}
-use Rattle.item_tree.specs.declared.ids.HirFileId.TheVariants.{File, Macro as MacroFile}
-use Rattle.item_tree.specs.declared.ids.MacroCallId.{MacroCallId}
+use Rattle.tree_ids.specs.declared.ids.HirFileId.{HirFileId}
+use Rattle.tree_ids.specs.declared.ids.HirFileId.TheVariants.{File, Macro as MacroFile}
+use Rattle.tree_ids.specs.declared.ids.MacroCallId.{MacroCallId}
 use Rattle.item_tree.specs.declared.items.ExpandTo.TheVariants.{Items}
 use Rattle.item_tree.specs.declared.items.ModItemKind.TheVariants.{MacroCall, MacroRules as RulesItem}
 use Rattle.item_tree.specs.declared.tree.ItemTree.{ItemTree}

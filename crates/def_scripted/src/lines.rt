@@ -1,13 +1,12 @@
 //! A map and what its run left over, as lines of text.
 
 use crate::fault::Fault;
+use def_answer::Collected;
 use def_bindings::{ImportOrExternCrate, Visibility};
 use def_ids::{Def, MacroId, ModuleId, TraitId};
 use def_interner::Interner;
 use def_map::{DefMap, ItemScope, PerNs};
-use def_rules::{
-    Collected, DefDiagnostic, DefDiagnosticKind, Edge, LeftImport, LeftMacro, LeftMacroKind,
-};
+use def_rules::{DefDiagnostic, DefDiagnosticKind, Edge, LeftImport, LeftMacro, LeftMacroKind};
 use item_tree::{Crate, HirFileId, ModPath, Name, PathKind, Text};
 use std::alloc::{AllocError, Global};
 use std::io;

@@ -4,7 +4,7 @@ use Rattle.std.specs.Prelude.{unwrap_or, map}
 use Rattle.std.specs.Option.{option_map_or}
 use Rattle.std.proofs.lemmas.Bool.{eq-eqb}
 use Rattle.indexmap.specs.IndexMap.{get}
-use Rattle.item_tree.specs.declared.ids.BlockId.{BlockId}
+use Rattle.tree_ids.specs.declared.ids.BlockId.{BlockId}
 use Rattle.def_ids.specs.declared.ids.FunctionId.{FunctionId}
 use Rattle.def_ids.specs.declared.ids.MacroId.{MacroId}
 use Rattle.def_ids.specs.declared.ids.ProcMacroId.{ProcMacroId}

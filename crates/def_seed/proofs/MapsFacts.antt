@@ -1,7 +1,7 @@
 -- Worked rows of what maps show and of what writes do.
 use Rattle.std.proofs.Common.{◌≡◌, ℕ, ◌+◌, true, false, [], ◌∷◌, Some, None, refl}
-use Rattle.item_tree.specs.declared.ids.HirFileId.TheVariants.{File, Macro}
-use Rattle.item_tree.specs.declared.name.Name.{Name}
+use Rattle.tree_ids.specs.declared.ids.HirFileId.TheVariants.{File, Macro}
+use Rattle.tree_ids.specs.declared.name.Name.{Name}
 use Rattle.def_ids.specs.declared.ids.Def.TheVariants.{Builtin}
 use Rattle.def_ids.specs.declared.ids.MacroId.{MacroId}
 use Rattle.def_ids.specs.declared.ids.MacroId.TheVariants.{MacroRules}

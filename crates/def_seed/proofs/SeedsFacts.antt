@@ -1,6 +1,6 @@
 -- Worked rows of the maps that blocks begin with.
 use Rattle.std.proofs.Common.{◌≡◌, [], ◌∷◌, None, refl}
-use Rattle.item_tree.specs.declared.name.Name.{Name}
+use Rattle.tree_ids.specs.declared.name.Name.{Name}
 use Rattle.def_ids.specs.declared.edition.Edition.TheVariants.{Edition2021}
 use Rattle.def_bindings.specs.declared.visibility.Visibility.TheVariants.{Public}
 use Rattle.def_modules.specs.declared.module_data.ModuleOrigin.TheVariants.{Block}

@@ -1,7 +1,7 @@
 -- Maps as they are before anything is collected.
 use Rattle.std.specs.Prelude.{◌≡◌, false, ℕ, List, [], ◌∷◌, Option, None, Some}
-use Rattle.item_tree.specs.declared.ids.BlockId.{BlockId}
-use Rattle.item_tree.specs.declared.name.Name.{Name}
+use Rattle.tree_ids.specs.declared.ids.BlockId.{BlockId}
+use Rattle.tree_ids.specs.declared.name.Name.{Name}
 use Rattle.def_ids.specs.declared.ids.MapId.{MapId}
 use Rattle.def_ids.specs.declared.ids.ModuleId.{ModuleId}
 use Rattle.def_ids.specs.declared.edition.Edition.{Edition}

@@ -1,7 +1,7 @@
 -- What the maps of crates and blocks begin with.
 use Rattle.std.specs.Prelude.{None, Some}
-use Rattle.item_tree.specs.declared.ids.BlockId.{BlockId}
-use Rattle.item_tree.specs.declared.ids.Crate.{Crate}
+use Rattle.tree_ids.specs.declared.ids.BlockId.{BlockId}
+use Rattle.tree_ids.specs.declared.ids.Crate.{Crate}
 use Rattle.def_ids.specs.declared.ids.MapId.{MapId}
 use Rattle.def_ids.specs.declared.edition.Edition.{Edition}
 use Rattle.def_modules.specs.MapState.{MapState}

@@ -6,8 +6,8 @@ ghost use Rattle.def_bindings.specs.Tree.{are_apart};
 use def_bindings::ModuleTree;
 use def_ids::{MapId, ModuleId};
 use def_modules::{DefMapCrateData, MapData};
-use item_tree::{BlockId, Crate, Seq};
 use std::alloc::{AllocError, Global};
+use tree_ids::{BlockId, Crate, Seq};
 
 /// A block, the modules that contain it, and what its map takes over of its crate's map.
 #[derive(Drop)]

@@ -10,8 +10,8 @@ ghost use Rattle.def_modules.specs.Maps.{crate_state, map_state};
 use def_bindings::Visibility;
 use def_modules::{DefMapCrateData, MapData, ModuleData, ModuleOrigin};
 use indexmap::IndexMap;
-use item_tree::{BlockId, Name, Seq};
 use std::hash::Hash;
+use tree_ids::{BlockId, Name, Seq};
 
 /// Whether all of these hold.
 fn are_all(tests: &[bool]) -> bool

@@ -14,8 +14,8 @@ use def_bindings::{ModuleTree, Visibility};
 use def_ids::{Edition, MapId, ModuleId};
 use def_modules::{DefMapCrateData, MapData, ModuleData, ModuleOrigin, UnstableFeatures};
 use indexmap::{IndexMap, IndexSet};
-use item_tree::{Crate, Name, Seq};
 use std::alloc::{AllocError, Global};
+use tree_ids::{Crate, Name, Seq};
 
 /// The list without elements.
 fn no_items<T>(alloc: Global) -> Seq<T>

@@ -1,7 +1,7 @@
 -- Imports in lists whose places may be empty, and what the end of a run does with those that are unresolved.
 use Rattle.std.specs.Prelude.{List, [], ◌∷◌, ◌++◌, cond, map, filter_map, Option, Some, None, IsPermutation}
 use Rattle.item_tree.specs.declared.items.UseImport.{UseImport}
-use Rattle.item_tree.specs.declared.name.Name.{Name}
+use Rattle.tree_ids.specs.declared.name.Name.{Name}
 use Rattle.def_ids.specs.declared.ids.ModuleId.{ModuleId}
 use Rattle.def_modules.specs.Maps.{with_module}
 use Rattle.def_modules.specs.MapState.{MapState}

@@ -1,8 +1,8 @@
 -- What a run over a scripted crate is given.
 use Rattle.std.specs.Prelude.{None}
-use Rattle.item_tree.specs.declared.ids.FileId.{FileId}
-use Rattle.item_tree.specs.declared.ids.HirFileId.TheVariants.{File}
-use Rattle.item_tree.specs.declared.ids.TreeId.{TreeId}
+use Rattle.tree_ids.specs.declared.ids.FileId.{FileId}
+use Rattle.tree_ids.specs.declared.ids.HirFileId.TheVariants.{File}
+use Rattle.tree_ids.specs.declared.ids.TreeId.{TreeId}
 use Rattle.def_map.specs.DefMaps.{seeded}
 use Rattle.def_map.specs.Oracle.{Oracle}
 use Rattle.def_rules.specs.State.{Setting}

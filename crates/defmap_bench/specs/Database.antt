@@ -1,7 +1,7 @@
 -- What the database of one file answers.
 use Rattle.std.specs.Prelude.{false, List, [], ◌∷◌, Option, Some, None, Result, Ok, Err, slice_get}
-use Rattle.item_tree.specs.declared.ids.HirFileId.{HirFileId}
-use Rattle.item_tree.specs.declared.ids.HirFileId.TheVariants.{File, Macro}
+use Rattle.tree_ids.specs.declared.ids.HirFileId.{HirFileId}
+use Rattle.tree_ids.specs.declared.ids.HirFileId.TheVariants.{File, Macro}
 use Rattle.item_tree.specs.declared.tree.ItemTree.{ItemTree}
 use Rattle.item_tree.specs.KnownNames.{rustc_builtin_macro_name}
 use Rattle.def_locs.specs.declared.expander.BuiltinAttr.TheVariants.{Derive}

@@ -5,7 +5,7 @@ use Rattle.item_tree.specs.declared.attrs.AttrInput.TheVariants.{Str, TokenTree}
 use Rattle.item_tree.specs.declared.attrs.AttrInput.{AttrInput}
 use Rattle.item_tree.specs.declared.attrs.AttrsOrCfg.TheVariants.{Enabled, CfgDisabled}
 use Rattle.item_tree.specs.declared.mod_path.PathKind.TheVariants.{Plain, Super}
-use Rattle.item_tree.specs.declared.name.Name.{Name}
+use Rattle.tree_ids.specs.declared.name.Name.{Name}
 use Rattle.item_tree.specs.declared.tt.Leaf.TheVariants.{Ident, Punct}
 use Rattle.item_tree.specs.KnownNames.{path_name, test_name, macro_use_name, feature_name, self_name}
 use Rattle.item_tree.specs.Attrs.{by_key, has_attr, string_value, tt_values, iter_after, attrs_of, disabled_by, path_attr}

@@ -1,6 +1,6 @@
 -- Each known name is the place of its text, in the definitions and in the code.
 use Rattle.std.specs.Prelude.{◌≡◌, Some, List, ℕ, codes, slice_get, refl}
-use Rattle.item_tree.specs.declared.name.Name.{Name}
+use Rattle.tree_ids.specs.declared.name.Name.{Name}
 use Rattle.item_tree.specs.declared.sym.TheConstants.{SELF, STD, CORE, PRELUDE, RUST_2015, RUST_2018, RUST_2021, RUST_2024, RECURSION_LIMIT, CRATE_TYPE, NO_CORE, NO_STD, RUSTC_COHERENCE_IS_CORE, FEATURE, REGISTER_TOOL, PATH, MACRO_USE, PRELUDE_IMPORT, MACRO_EXPORT, LOCAL_INNER_MACROS, RUSTC_BUILTIN_MACRO, ALLOW_INTERNAL_UNSAFE, PROC_MACRO, PROC_MACRO_ATTRIBUTE, PROC_MACRO_DERIVE, ATTRIBUTES, TEST, CLIPPY, RUSTFMT, DIAGNOSTIC, MIRI, RUST_ANALYZER}
 use Rattle.item_tree.specs.KnownNames.{self_name, std_name, core_name, prelude_name, rust_2015_name, rust_2018_name, rust_2021_name, rust_2024_name, recursion_limit_name, crate_type_name, no_core_name, no_std_name, rustc_coherence_is_core_name, feature_name, register_tool_name, path_name, macro_use_name, prelude_import_name, macro_export_name, local_inner_macros_name, rustc_builtin_macro_name, allow_internal_unsafe_name, proc_macro_name, proc_macro_attribute_name, proc_macro_derive_name, attributes_name, test_name, clippy_name, rustfmt_name, diagnostic_name, miri_name, rust_analyzer_name}
 use Rattle.item_tree.specs.Names.{known_names}

@@ -3,7 +3,7 @@ use Rattle.std.proofs.Common.{◌≡◌, ℕ, ◌<◌, ◌≤◌, ◌⊎◌, Lis
 use Rattle.std.specs.Prelude.{true, false, None, Some}
 use Rattle.item_tree.specs.declared.attrs.AttrsOrCfg.{AttrsOrCfg}
 use Rattle.item_tree.specs.declared.attrs.AttrsOrCfg.TheVariants.{CfgDisabled}
-use Rattle.item_tree.specs.declared.ids.ModItemId.{ModItemId}
+use Rattle.tree_ids.specs.declared.ids.ModItemId.{ModItemId}
 use Rattle.item_tree.specs.declared.items.ItemNode.{ItemNode}
 use Rattle.item_tree.specs.declared.items.ModContents.TheVariants.{Inline, Outline}
 use Rattle.item_tree.specs.declared.items.ModItemKind.TheVariants.{Mod, ExternBlock, Struct}

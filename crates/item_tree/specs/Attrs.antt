@@ -7,9 +7,9 @@ use Rattle.item_tree.specs.declared.attrs.AttrInput.TheVariants.{Str, TokenTree}
 use Rattle.item_tree.specs.declared.attrs.Attrs.{Attrs}
 use Rattle.item_tree.specs.declared.attrs.AttrsOrCfg.{AttrsOrCfg}
 use Rattle.item_tree.specs.declared.attrs.AttrsOrCfg.TheVariants.{Enabled, CfgDisabled}
-use Rattle.item_tree.specs.declared.ids.AttrId.{AttrId}
-use Rattle.item_tree.specs.declared.ids.CfgExpr.{CfgExpr}
-use Rattle.item_tree.specs.declared.name.Name.{Name}
+use Rattle.tree_ids.specs.declared.ids.AttrId.{AttrId}
+use Rattle.tree_ids.specs.declared.ids.CfgExpr.{CfgExpr}
+use Rattle.tree_ids.specs.declared.name.Name.{Name}
 use Rattle.item_tree.specs.KnownNames.{path_name}
 use Rattle.item_tree.specs.Lists.{is_there, first_of_list}
 use Rattle.item_tree.specs.Paths.{as_ident, is_ident}

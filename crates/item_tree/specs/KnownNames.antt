@@ -1,6 +1,6 @@
 -- The names with which every table begins, by their places in it.
 use Rattle.std.specs.Prelude.{Bool, nat_eq}
-use Rattle.item_tree.specs.declared.name.Name.{Name}
+use Rattle.tree_ids.specs.declared.name.Name.{Name}
 
 -- whether two names are one
 abbrev pub name_eq : Name → Name → Bool

@@ -1,6 +1,6 @@
 -- Paths.
 use Rattle.std.specs.Prelude.{Option, None, Bool, false, Some, List}
-use Rattle.item_tree.specs.declared.name.Name.{Name}
+use Rattle.tree_ids.specs.declared.name.Name.{Name}
 use Rattle.item_tree.specs.declared.mod_path.PathKind.{PathKind}
 use Rattle.item_tree.specs.declared.mod_path.PathKind.TheVariants.{Plain}
 use Rattle.item_tree.specs.declared.mod_path.ModPath.{ModPath}

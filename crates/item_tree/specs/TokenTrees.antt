@@ -3,7 +3,7 @@ use Rattle.std.specs.Prelude.{◌≡◌, ℕ, zero, suc, Option, None, Some, Lis
 use Rattle.std.specs.List.{filter_map}
 use Rattle.std.specs.Coded.{Coded, code_by, coded_list, coded_option}
 use Rattle.std.proofs.Common.{ap, append_assoc, append-nil, sym, ◌∙◌}
-use Rattle.item_tree.specs.declared.name.Name.{Name}
+use Rattle.tree_ids.specs.declared.name.Name.{Name}
 use Rattle.item_tree.specs.declared.tt.Leaf.{Leaf}
 use Rattle.item_tree.specs.declared.tt.Leaf.TheVariants.{Ident}
 use Rattle.item_tree.specs.contracts.tt.Leaf as the_leaf

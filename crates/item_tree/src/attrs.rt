@@ -6,14 +6,11 @@ ghost use Rattle.std.specs.Iterator.{YieldsFirstBy, at_most};
 ghost use Rattle.item_tree.specs.Lists.{is_there};
 ghost use Rattle.item_tree.specs.Attrs.{has_key, by_key, text_of, tokens_of, first_text, iter_after, attrs_in, cfg_in};
 
-use crate::ids::{AttrId, CfgExpr, SyntaxContext};
-use crate::list::Seq;
 use crate::mod_path::ModPath;
-use crate::name::Name;
-use crate::text::Text;
 use crate::tt::TopSubtree;
 use std::marker::Model;
 use std::slice;
+use tree_ids::{AttrId, CfgExpr, Name, Seq, SyntaxContext, Text};
 
 /// What stands behind an attribute's path.
 #[derive(Drop)]
@@ -269,10 +266,10 @@ pub struct AttrsAfter<'a> {
 impl<'a> Model for AttrsAfter<'a> {
     ghost use Rattle.std.specs.Coded.{coded_list, coded×};
     ghost use Rattle.item_tree.specs.contracts.attrs.Attr as attr;
-    ghost use Rattle.item_tree.specs.contracts.ids.AttrId as attr_id;
+    ghost use Rattle.tree_ids.specs.contracts.ids.AttrId as attr_id;
     ghost use Rattle.std.specs.Prelude.{List};
     ghost use Rattle.item_tree.specs.declared.attrs.Attr.{Attr};
-    ghost use Rattle.item_tree.specs.declared.ids.AttrId.{AttrId};
+    ghost use Rattle.tree_ids.specs.declared.ids.AttrId.{AttrId};
     ghost use Rattle.item_tree.specs.Attrs.{numbered_at};
 
     ghost Value = { List (AttrId × Attr) };

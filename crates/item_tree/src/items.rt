@@ -4,11 +4,9 @@ ghost use Rattle.item_tree.specs.Trees.{children_of};
 ghost use Rattle.item_tree.specs.Attrs.{attrs_of, by_key, disabled_by, path_attr};
 
 use crate::attrs::{AttrQuery, AttrsOrCfg};
-use crate::ids::{CfgExpr, FileAstId, ModItemId, SyntaxContext};
-use crate::list::Seq;
 use crate::mod_path::ModPath;
-use crate::name::Name;
 use crate::sym;
+use tree_ids::{CfgExpr, FileAstId, ModItemId, Name, Seq, SyntaxContext};
 
 /// A visibility as it is written. None written is `PubSelf`.
 #[derive(Clone, PartialEq, Eq, Debug, Drop)]

@@ -1,5 +1,6 @@
 //! The known names as constants: each is the place of its text in `KNOWN_NAMES`.
-use crate::name::Name;
+
+use tree_ids::Name;
 
 pub const SELF: Name = Name(0);
 

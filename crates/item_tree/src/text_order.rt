@@ -2,8 +2,8 @@
 ghost use Rattle.std.specs.Prelude.{◌<◌, ◌≤◌, ◌+◌, length, IsTrue, ◌↔◌, ℕ};
 ghost use Rattle.item_tree.specs.TextOrder.{IsRising, AreRising, IsWithin, IsCut, AreCut, IsInTextOrder};
 
-use crate::ids::ModItemId;
 use crate::items::ItemNode;
+use tree_ids::ModItemId;
 
 /// Whether each parent comes before its children, siblings rise, and each subtree ends before the
 /// next sibling. Such items are a tree.

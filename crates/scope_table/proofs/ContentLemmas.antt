@@ -1,6 +1,6 @@
 -- Contents that agree everywhere.
 use Rattle.std.proofs.Common.{◌≡◌}
-use Rattle.item_tree.specs.declared.name.Name.{Name}
+use Rattle.tree_ids.specs.declared.name.Name.{Name}
 use Rattle.def_ids.specs.declared.ids.ModuleId.{ModuleId}
 use Rattle.def_bindings.specs.declared.bindings.Namespace.{Namespace}
 use Rattle.def_bindings.specs.Content.{Content}

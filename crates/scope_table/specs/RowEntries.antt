@@ -1,7 +1,7 @@
 -- The names of one module, each with its bindings.
 use Rattle.std.specs.Prelude.{Bool, true, not, ◌&&◌, Option, None, List, [], ◌∷◌, cond, option_and_then, unwrap_or}
 use Rattle.std.specs.Map.{lookup, remove_entry, set_value}
-use Rattle.item_tree.specs.declared.name.Name.{Name}
+use Rattle.tree_ids.specs.declared.name.Name.{Name}
 use Rattle.def_bindings.specs.declared.bindings.Namespace.{Namespace}
 use Rattle.def_bindings.specs.declared.bindings.Binding.{Binding}
 use Rattle.def_bindings.specs.declared.name_bindings.NameBindings.{NameBindings}

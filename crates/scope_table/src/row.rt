@@ -12,8 +12,8 @@ ghost use Rattle.scope_table.specs.RowEntries.{bindings_at, bindings_left, are_b
 use def_bindings::{Binding, EdgeTo, Link, NameBindings, Namespace};
 use def_ids::{ModuleId, TraitId};
 use indexmap::IndexMap;
-use item_tree::Name;
 use std::alloc::{AllocError, Global};
+use tree_ids::Name;
 
 /// The names, unnamed traits and edges of one module, each in order. A name that is there is bound.
 #[derive(Drop)]

@@ -5,8 +5,8 @@ use crate::row::Row;
 use def_bindings::{Binding, BindingTable, EdgeTo, NameBindings, Namespace};
 use def_ids::{ModuleId, TraitId};
 use indexmap::IndexMap;
-use item_tree::Name;
 use std::alloc::{AllocError, Global};
+use tree_ids::Name;
 
 /// A row for each module that has something.
 pub struct ScopeTable<V> {

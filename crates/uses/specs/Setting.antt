@@ -1,9 +1,9 @@
 -- What a run over a crate is given.
 use Rattle.std.specs.Prelude.{None}
-use Rattle.item_tree.specs.declared.ids.Crate.{Crate}
-use Rattle.item_tree.specs.declared.ids.FileId.{FileId}
-use Rattle.item_tree.specs.declared.ids.HirFileId.TheVariants.{File}
-use Rattle.item_tree.specs.declared.ids.TreeId.{TreeId}
+use Rattle.tree_ids.specs.declared.ids.Crate.{Crate}
+use Rattle.tree_ids.specs.declared.ids.FileId.{FileId}
+use Rattle.tree_ids.specs.declared.ids.HirFileId.TheVariants.{File}
+use Rattle.tree_ids.specs.declared.ids.TreeId.{TreeId}
 use Rattle.def_ids.specs.declared.edition.Edition.TheVariants.{Edition2021}
 use Rattle.def_map.specs.DefMaps.{seeded}
 use Rattle.def_map.specs.Oracle.{Oracle}

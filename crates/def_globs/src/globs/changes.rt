@@ -2,8 +2,8 @@
 
 use def_bindings::Slot;
 use def_ids::ModuleId;
-use item_tree::Name;
 use std::alloc::{AllocError, Global};
+use tree_ids::Name;
 
 /// Names that changed, each with its module, in order. Nothing is noted while nobody watches.
 #[derive(Drop)]

@@ -1,7 +1,7 @@
 use Rattle.std.proofs.Common.{◌≡◌, ◌+◌, arith, subst}
 use Rattle.def_interner.specs.Session.{session_of}
 use Rattle.def_interner.specs.SessionLaws.{adds_trans}
-use Rattle.def_imports.proofs.ResultLaws.{if_ok}
+use Rattle.def_laws.proofs.ResultLaws.{if_ok}
 use Rattle.def_laws.specs.Runs.{HoldRounds}
 use Rattle.def_laws.proofs.RoundsLaws.{holds_both, holds_none}
 use Rattle.def_laws.proofs.StepsLaws.{collects_sound, collects_trans}

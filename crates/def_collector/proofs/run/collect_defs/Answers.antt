@@ -3,11 +3,11 @@ use Rattle.def_calls.specs.Shown.{expansion_shown}
 use Rattle.def_interner.specs.Session.{session_of}
 use Rattle.def_map.specs.DefMaps as whole
 use Rattle.def_modules.specs.Locals.{local_view}
-use Rattle.def_laws.specs.Finished.{shown}
+use Rattle.def_answer.specs.Shown.{shown}
 use Rattle.def_passes.specs.Collector.{state_of}
 use Rattle.def_collector.specs.Setting.{setting_of}
 use Rattle.def_rules.specs.Headline.{Answers}
-use Rattle.def_imports.proofs.ResultLaws.{if_ok}
+use Rattle.def_laws.proofs.ResultLaws.{if_ok}
 use Rattle.def_collector.proofs.CollectLemmas.{begun_sound, collected_answers}
 use Rattle.def_collector.proofs.run.collect_defs.Goals as goal
 

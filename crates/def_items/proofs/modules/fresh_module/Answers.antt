@@ -1,6 +1,5 @@
-use Rattle.std.proofs.Common.{[], Some, ap, refl, sym, ◌∙◌}
+use Rattle.std.proofs.Common.{Some, ap, refl, sym, ◌∙◌}
 use Rattle.std.proofs.lemmas.Option.{slice_get_past, slice_get_read}
-use Rattle.item_tree.specs.declared.name.Name.{Name}
 use Rattle.def_modules.specs.Scopes.{empty_module, with_textual_of}
 use Rattle.def_items.proofs.TextualLemmas.{textual_missing, textual_there}
 use Rattle.def_items.proofs.modules.fresh_module.Goals as goal

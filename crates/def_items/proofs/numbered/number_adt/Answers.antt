@@ -4,7 +4,6 @@ use Rattle.def_ids.specs.declared.ids.ItemContainerId.TheVariants as contained
 use Rattle.def_interner.specs.Session.{in_container, session_of}
 use Rattle.def_items.specs.Parts.{site_of}
 use Rattle.def_rules.specs.Deferred.{IsAdt}
-use Rattle.def_rules.specs.State.{State}
 use Rattle.def_items.proofs.numbered.number_adt.Goals as goal
 
 pub returns-in_ok-id-in-Struct-clause-numbered : goal.returns-in_ok-id-in-Struct-clause-numbered

@@ -1,5 +1,4 @@
 use Rattle.std.proofs.Common.{◌≡◌, length}
-use Rattle.std.specs.List.{list_any}
 use Rattle.item_tree.specs.TokenTrees.{elements}
 use Rattle.def_rules.specs.Macros.{holds_word}
 use Rattle.def_macros.proofs.flags.holds.Given as goal

@@ -1,4 +1,4 @@
-use Rattle.std.proofs.Common.{ap, sym, ◌∙◌}
+use Rattle.std.proofs.Common.{sym, ◌∙◌}
 use Rattle.def_map.specs.Asking.{world_lent}
 use Rattle.def_map.specs.DefMaps.{view_of}
 use Rattle.def_map.specs.Sources.{World}

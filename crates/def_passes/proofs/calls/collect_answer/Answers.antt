@@ -2,7 +2,7 @@ use Rattle.std.proofs.Common.{◌≡◌, None, ap, sym, ◌∙◌}
 use Rattle.def_calls.specs.Shown.{written_of}
 use Rattle.def_passes.specs.Collector.{state_of}
 use Rattle.def_passes.specs.Walk.{inner_of}
-use Rattle.def_imports.proofs.ResultLaws.{if_ok}
+use Rattle.def_laws.proofs.ResultLaws.{if_ok}
 use Rattle.def_items.specs.Parts.{site_of}
 use Rattle.def_modules.specs.Maps.{map_state, with_module}
 use Rattle.def_modules.specs.Scopes.{with_invocation}

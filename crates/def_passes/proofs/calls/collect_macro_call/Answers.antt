@@ -2,7 +2,7 @@ use Rattle.std.proofs.Common.{◌≡◌, Err, Ok, Result, ap, subst, sym, ◌∙
 use Rattle.def_calls.specs.Shown.{written_of}
 use Rattle.def_passes.specs.Collector.{state_of}
 use Rattle.def_passes.specs.Walk.{inner_of}
-use Rattle.def_imports.proofs.ResultLaws.{if_ok}
+use Rattle.def_laws.proofs.ResultLaws.{if_ok}
 use Rattle.def_items.specs.Parts.{site_of}
 use Rattle.def_laws.specs.Performs.{IsDone}
 use Rattle.def_laws.proofs.CallsLaws.{left_done}

@@ -4,7 +4,7 @@ use Rattle.def_items.specs.Parts.{site_of}
 use Rattle.def_passes.specs.Collector.{state_of}
 use Rattle.def_passes.specs.Walk.{inner_of}
 use Rattle.def_rules.specs.State.{State}
-use Rattle.def_imports.proofs.ResultLaws.{if_ok}
+use Rattle.def_laws.proofs.ResultLaws.{if_ok}
 use Rattle.def_passes.proofs.VisitLemmas.{opens_none}
 use Rattle.def_passes.proofs.items.collect_item.Goals as goal
 

@@ -4,7 +4,8 @@ use Rattle.def_calls.specs.Shown.{macro_directive_of, macros_in}
 use Rattle.def_calls.proofs.WaitingLemmas.{first_is}
 use Rattle.def_passes.specs.Collector.{state_of}
 use Rattle.def_rules.specs.State.{State}
-use Rattle.def_passes.proofs.MacroPassLemmas.{had_turn_left, had_turn_stayed, read_at, stays_behind}
+use Rattle.def_calls.proofs.WaitingLemmas.{read_at}
+use Rattle.def_passes.proofs.MacroPassLemmas.{had_turn_left, had_turn_stayed, stays_behind}
 use Rattle.def_passes.proofs.macro_pass.ask_macro.Goals as goal
 
 pub returns-then-branch-clause-turn : goal.returns-then-branch-clause-turn

@@ -1,5 +1,5 @@
 use Rattle.def_passes.specs.Collector.{state_of}
-use Rattle.def_imports.proofs.ResultLaws.{if_ok}
+use Rattle.def_laws.proofs.ResultLaws.{if_ok}
 use Rattle.def_laws.proofs.RecordLaws.{on_ok}
 use Rattle.def_passes.proofs.modules.push_module.Goals as goal
 

@@ -8,7 +8,7 @@ use Rattle.def_passes.specs.Walk.{inner_of}
 use Rattle.def_rules.specs.State.{State, Task, Visit}
 use Rattle.def_laws.specs.Performs.{IsHandled}
 use Rattle.def_laws.specs.Runs.{Leads}
-use Rattle.def_imports.proofs.ResultLaws.{if_both, if_ok}
+use Rattle.def_laws.proofs.ResultLaws.{if_both, if_ok}
 use Rattle.def_laws.proofs.StepsLaws.{leads_handled, leads_nothing, leads_waits}
 use Rattle.def_passes.proofs.VisitLemmas.{inner_few, node_of, not_disabled, visited_disabled}
 use Rattle.def_laws.proofs.WorkLaws.{handled_less, nothing_less}

@@ -1,5 +1,5 @@
 use Rattle.std.proofs.Common.{Some, add-one, ap, arith, drop, drop-cons, get_or, length, length-drop, sym, ◌+◌, ◌<◌, ◌||◌, ◌∙◌, ◌∷◌, ◌≡◌}
-use Rattle.item_tree.specs.declared.name.Name.{Name}
+use Rattle.tree_ids.specs.declared.name.Name.{Name}
 use Rattle.def_paths.specs.Answers.{is_elsewhere, missing, walk}
 use Rattle.def_paths.specs.Asking.{question_in, map_in}
 use Rattle.def_paths.specs.PerNs.{in_types}

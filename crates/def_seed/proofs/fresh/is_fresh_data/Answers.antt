@@ -1,6 +1,6 @@
 use Rattle.std.proofs.Common.{◌≡◌, Option, rules, sym, subst}
 use Rattle.std.specs.Prelude.{IsTrue}
-use Rattle.item_tree.specs.declared.ids.BlockId.{BlockId}
+use Rattle.tree_ids.specs.declared.ids.BlockId.{BlockId}
 use Rattle.def_modules.specs.Maps.{map_state}
 use Rattle.def_seed.specs.Fresh.{fresh_by}
 use Rattle.def_seed.proofs.EmptiedLemmas.{crate_fresh, fresh_crate_parts, emptied_from_fresh}

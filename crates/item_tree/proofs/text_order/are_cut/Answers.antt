@@ -1,6 +1,6 @@
 use Rattle.std.proofs.Common.{◌≡◌, ℕ, ◌<◌, ◌+◌, ◌-◌, inl, inr, arith, rules, sym, subst, ◌∙◌, List, length}
 use Rattle.std.proofs.lemmas.Bool.{cases_lt}
-use Rattle.item_tree.specs.declared.ids.ModItemId.{ModItemId}
+use Rattle.tree_ids.specs.declared.ids.ModItemId.{ModItemId}
 use Rattle.item_tree.specs.Trees.{children_at}
 use Rattle.item_tree.specs.TextOrder.{IsCut}
 use Rattle.item_tree.proofs.TreesLemmas.{children_read}

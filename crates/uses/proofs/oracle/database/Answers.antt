@@ -1,5 +1,5 @@
 use Rattle.std.proofs.Common.{ap, ◌∙◌, Option, codes}
-use Rattle.item_tree.specs.declared.ids.FileId.{FileId}
+use Rattle.tree_ids.specs.declared.ids.FileId.{FileId}
 use Rattle.def_map.specs.Oracle.{Oracle}
 use Rattle.uses.proofs.oracle.database.Goals as goal
 

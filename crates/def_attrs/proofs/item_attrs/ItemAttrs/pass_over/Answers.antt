@@ -1,6 +1,6 @@
 use Rattle.std.proofs.Common.{Some}
-use Rattle.item_tree.specs.declared.ids.InFile.{InFile}
-use Rattle.item_tree.specs.declared.ids.ModItemId.{ModItemId}
+use Rattle.tree_ids.specs.declared.ids.InFile.{InFile}
+use Rattle.tree_ids.specs.declared.ids.ModItemId.{ModItemId}
 use Rattle.def_modules.proofs.CrateLemmas.{rekeyed}
 use Rattle.def_attrs.specs.ItemAttrs.{item_eq}
 use Rattle.def_attrs.proofs.AttrsLemmas.{derived_item_eq, items_same}

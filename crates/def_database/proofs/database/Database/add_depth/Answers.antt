@@ -1,7 +1,7 @@
 use Rattle.std.proofs.Common.{◌≡◌, ap, subst, Bool, cond, Some}
 use Rattle.std.specs.Prelude.{unwrap_or}
 use Rattle.indexmap.specs.IndexMap.{get}
-use Rattle.item_tree.specs.declared.ids.HirFileId.{HirFileId}
+use Rattle.tree_ids.specs.declared.ids.HirFileId.{HirFileId}
 use Rattle.def_modules.specs.Equality.{file_eq}
 use Rattle.def_database.specs.Database.{answers_of}
 use Rattle.def_database.proofs.FillingLemmas.{files_same, read-set}

@@ -1,5 +1,5 @@
 use Rattle.std.proofs.Common.{ap, Some}
-use Rattle.item_tree.specs.contracts.ids.TreeIdPartialEq.TheImpl as trees
+use Rattle.tree_ids.specs.contracts.ids.TreeIdPartialEq.TheImpl as trees
 use Rattle.def_modules.proofs.CrateLemmas.{rekeyed}
 use Rattle.def_database.specs.Database.{answers_of, tree_eq}
 use Rattle.def_database.proofs.FillingLemmas.{trees_same}

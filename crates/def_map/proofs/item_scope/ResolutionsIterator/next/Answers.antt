@@ -1,7 +1,7 @@
 use Rattle.std.proofs.Common.{◌≡◌, [], ◌∷◌, ◌<◌, Some, None, length, sym, ◌∙◌, ap, slice_get, drop, ◌+◌, arith, rules}
 use Rattle.std.specs.Prelude.{map}
 use Rattle.std.proofs.lemmas.Option.{slice_get_within}
-use Rattle.item_tree.specs.declared.name.Name.{Name}
+use Rattle.tree_ids.specs.declared.name.Name.{Name}
 use Rattle.def_paths.specs.declared.per_ns.PerNs.{PerNs}
 use Rattle.def_map.specs.ItemScopes.{place_of, scope_content, meaning}
 use Rattle.def_map.proofs.IterLemmas.{drop_at, drop_end}

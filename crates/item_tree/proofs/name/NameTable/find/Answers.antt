@@ -1,5 +1,5 @@
 use Rattle.std.proofs.Common.{ap, sym, ◌∙◌}
-use Rattle.std.specs.Prelude.{string_bytes, slice_get, is_some}
+use Rattle.std.specs.Prelude.{string_bytes, slice_get}
 use Rattle.item_tree.proofs.NumberingLemmas.{shown_at_position, shown_nowhere}
 use Rattle.item_tree.proofs.name.NameTable.find.Goals as goal
 

@@ -3,10 +3,10 @@ use Rattle.std.specs.Prelude.{◌≡◌, ℕ, ◌+◌, ◌==◌, Bool, true, fal
 use Rattle.std.specs.Global.{Global}
 use denote.Ref.{Bor}
 use Rattle.std.specs.List.{flat_map, join_with_byte, starts_with, slice_split}
-use Rattle.item_tree.specs.declared.ids.FileId.{FileId}
-use Rattle.item_tree.specs.declared.ids.HirFileId.{HirFileId}
+use Rattle.tree_ids.specs.declared.ids.FileId.{FileId}
+use Rattle.tree_ids.specs.declared.ids.HirFileId.{HirFileId}
 use Rattle.item_tree.specs.Lists.{or_else}
-use Rattle.def_map.specs.Oracle.{Oracle}
+use Rattle.def_oracle.specs.Oracle.{Oracle}
 
 -- the text of an attribute, if there is one
 abbrev pub text_in : Option (Bor (List ℕ)) → Option (List ℕ)
