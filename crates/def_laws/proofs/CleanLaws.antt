@@ -28,7 +28,7 @@ use Rattle.def_rules.specs.Derives.{derived_map, helper_names, helper_of, with_d
 use Rattle.def_rules.specs.Items.{node_at, top_items}
 use Rattle.def_rules.specs.Macros.{showing_helpers, taking}
 use Rattle.def_rules.specs.Modules.{add_module, fresh_module}
-use Rattle.def_rules.specs.DeriveNames.{NameAndHelpers}
+use Rattle.def_readings.specs.DeriveNames.{NameAndHelpers}
 use Rattle.def_rules.specs.declared.deferred.DeferredDerive.{DeferredDerive}
 use Rattle.def_rules.specs.Deferred.{AreGiven, giving_impls, last_of, naming_impl, with_impls}
 use Rattle.def_rules.specs.State.{State}

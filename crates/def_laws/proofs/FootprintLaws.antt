@@ -41,8 +41,8 @@ use Rattle.def_oracle.specs.declared.source_database.UnresolvedMacro.{Unresolved
 use Rattle.def_oracle.specs.Oracle.{Oracle}
 use Rattle.def_modules.specs.Maps.{limit_of, textual_at, with_module}
 use Rattle.def_modules.specs.Scopes.{brought, declared_in, with_extern_block, with_extern_crate, with_impl, with_textual, with_unnamed_const}
-use Rattle.def_rules.specs.Directories.{Directory, FoundFile, descend}
-use Rattle.def_rules.specs.DeriveNames.{NameAndHelpers}
+use Rattle.def_readings.specs.Directories.{Directory, FoundFile, descend}
+use Rattle.def_readings.specs.DeriveNames.{NameAndHelpers}
 use Rattle.def_globs.proofs.ListLaws.{none_in, in_cases, only_in}
 use Rattle.def_rules.specs.declared.diagnostics.DefDiagnostic.{DefDiagnostic}
 use Rattle.def_rules.specs.declared.diagnostics.DefDiagnosticKind.TheVariants.{UnconfiguredCode, UnimplementedBuiltinMacro, UnresolvedExternCrate, UnresolvedModule}

@@ -25,7 +25,7 @@ use Rattle.def_modules.specs.Maps.{known_parent, pushed, with_helper, with_macro
 use Rattle.def_modules.specs.Scopes.{called_at, with_derive_impl, with_invocation}
 use Rattle.def_modules.specs.Updates.{update_at}
 use Rattle.def_oracle.specs.Oracle.{Oracle}
-use Rattle.def_rules.specs.DeriveNames.{NameAndHelpers}
+use Rattle.def_readings.specs.DeriveNames.{NameAndHelpers}
 use Rattle.def_laws.specs.Own.{IsOwn}
 use Rattle.def_rules.specs.Calls.{each_helped, expansion_tree, helped, invoking, replaced_by, with_helpers}
 use Rattle.def_rules.specs.Derives.{derived_map, helper_names, helper_of, with_derive_call, with_shown_helpers}

@@ -5,7 +5,7 @@ use Rattle.std.specs.Prelude.{nat_lt}
 use Rattle.tree_ids.specs.declared.ids.FileId.{FileId}
 use Rattle.tree_ids.specs.declared.ids.HirFileId.{HirFileId}
 use Rattle.item_tree.specs.Lists.{or_else}
-use Rattle.def_rules.specs.Directories.{Directory, Files, FoundFile, candidates, child, child_of_file, descend, first_found, found_directory, found_file, in_candidate, is_mod_rs, joined_text, or_candidates, pieces_of, resolve_declaration}
+use Rattle.def_readings.specs.Directories.{Directory, Files, FoundFile, candidates, child, child_of_file, descend, first_found, found_directory, found_file, in_candidate, is_mod_rs, joined_text, or_candidates, pieces_of, resolve_declaration}
 
 -- one level below a directory that is not at the limit
 pub record IsDeeper (above below : Directory) : Type 0 where

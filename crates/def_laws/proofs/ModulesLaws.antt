@@ -15,7 +15,7 @@ use Rattle.def_bindings.specs.declared.visibility.Visibility.{Visibility}
 use Rattle.def_modules.specs.declared.module_data.ModuleOrigin.{ModuleOrigin}
 use Rattle.def_modules.specs.declared.module_data.ModuleOrigin.TheVariants as origin
 use Rattle.def_oracle.specs.Oracle.{Oracle}
-use Rattle.def_rules.specs.Directories.{AnswersFile, Directory, Files, FoundFile, resolve_declaration}
+use Rattle.def_readings.specs.Directories.{AnswersFile, Directory, Files, FoundFile, resolve_declaration}
 use Rattle.def_rules.specs.declared.diagnostics.DefDiagnosticKind.TheVariants.{UnconfiguredCode, UnresolvedModule}
 use Rattle.def_laws.specs.Performs.{IsDone, Performs, Updated}
 use Rattle.def_rules.specs.Crates.{tree_attrs}

@@ -29,7 +29,7 @@ use Rattle.def_modules.specs.Maps.{limit_of}
 use Rattle.def_oracle.specs.declared.source_database.CallAnswer.{CallAnswer}
 use Rattle.def_oracle.specs.declared.source_database.UnresolvedMacro.{UnresolvedMacro}
 use Rattle.def_oracle.specs.Oracle.{Oracle}
-use Rattle.def_rules.specs.Directories.{Directory, FoundFile, descend}
+use Rattle.def_readings.specs.Directories.{Directory, FoundFile, descend}
 use Rattle.def_paths.specs.declared.asked.ResolvePathResult.{ResolvePathResult}
 use Rattle.def_paths.specs.Answers.{variants_of}
 use Rattle.def_paths.specs.Paths.{for_import, map_of, question}

@@ -14,7 +14,7 @@ use Rattle.def_modules.specs.MapState.{MapState}
 use Rattle.def_modules.specs.MapView.{LocalView}
 use Rattle.def_oracle.specs.Oracle.{Oracle}
 use Rattle.def_paths.specs.Paths.{for_module, module_found, module_reached, resolve}
-use Rattle.def_rules.specs.Directories.{Directory, root_directory}
+use Rattle.def_readings.specs.Directories.{Directory, root_directory}
 use Rattle.def_rules.specs.Crates.{prelude_module, prelude_path, tree_attrs}
 use Rattle.def_rules.specs.Items.{top_items, tree_cfg, walk}
 use Rattle.def_rules.specs.Start.{crate_head, first_depth, first_head, first_reports, first_tasks, first_tree, first_walk, head_of, informed, site_at, started, told, with_attrs, with_deps, with_head, with_prelude}

@@ -14,7 +14,7 @@ use Rattle.def_bindings.specs.Content.{Content}
 use Rattle.def_modules.specs.Maps.{textual_at}
 use Rattle.def_modules.specs.Scopes.{brought}
 use Rattle.def_oracle.specs.Oracle.{Oracle}
-use Rattle.def_rules.specs.Directories.{Directory}
+use Rattle.def_readings.specs.Directories.{Directory}
 use Rattle.def_globs.specs.Raised.{IsRaisedAt}
 use Rattle.def_rules.specs.declared.diagnostics.DefDiagnosticKind.TheVariants.{UnconfiguredCode}
 use Rattle.def_laws.specs.Depths.{AreVisitsBelow, DefersIn, WaitsAlike, deferred_work}

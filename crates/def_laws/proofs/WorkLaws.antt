@@ -33,7 +33,7 @@ use Rattle.def_modules.specs.Maps.{limit_of}
 use Rattle.def_oracle.specs.declared.source_database.CallAnswer.{CallAnswer}
 use Rattle.def_oracle.specs.declared.source_database.UnresolvedMacro.{UnresolvedMacro}
 use Rattle.def_oracle.specs.Oracle.{Oracle}
-use Rattle.def_rules.specs.Directories.{Directory, FoundFile, descend, files_of, resolve_declaration}
+use Rattle.def_readings.specs.Directories.{Directory, FoundFile, descend, files_of, resolve_declaration}
 use Rattle.def_rules.specs.Calls.{answered_effect, deeper, deepest, expansion_at, expansion_effect, expansion_site, expansion_tree, told_effect, with_invocations, with_replaced}
 use Rattle.def_rules.specs.Crates.{tree_attrs}
 use Rattle.def_rules.specs.ExternCrates.{crate_effect, crate_name, named_crate}

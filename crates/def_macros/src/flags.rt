@@ -4,7 +4,7 @@ ghost use Rattle.item_tree.specs.Attrs.{attrs_of, has_attr};
 ghost use Rattle.item_tree.specs.KnownNames.{allow_internal_unsafe_name};
 ghost use Rattle.item_tree.specs.TokenElements.{seen};
 ghost use Rattle.item_tree.specs.TokenTrees.{element_ident};
-ghost use Rattle.def_rules.specs.DeriveNames.{is_word};
+ghost use Rattle.def_parts.specs.DeriveNames.{is_word};
 ghost use Rattle.def_rules.specs.Macros as macros;
 
 use bitflags::Flags;

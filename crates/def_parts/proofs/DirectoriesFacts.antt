@@ -3,7 +3,7 @@ use Rattle.std.proofs.Common.{◌≡◌, true, false, Some, None, [], ◌∷◌,
 use Rattle.std.specs.Prelude.{codes, map, Err}
 use Rattle.tree_ids.specs.declared.ids.FileId.{FileId}
 use Rattle.tree_ids.specs.declared.ids.HirFileId.TheVariants.{File}
-use Rattle.def_rules.specs.Directories.{Directory, Files, root_directory, dir_text, joined_text, pieces_of, dir_pieces, clean, candidates, child, descend, is_mod_rs, found_file, found_directory, resolve_declaration}
+use Rattle.def_readings.specs.Directories.{Directory, Files, root_directory, dir_text, joined_text, pieces_of, dir_pieces, clean, candidates, child, descend, is_mod_rs, found_file, found_directory, resolve_declaration}
 
 -- the directory of `mod bar { .. }` in foo.rs, and that of foo.rs itself
 abbrev foo_bar : Directory

@@ -4,7 +4,7 @@ use Rattle.std.proofs.lemmas.List.{map-append}
 use Rattle.std.specs.Prelude.{codes, map, is_some, option_map, option_and_then, ◌||◌, String, string_bytes, Err}
 use Rattle.std.specs.Bool.{MatchBool}
 use Rattle.std.proofs.lemmas.Bool.{cases_Bool, eqb-true, false≢true}
-use Rattle.def_rules.specs.Directories.{slash, joined_text, pieces_of, without_last, without_last_empty, dir_pieces, is_text, is_mod_rs, without_dot, as_slash, Directory, Files, child as child_of, found_directory, found_file, in_candidate, candidates, split_text, FoundFile, first_found, or_candidates, resolve_declaration}
+use Rattle.def_readings.specs.Directories.{slash, joined_text, pieces_of, without_last, without_last_empty, dir_pieces, is_text, is_mod_rs, without_dot, as_slash, Directory, Files, child as child_of, found_directory, found_file, in_candidate, candidates, split_text, FoundFile, first_found, or_candidates, resolve_declaration}
 use Rattle.tree_ids.specs.declared.ids.HirFileId.{HirFileId}
 use Rattle.std.specs.Global.{Global}
 use Rattle.tree_ids.specs.declared.ids.FileId.{FileId}

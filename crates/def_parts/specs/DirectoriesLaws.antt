@@ -4,7 +4,7 @@ use Rattle.std.specs.List.{onto_first}
 use Rattle.std.proofs.Common.{sym, ap, ◌∙◌, subst, inl, inr, append_assoc}
 use Rattle.std.proofs.lemmas.Bool.{cases_Bool, eqb-true}
 use Rattle.std.proofs.lemmas.List.Splits.{join_with_byte-slice_split}
-use Rattle.def_rules.specs.Directories.{slash, dir_text, joined_text, pieces_of, without_last, without_last_empty, dir_pieces}
+use Rattle.def_readings.specs.Directories.{slash, dir_text, joined_text, pieces_of, without_last, without_last_empty, dir_pieces}
 
 -- empty, or ending with '/'
 abbrev pub IsDirText : List ℕ → Type 0

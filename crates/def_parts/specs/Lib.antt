@@ -1,4 +1,4 @@
-pub use Rattle.def_rules.specs.Directories
-pub use Rattle.def_rules.specs.DeriveNames
+pub use Rattle.def_readings.specs.Directories
+pub use Rattle.def_readings.specs.DeriveNames
 pub mod DirectoriesLaws
 pub mod ProcMacros

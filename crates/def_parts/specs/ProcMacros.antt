@@ -7,7 +7,7 @@ use Rattle.item_tree.specs.KnownNames.{proc_macro_name, proc_macro_attribute_nam
 use Rattle.item_tree.specs.Lists.{first_of_list}
 use Rattle.item_tree.specs.TokenTrees.{elements}
 use Rattle.item_tree.specs.Attrs.{has_attr, tt_values}
-use Rattle.def_rules.specs.DeriveNames.{NameAndHelpers, name_and_helpers}
+use Rattle.def_readings.specs.DeriveNames.{NameAndHelpers, name_and_helpers}
 use Rattle.def_parts.specs.declared.proc_macro.ProcMacroKind.{ProcMacroKind}
 use Rattle.def_parts.specs.declared.proc_macro.ProcMacroKind.TheVariants.{Derive, Bang, Attr as Attribute}
 use Rattle.def_parts.specs.declared.proc_macro.ProcMacroDef.{ProcMacroDef}

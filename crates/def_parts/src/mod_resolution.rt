@@ -1,6 +1,6 @@
 //! Where the file of a `mod foo;` lies.
 ghost use Rattle.std.specs.Prelude.{◌≡◌, ◌||◌, IfOk, map};
-ghost use Rattle.def_rules.specs.Directories.{HasParent, pieces_of, is_mod_rs};
+ghost use Rattle.def_readings.specs.Directories.{HasParent, pieces_of, is_mod_rs};
 
 mod dir_path;
 
@@ -26,7 +26,7 @@ pub struct ModDir {
 }
 
 impl Model for ModDir {
-    ghost use Rattle.def_rules.specs.Directories.{Directory, HasParent};
+    ghost use Rattle.def_readings.specs.Directories.{Directory, HasParent};
 
     ghost Value = { Directory };
 
@@ -40,7 +40,7 @@ impl Model for ModDir {
 }
 
 impl ModDir {
-    ghost use Rattle.def_rules.specs.Directories.{root_directory, child, below, descend, candidates, split_text, text_in, child_of_file, in_candidate, first_found, files_of, resolve_declaration, AnswersFile};
+    ghost use Rattle.def_readings.specs.Directories.{root_directory, child, below, descend, candidates, split_text, text_in, child_of_file, in_candidate, first_found, files_of, resolve_declaration, AnswersFile};
 
     /// The directory of a crate's root.
     pub fn root(alloc: Global) -> ModDir

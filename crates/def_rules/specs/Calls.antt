@@ -21,7 +21,7 @@ use Rattle.def_oracle.specs.declared.source_database.CallAnswer.{CallAnswer}
 use Rattle.def_oracle.specs.declared.source_database.UnresolvedMacro.{UnresolvedMacro}
 use Rattle.def_oracle.specs.Oracle.{Meaning, Oracle}
 use Rattle.def_oracle.specs.Queries.{PlainCall}
-use Rattle.def_rules.specs.Directories.{Directory, root_directory}
+use Rattle.def_readings.specs.Directories.{Directory, root_directory}
 use Rattle.def_paths.specs.OuterMaps.{first_of_each_map}
 use Rattle.def_paths.specs.Paths.{macro_named, map_of, scope}
 use Rattle.def_paths.specs.Sources.{World}

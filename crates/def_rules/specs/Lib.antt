@@ -3,12 +3,10 @@ pub mod Waiting
 pub mod State
 pub mod Steps
 pub mod Items
-pub mod Directories
 pub mod Modules
 pub mod Macros
 pub mod Calls
 pub mod Attributes
-pub mod DeriveNames
 pub mod Derives
 pub mod Deferred
 pub mod Directives

@@ -35,7 +35,7 @@ use Rattle.def_modules.specs.MapState.{MapState}
 use Rattle.def_modules.specs.MapView.{MapView}
 use Rattle.def_modules.specs.Scopes.{with_textual}
 use Rattle.def_oracle.specs.Oracle.{Oracle}
-use Rattle.def_rules.specs.DeriveNames.{NameAndHelpers, is_word, name_and_helpers}
+use Rattle.def_readings.specs.DeriveNames.{NameAndHelpers, is_word, name_and_helpers}
 use Rattle.def_paths.specs.Items.{macro_of_def}
 use Rattle.def_paths.specs.Paths.{map_of}
 use Rattle.def_paths.specs.Sources.{World}

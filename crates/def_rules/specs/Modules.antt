@@ -22,7 +22,7 @@ use Rattle.def_modules.specs.Maps.{pushed, textual_at, with_module}
 use Rattle.def_modules.specs.MapState.{MapState, ModuleState}
 use Rattle.def_modules.specs.Scopes.{declared_in, empty_module, with_child, with_textual_of}
 use Rattle.def_oracle.specs.Oracle.{Oracle}
-use Rattle.def_rules.specs.Directories.{Directory, FoundFile, descend, files_of, resolve_declaration}
+use Rattle.def_readings.specs.Directories.{Directory, FoundFile, descend, files_of, resolve_declaration}
 use Rattle.def_rules.specs.declared.diagnostics.DefDiagnosticKind.TheVariants.{UnconfiguredCode, UnresolvedModule}
 use Rattle.def_rules.specs.Crates.{tree_attrs}
 use Rattle.def_rules.specs.State.{State, Effect, only, followed_by, reported, with_map, Site, module_site, Task, Bring}

@@ -14,7 +14,7 @@ use Rattle.def_oracle.specs.declared.source_database.CrateData.{CrateData}
 use Rattle.def_modules.specs.MapState.{CrateState, MapState}
 use Rattle.def_modules.specs.MapView.{LocalView, empty_local}
 use Rattle.def_oracle.specs.Oracle.{Oracle}
-use Rattle.def_rules.specs.Directories.{root_directory}
+use Rattle.def_readings.specs.Directories.{root_directory}
 use Rattle.def_rules.specs.declared.diagnostics.DefDiagnostic.{DefDiagnostic}
 use Rattle.def_rules.specs.declared.diagnostics.DefDiagnosticKind.TheVariants.{UnconfiguredCode}
 use Rattle.def_rules.specs.State.{Setting, State, Site, Task, Moment, root, module_site}

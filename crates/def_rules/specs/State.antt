@@ -29,7 +29,7 @@ use Rattle.def_modules.specs.Maps.{facts_in}
 use Rattle.def_oracle.specs.Oracle.{Oracle}
 use Rattle.def_paths.specs.Sources.{World}
 use Rattle.def_modules.specs.Updates.{set_where}
-use Rattle.def_rules.specs.Directories.{Directory}
+use Rattle.def_readings.specs.Directories.{Directory}
 use Rattle.def_rules.specs.declared.diagnostics.DefDiagnostic.{DefDiagnostic}
 use Rattle.def_rules.specs.Globs.{Targets}
 use Rattle.def_rules.specs.Waiting.{Deferrals, Expansion, MacroDirective, WrittenDerive}

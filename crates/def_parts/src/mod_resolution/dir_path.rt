@@ -1,7 +1,7 @@
 //! Paths of directories.
 ghost use Rattle.std.specs.Prelude.{◌≡◌, ◌++◌, List, [], IsTrue, IfOk, OnOk, MatchOption, map, string_bytes};
 ghost use Rattle.std.specs.Bool.{MatchBool};
-ghost use Rattle.def_rules.specs.Directories.{dir_text, dir_pieces, without_last, without_last_empty, base_of, clean, without_dot, as_slash, pieces_of};
+ghost use Rattle.def_readings.specs.Directories.{dir_text, dir_pieces, without_last, without_last_empty, base_of, clean, without_dot, as_slash, pieces_of};
 ghost use Rattle.def_parts.specs.DirectoriesLaws.{IsDirText};
 
 use std::alloc::{AllocError, Global};
@@ -15,7 +15,7 @@ pub struct DirPath {
 
 impl Model for DirPath {
     ghost use Rattle.std.specs.Prelude.{List, ℕ, string_bytes};
-    ghost use Rattle.def_rules.specs.Directories.{dir_pieces};
+    ghost use Rattle.def_readings.specs.Directories.{dir_pieces};
     ghost use Rattle.def_parts.specs.DirectoriesLaws.{IsDirText};
 
     ghost Value = { List (List ℕ) };

@@ -1,6 +1,6 @@
 use Rattle.std.proofs.Common.{◌≡◌, drop}
 use Rattle.std.specs.Prelude.{map, option_map}
-use Rattle.def_rules.specs.Directories.{split_text, first_found, files_of}
+use Rattle.def_readings.specs.Directories.{split_text, first_found, files_of}
 use Rattle.def_parts.proofs.mod_resolution.ModDir.find_among.Given as goal
 
 -- nothing was found in the candidates so far

@@ -1,6 +1,6 @@
 use Rattle.std.proofs.Common.{Some, sym, ◌∙◌}
 use Rattle.std.specs.Prelude.{option_map}
-use Rattle.def_rules.specs.Directories.{files_of}
+use Rattle.def_readings.specs.Directories.{files_of}
 use Rattle.def_parts.proofs.DirectoriesLemmas.{not_found, found_in, is_some-map}
 use Rattle.def_parts.proofs.mod_resolution.ModDir.find_in.Goals as goal
 

@@ -1,6 +1,6 @@
 use Rattle.std.proofs.Common.{◌∙◌}
 use Rattle.std.specs.Prelude.{string_bytes}
-use Rattle.def_rules.specs.Directories.{clean, base_of}
+use Rattle.def_readings.specs.Directories.{clean, base_of}
 use Rattle.def_parts.proofs.DirectoriesLemmas.{closed_end}
 use Rattle.def_parts.proofs.mod_resolution.ModDir.path_below.Goals as goal
 

@@ -1,6 +1,6 @@
 use Rattle.std.proofs.Common.{Err, sym, ap, ◌∙◌}
 use Rattle.std.specs.Prelude.{map, option_map, string_bytes}
-use Rattle.def_rules.specs.Directories.{split_text, first_found, files_of}
+use Rattle.def_readings.specs.Directories.{split_text, first_found, files_of}
 use Rattle.def_parts.proofs.DirectoriesLemmas.{all_candidates}
 use Rattle.def_parts.proofs.mod_resolution.ModDir.resolve_declaration.Goals as goal
 

@@ -1,7 +1,7 @@
 use Rattle.std.proofs.Common.{Some, None, lit<, sym, ap, ◌∙◌, ◌≡◌, ◌++◌, ◌∷◌, [], rules}
 use Rattle.std.specs.Prelude.{string_bytes, map}
 use Rattle.std.proofs.lemmas.Str.Pattern.{split_parts}
-use Rattle.def_rules.specs.Directories.{as_slash}
+use Rattle.def_readings.specs.Directories.{as_slash}
 use Rattle.def_parts.proofs.DirectoriesLemmas.{pushed_part, unslashed}
 use Rattle.def_parts.proofs.mod_resolution.dir_path.push_slashed.Goals as goal
 

@@ -2,7 +2,7 @@ use denote.Shadow.{shadow}
 use denote.Text.{Utf8}
 use Rattle.std.proofs.Common.{◌≡◌, ◌++◌, length}
 use Rattle.std.specs.Prelude.{map, string_bytes}
-use Rattle.def_rules.specs.Directories.{as_slash}
+use Rattle.def_readings.specs.Directories.{as_slash}
 use Rattle.def_parts.proofs.mod_resolution.dir_path.push_slashed.Given as goal
 
 -- what was pushed and what is left give the whole

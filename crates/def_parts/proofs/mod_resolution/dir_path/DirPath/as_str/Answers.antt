@@ -1,6 +1,6 @@
 use Rattle.std.proofs.Common.{sym, ap, ◌∙◌}
 use Rattle.std.specs.Prelude.{string_bytes}
-use Rattle.def_rules.specs.Directories.{dir_text}
+use Rattle.def_readings.specs.Directories.{dir_text}
 use Rattle.def_parts.specs.DirectoriesLaws.{dir_text-dir_pieces}
 use Rattle.def_parts.proofs.mod_resolution.dir_path.DirPath.as_str.Goals as goal
 

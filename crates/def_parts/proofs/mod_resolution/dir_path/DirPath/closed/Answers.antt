@@ -1,6 +1,6 @@
 use Rattle.std.proofs.Common.{sym, ap, ◌∙◌, ◌≡◌, ◌++◌, ◌∷◌, [], subst}
 use Rattle.std.specs.Prelude.{string_bytes}
-use Rattle.def_rules.specs.Directories.{dir_pieces}
+use Rattle.def_readings.specs.Directories.{dir_pieces}
 use Rattle.def_parts.specs.DirectoriesLaws.{IsDirText, closed_pieces}
 use Rattle.def_parts.proofs.mod_resolution.dir_path.DirPath.closed.Goals as goal
 use Rattle.def_parts.proofs.mod_resolution.dir_path.DirPath.closed.Goals.{then-not-is_dir_text+in_ok-push_str, else-not-is_dir_text}

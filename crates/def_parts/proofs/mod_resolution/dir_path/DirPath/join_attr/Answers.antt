@@ -1,6 +1,6 @@
 use Rattle.std.proofs.Common.{ap, ◌∙◌, ◌≡◌, ◌++◌}
 use Rattle.std.specs.Prelude.{string_bytes, map}
-use Rattle.def_rules.specs.Directories.{clean, as_slash, pieces_of}
+use Rattle.def_readings.specs.Directories.{clean, as_slash, pieces_of}
 use Rattle.def_parts.proofs.DirectoriesLemmas.{joined_attr}
 use Rattle.def_parts.proofs.mod_resolution.dir_path.DirPath.join_attr.Goals as goal
 
