@@ -1,3 +1,4 @@
+pub mod Places
 pub mod Setting
 pub use Rattle.def_rules.specs.Globs
 pub use Rattle.def_rules.specs.State

@@ -1,8 +1,9 @@
 //! Imports that wake: each is tried again only where a name changed that its path reads, in the order
 //! in which passes over all of them try them.
-ghost use Rattle.std.specs.Prelude.{◌≡◌, ◌<◌, ◌≤◌, [], false, true, length, IfOk, IfSome, OnOk};
+ghost use Rattle.std.specs.Prelude.{◌≡◌, ◌<◌, ◌≤◌, [], false, true, is_some, length, IfOk, IfSome, OnOk};
+ghost use Rattle.def_collector.specs.Places.{import_there};
 ghost use Rattle.def_passes.specs.Collector.{state_of};
-ghost use Rattle.def_passes.specs.Passes.{entries_of};
+ghost use Rattle.def_passes.specs.Passes.{IsUnready, entries_of};
 ghost use Rattle.def_laws.specs.Runs.{Leads};
 ghost use Rattle.def_laws.specs.Turns.{Moves, turns_left};
 ghost use Rattle.def_rules.specs.Recording.{NoneReady};
@@ -98,6 +99,8 @@ fn try_woken<'a, D: SourceDatabase>(
 ) -> Result<bool, AllocError>
     ensures moved { IfOk result (λ moved. moved ≡ true →
         Moves (D.oracle db.now) (state_of collector.old session.now) (state_of collector.new session.now)) }
+    ensures unready { IfOk result (λ moved. moved ≡ false →
+        IsUnready (D.oracle db.now) session.now import.list collector.old import.index) }
     ensures same { IfOk result (λ moved. moved ≡ false → collector.new ≡ collector.old) }
 {
     if !read_names(collector, db, session, watchers, import)? {
@@ -122,7 +125,8 @@ fn read_names<D: SourceDatabase>(
     watchers: &mut Watchers,
     import: ImportAt,
 ) -> Result<bool, AllocError>
-    ensures { IfOk result (λ there. there ≡ true → import.index < length (entries_of import.list collector.now)) }
+    ensures there { IfOk result (λ there. there ≡ is_some (import_there import collector.now)) }
+    ensures within { IfOk result (λ there. there ≡ true → import.index < length (entries_of import.list collector.now)) }
 {
     let Some(directive) = import_at(collector, import) else {
         return Ok(false);
@@ -133,7 +137,8 @@ fn read_names<D: SourceDatabase>(
 
 /// The import at a place, if one is there.
 fn import_at<'a>(collector: &DefCollector<'a>, import: ImportAt) -> Option<ImportDirective<'a>>
-    ensures { IfSome result (λ directive. import.index < length (entries_of import.list collector.now)) }
+    ensures there { result ≡ import_there import collector.now }
+    ensures within { IfSome result (λ directive. import.index < length (entries_of import.list collector.now)) }
 {
     match entries(collector, import.list).get(import.index) {
         Some(there) => *there,
