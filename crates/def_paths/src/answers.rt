@@ -146,7 +146,6 @@ impl ResolvePathResult {
 }
 
 /// The variant of a name of an enum.
-#[inline(never)]
 fn variant<D: PathDatabase, T>(
     asking: &Asking<'_, D, T>,
     id: EnumId,
@@ -165,7 +164,6 @@ fn variant<D: PathDatabase, T>(
 }
 
 /// What a definition has of the next segment, where it can have names.
-#[inline(always)]
 fn step<D: PathDatabase, T: BindingTable<Vis = Visibility>>(
     asking: &Asking<'_, D, T>,
     def: Def,
@@ -186,7 +184,6 @@ fn step<D: PathDatabase, T: BindingTable<Vis = Visibility>>(
 }
 
 /// What a definition has of the next segment in types, where it can have names.
-#[inline(always)]
 fn step_in_types<D: PathDatabase, T: BindingTable<Vis = Visibility>>(
     asking: &Asking<'_, D, T>,
     def: Def,
@@ -217,7 +214,6 @@ fn is_elsewhere(map: &MapData, def: Def) -> bool
 }
 
 /// The last segment, after the definition that those before it give.
-#[inline(never)]
 fn last_step<D: PathDatabase, T: BindingTable<Vis = Visibility>>(
     asking: &Asking<'_, D, T>,
     item: Item,
@@ -240,7 +236,6 @@ fn last_step<D: PathDatabase, T: BindingTable<Vis = Visibility>>(
 
 /// The segments from `begin` on, after a definition. One with others behind it is looked up in types
 /// alone.
-#[inline(always)]
 fn walk<D: PathDatabase, T: BindingTable<Vis = Visibility>>(
     asking: &Asking<'_, D, T>,
     first: Item,
@@ -272,7 +267,6 @@ fn walk<D: PathDatabase, T: BindingTable<Vis = Visibility>>(
 }
 
 /// A path from a module on, if that is there.
-#[inline(always)]
 fn from_module<D: PathDatabase, T: BindingTable<Vis = Visibility>>(
     asking: &Asking<'_, D, T>,
     place: Option<ModuleId>,
@@ -303,7 +297,6 @@ fn from_name(found: PerNs) -> ResolvePathResult
 }
 
 /// A path of more segments, after what the first means in types.
-#[inline(never)]
 fn from_prefix<D: PathDatabase, T: BindingTable<Vis = Visibility>>(
     asking: &Asking<'_, D, T>,
     found: Option<Item>,
@@ -321,7 +314,6 @@ fn from_prefix<D: PathDatabase, T: BindingTable<Vis = Visibility>>(
 }
 
 /// An absolute path.
-#[inline(never)]
 fn absolute_path<D: PathDatabase, T: BindingTable<Vis = Visibility>>(
     asking: &Asking<'_, D, T>,
     place: ModuleId,
@@ -351,7 +343,6 @@ fn absolute_path<D: PathDatabase, T: BindingTable<Vis = Visibility>>(
 }
 
 /// A plain path.
-#[inline(never)]
 fn plain_path<D: PathDatabase, T: BindingTable<Vis = Visibility>>(
     asking: &Asking<'_, D, T>,
     place: ModuleId,
@@ -382,7 +373,6 @@ fn plain_path<D: PathDatabase, T: BindingTable<Vis = Visibility>>(
 }
 
 /// What a path means in the map that is asked.
-#[inline(always)]
 fn answer_in<D: PathDatabase, T: BindingTable<Vis = Visibility>>(
     asking: &Asking<'_, D, T>,
     place: ModuleId,
@@ -459,7 +449,6 @@ fn with_map<D: PathDatabase, T>(
 }
 
 /// What a path means, with what it means in the maps around a block.
-#[inline(never)]
 fn with_outside<D: PathDatabase, T>(
     asking: &Asking<'_, D, T>,
     path: &ModPath,

@@ -27,7 +27,6 @@ pub(crate) struct Segment {
 }
 
 /// What a table binds in each namespace.
-#[inline(always)]
 pub fn bound<T: BindingTable<Vis = Visibility>>(table: &T, place: ModuleId, name: Name) -> PerNs
     ensures { result ≡ per_namespace ((T.content table.now).binding place name) }
 {
@@ -50,7 +49,6 @@ pub(crate) fn is_2015(edition: Edition) -> bool
 }
 
 /// What a module's scope binds, also in another map. A map that there is not binds nothing.
-#[inline(always)]
 pub(crate) fn scope<D: PathDatabase, T: BindingTable<Vis = Visibility>>(
     asking: &Asking<'_, D, T>,
     place: ModuleId,
@@ -71,7 +69,6 @@ pub(crate) fn scope<D: PathDatabase, T: BindingTable<Vis = Visibility>>(
 }
 
 /// What a module's scope binds in types, also in another map.
-#[inline(always)]
 pub(crate) fn scope_type<D: PathDatabase, T: BindingTable<Vis = Visibility>>(
     asking: &Asking<'_, D, T>,
     place: ModuleId,
@@ -183,7 +180,6 @@ fn or_builtin<D: PathDatabase, T: BindingTable<Vis = Visibility>>(
 }
 
 /// Adds the root of another crate.
-#[inline(never)]
 fn or_extern<D: PathDatabase, T>(asking: &Asking<'_, D, T>, found: PerNs, segment: Segment) -> PerNs
     ensures { let q = question_in D.oracle asking.now in
         let keep = is_fitting q.kind_of segment.sub in
@@ -200,7 +196,6 @@ fn or_extern<D: PathDatabase, T>(asking: &Asking<'_, D, T>, found: PerNs, segmen
 }
 
 /// Adds a macro that an extern crate brought.
-#[inline(never)]
 fn or_macro_use<D: PathDatabase, T: BindingTable<Vis = Visibility>>(
     asking: &Asking<'_, D, T>,
     found: PerNs,
@@ -224,7 +219,6 @@ fn or_macro_use<D: PathDatabase, T: BindingTable<Vis = Visibility>>(
 }
 
 /// Adds what the prelude module binds.
-#[inline(never)]
 fn or_prelude<D: PathDatabase, T: BindingTable<Vis = Visibility>>(
     asking: &Asking<'_, D, T>,
     found: PerNs,
@@ -308,7 +302,6 @@ fn plain<D: PathDatabase, T: BindingTable<Vis = Visibility>>(
 }
 
 /// A path of one segment that begins at the crate's root.
-#[inline(never)]
 fn from_root<D: PathDatabase, T: BindingTable<Vis = Visibility>>(
     asking: &Asking<'_, D, T>,
     segment: Segment,
