@@ -42,12 +42,12 @@ pub fn awaited_attr<'a, D: SourceDatabase>(
     db: &D,
     def_map: &MapData,
     item_attrs: &ItemAttrs,
-    site: Site<'_>,
+    site: &Site,
     id: ModItemId,
     node: &'a ItemNode,
 ) -> Option<(AttrId, &'a Attr)>
     ensures { (s : State) → let now = record s { map = map_state def_map.now; skipped = skipped_of item_attrs.now } in
-        option_map (λ a. (a.0, a.1.now)) result ≡ rules.awaited_attr (D.oracle db.now) now (site_of site.entry) id node.now }
+        option_map (λ a. (a.0, a.1.now)) result ≡ rules.awaited_attr (D.oracle db.now) now (site_of site.now) id node.now }
 {
     let Some(written) = &node.attrs else {
         return None;

@@ -118,12 +118,12 @@ pub struct Expansion {
 #[inline(never)]
 pub fn queue_macro<'a>(
     directives: &mut VecDeque<MacroDirective<'a>>,
-    site: Site<'_>,
+    site: &Site,
     node: &ItemNode,
     kind: MacroDirectiveKind<'a>,
 ) -> Result<(), AllocError>
     ensures { OnOk result (macros_in directives.new.items
-        ≡ macros_in directives.old.items ++ waiting (site_of site.entry) node.now (kind_of kind.entry) ∷ []) }
+        ≡ macros_in directives.old.items ++ waiting (site_of site.now) node.now (kind_of kind.entry) ∷ []) }
 {
     directives.push_back(MacroDirective {
         module_id: site.module_id,

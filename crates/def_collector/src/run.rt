@@ -30,7 +30,7 @@ use def_calls::{MacroDirectiveKind, call_answer, report_left_call, report_left_d
 use def_crates::{MissingCrates, deps_by_name, is_proc_macro_crate, top_attrs};
 use def_ids::{ItemContainerId, MapId, ModuleId};
 use def_interner::Interner;
-use def_items::{ItemList, ModDirs, disabled_by, report_disabled, top_items};
+use def_items::{ItemList, ModDirs, Site, disabled_by, report_disabled, top_items};
 use def_map::{DefMap, LocalDefMap, SourceDatabase, Table};
 use def_parts::{Globs, ModDir};
 use def_passes::{DefCollector, fall_back, resolve_macros, seed, walk};
@@ -199,14 +199,16 @@ fn seed_with_top_level<'a, D: SourceDatabase>(
         db,
         session,
         ItemList {
-            module_id: ModuleId { map, index: 0 },
-            container: ItemContainerId::Module(ModuleId { map, index: 0 }),
-            tree_id,
+            site: Site {
+                module_id: ModuleId { map, index: 0 },
+                container: ItemContainerId::Module(ModuleId { map, index: 0 }),
+                tree_id,
+                depth: first_depth(db, map, tree_id),
+                dir: ModDir::root(collector.alloc),
+            },
             tree,
             items: top_items(tree),
-            depth: first_depth(db, map, tree_id),
             into: None,
-            dir: ModDir::root(collector.alloc),
         },
     )
 }

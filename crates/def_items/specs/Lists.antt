@@ -40,4 +40,4 @@ pub record IsBegun (below : List Frame) (list : ItemList) (frames : List Frame) 
   pub frame : Frame
   pub pushed : frames ≡ below ++ frame ∷ []
   pub same : frame.list ≡ list
-  pub left : left_of frame ≡ ordered (tree_in list) list.module_id list.items.now
+  pub left : left_of frame ≡ ordered (tree_in list) list.site.module_id list.items.now

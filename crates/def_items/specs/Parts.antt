@@ -16,13 +16,13 @@ use Rattle.def_parts.specs.Directories.{Directory}
 use Rattle.def_rules.specs.State.{Site, State}
 use Rattle.indexmap.specs.IndexMap.{get}
 
--- where the items of a list stand
+-- where items stand
 abbrev pub site_of : SiteInCode → Site
-site_of site = record { scope = site.module_id; container = site.container; tree = site.tree_id; depth = site.depth; directory = site.dir.now }
+site_of site = record { scope = site.module_id; container = site.container; tree = site.tree_id; depth = site.depth; directory = site.dir }
 
 -- where the items of a list stand
 abbrev pub list_site : ItemList → Site
-list_site list = record { scope = list.module_id; container = list.container; tree = list.tree_id; depth = list.depth; directory = list.dir }
+list_site list = site_of list.site
 
 -- the tree that a list goes over, if there is one
 abbrev pub tree_in : ItemList → Option ItemTree

@@ -19,13 +19,13 @@ use std::alloc::AllocError;
 pub fn define_impl(
     def_map: &mut MapData,
     session: &mut Interner,
-    site: Site<'_>,
+    site: &Site,
     node: &ItemNode,
     is_trait_impl: bool,
 ) -> Result<(), AllocError>
     ensures handled { OnOk result ((oracle : Oracle) (s : State) → node.now.kind ≡ kinds.Impl is_trait_impl →
         Handled oracle (with_session s session.old def_map.old) (with_session s session.new def_map.new)
-        (site_of site.entry) node.now []) }
+        (site_of site.now) node.now []) }
     ensures session { AddsLocations (session_of session.old) (session_of session.new) }
 {
     let id = ImplLoc {

@@ -14,23 +14,42 @@ use def_parts::ModDir;
 use item_tree::{CfgExpr, FileAstId, InFile, ItemNode, ItemTree, ModItemId, TreeId};
 use std::alloc::{AllocError, Global};
 
-/// A list of items in a module that is to be walked.
+/// Where items stand.
 #[derive(Drop)]
-pub struct ItemList<'a> {
+pub struct Site {
     pub module_id: ModuleId,
     /// The module, or an extern block in it.
     pub container: ItemContainerId,
+    /// The tree that holds them.
     pub tree_id: TreeId,
-    /// None where the database lacks the tree.
-    pub tree: Option<&'a ItemTree>,
-    pub items: &'a [ModItemId],
-    /// How deep in expansions of macros it lies.
+    /// How deep in expansions of macros they lie.
     pub depth: u32,
-    /// The module that the textual macros of this one are brought into once the list is walked, if
-    /// they are handed on.
-    pub into: Option<ModuleId>,
     /// Where the files of the module's children lie.
     pub dir: ModDir,
+}
+
+impl Site {
+    /// The position of one of its items.
+    pub fn position(&self, node: &ItemNode) -> InFile<FileAstId>
+        ensures { result ≡ position_of (site_of self.now) node.now }
+    {
+        InFile {
+            file: self.tree_id.file,
+            value: node.ast_id,
+        }
+    }
+}
+
+/// A list of items that is to be walked.
+#[derive(Drop)]
+pub struct ItemList<'a> {
+    pub site: Site,
+    /// The tree of their site. None where the database lacks it.
+    pub tree: Option<&'a ItemTree>,
+    pub items: &'a [ModItemId],
+    /// The module that the textual macros of theirs are brought into once the list is walked, if they
+    /// are handed on.
+    pub into: Option<ModuleId>,
 }
 
 /// A list that is being walked, from the place `next` on. The last of a stack of frames goes first.
@@ -51,13 +70,13 @@ impl<'a> Frame<'a> {
         list: ItemList<'a>,
     ) -> Result<Frame<'a>, AllocError>
         ensures list { IfOk result (λ frame. frame.list ≡ list.entry) }
-        ensures left { IfOk result (λ frame. left_of frame ≡ ordered (tree_in list.entry) list.entry.module_id list.entry.items.now) }
+        ensures left { IfOk result (λ frame. left_of frame ≡ ordered (tree_in list.entry) list.entry.site.module_id list.entry.items.now) }
         ensures entered { OnOk result (directories_of mod_dirs.new
-            ≡ set_where (is_same_module list.entry.module_id) (Some list.entry.dir) (directories_of mod_dirs.old)) }
+            ≡ set_where (is_same_module list.entry.site.module_id) (Some list.entry.site.dir) (directories_of mod_dirs.old)) }
     {
-        let dir = list.dir.clone()?;
-        mod_dirs.insert(list.module_id, dir)?;
-        let sorted = if is_crate_root(list.module_id) {
+        let dir = list.site.dir.clone()?;
+        mod_dirs.insert(list.site.module_id, dir)?;
+        let sorted = if is_crate_root(list.site.module_id) {
             Some(crates_first(alloc, list.tree, list.items)?)
         } else {
             None
@@ -91,7 +110,7 @@ pub fn push_list<'a>(
 ) -> Result<(), AllocError>
     ensures begun { OnOk result (IsBegun frames.old.items list.entry frames.new.items) }
     ensures entered { OnOk result (directories_of mod_dirs.new
-        ≡ set_where (is_same_module list.entry.module_id) (Some list.entry.dir) (directories_of mod_dirs.old)) }
+        ≡ set_where (is_same_module list.entry.site.module_id) (Some list.entry.site.dir) (directories_of mod_dirs.old)) }
 {
     let frame = Frame::open(alloc, mod_dirs, list)?;
     frames.push(frame)?;
@@ -109,35 +128,11 @@ pub fn push_opened<'a>(
 ) -> Result<(), AllocError>
     ensures begun { OnOk result (IsBegun (frames.old.items ++ frame.entry ∷ []) list.entry frames.new.items) }
     ensures entered { OnOk result (directories_of mod_dirs.new
-        ≡ set_where (is_same_module list.entry.module_id) (Some list.entry.dir) (directories_of mod_dirs.old)) }
+        ≡ set_where (is_same_module list.entry.site.module_id) (Some list.entry.site.dir) (directories_of mod_dirs.old)) }
 {
     frames.push(frame)?;
     push_list(alloc, mod_dirs, frames, list)?;
     Ok(())
-}
-
-/// Where the items of a list stand: their module, what contains them (the module, or an extern
-/// block in it), the tree that holds them, how deep in expansions of macros, and the directory of
-/// the module.
-#[derive(Clone, Copy)]
-pub struct Site<'a> {
-    pub module_id: ModuleId,
-    pub container: ItemContainerId,
-    pub tree_id: TreeId,
-    pub depth: u32,
-    pub dir: &'a ModDir,
-}
-
-impl Site<'_> {
-    /// The position of one of its items.
-    pub fn position(self, node: &ItemNode) -> InFile<FileAstId>
-        ensures { result ≡ position_of (site_of self.entry) node.now }
-    {
-        InFile {
-            file: self.tree_id.file,
-            value: node.ast_id,
-        }
-    }
 }
 
 /// The condition that disables a whole tree, if there is a tree and one does.

@@ -53,9 +53,9 @@ pub fn bring_macros(
     def_map: &mut MapData,
     list: &ItemList<'_>,
 ) -> Result<(), AllocError>
-    ensures { OnOk result (map_state def_map.new ≡ brought_into list.now.module_id list.now.into (map_state def_map.old)) }
+    ensures { OnOk result (map_state def_map.new ≡ brought_into list.now.site.module_id list.now.into (map_state def_map.old)) }
 {
-    let from = list.module_id.index;
+    let from = list.site.module_id.index;
     match list.into {
         Some(into) => def_map.import_all_legacy_macros(alloc, from, into.index),
         None => Ok(()),

@@ -40,11 +40,11 @@ pub enum Declared<'a> {
 /// Numbers an item of a kind that declares one name, and says what it declares.
 pub fn number_item<'a>(
     session: &mut Interner,
-    site: Site<'_>,
+    site: &Site,
     node: &'a ItemNode,
 ) -> Result<Declared<'a>, AllocError>
     ensures declared { IfOk result (λ declared.
-        IsDeclared (session_of session.new) (site_of site.entry) node.now declared) }
+        IsDeclared (session_of session.new) (site_of site.now) node.now declared) }
     ensures same { OnOk result (is_declaring node.now.kind ≡ false → session.new ≡ session.old) }
     ensures session { AddsLocations (session_of session.old) (session_of session.new) }
 {
@@ -113,11 +113,11 @@ pub fn number_item<'a>(
 #[inline(never)]
 pub fn number_adt(
     session: &mut Interner,
-    site: Site<'_>,
+    site: &Site,
     node: &ItemNode,
 ) -> Result<Option<Adt>, AllocError>
     ensures numbered { IfOk result (λ found. IfSome found (λ adt. (s : State) →
-        IsAdt (record s { session = session_of session.new }) (site_of site.entry) node.now node.now.kind adt)) }
+        IsAdt (record s { session = session_of session.new }) (site_of site.now) node.now node.now.kind adt)) }
     ensures other { IfOk result (λ found. IfNone found (derives_kind node.now.kind ≡ false)) }
     ensures session { AddsLocations (session_of session.old) (session_of session.new) }
 {
@@ -155,11 +155,11 @@ pub fn number_adt(
 /// Numbers an item of a kind that declares one name in values.
 fn number_value<'a>(
     session: &mut Interner,
-    site: Site<'_>,
+    site: &Site,
     node: &'a ItemNode,
 ) -> Result<Declared<'a>, AllocError>
     ensures declared { IfOk result (λ declared. is_type node.now.kind ≡ false →
-        IsDeclared (session_of session.new) (site_of site.entry) node.now declared) }
+        IsDeclared (session_of session.new) (site_of site.now) node.now declared) }
     ensures same { OnOk result (is_declaring node.now.kind ≡ false → session.new ≡ session.old) }
     ensures session { AddsLocations (session_of session.old) (session_of session.new) }
 {

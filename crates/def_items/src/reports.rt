@@ -18,12 +18,12 @@ use std::alloc::AllocError;
 #[inline(never)]
 pub fn report(
     diagnostics: &mut Vec<DefDiagnostic>,
-    site: Site<'_>,
+    site: &Site,
     node: &ItemNode,
     kind: DefDiagnosticKind,
 ) -> Result<(), AllocError>
     ensures { OnOk result (diagnostics.new.items
-        ≡ diagnostics.old.items ++ diagnostic (site_of site.entry) node.now kind ∷ []) }
+        ≡ diagnostics.old.items ++ diagnostic (site_of site.now) node.now kind ∷ []) }
 {
     diagnostics.push(DefDiagnostic {
         module: site.module_id,
@@ -37,12 +37,12 @@ pub fn report(
 /// `Err` nothing but safety is promised.
 pub fn report_disabled_item(
     diagnostics: &mut Vec<DefDiagnostic>,
-    site: Site<'_>,
+    site: &Site,
     node: &ItemNode,
 ) -> Result<Option<CfgExpr>, AllocError>
     ensures cfg { IfOk result (λ cfg. cfg ≡ disabled_by node.now.attrs) }
     ensures reported { IfOk result (λ cfg. IfSome cfg (λ c. diagnostics.new.items
-        ≡ diagnostics.old.items ++ diagnostic (site_of site.entry) node.now (UnconfiguredCode c) ∷ [])) }
+        ≡ diagnostics.old.items ++ diagnostic (site_of site.now) node.now (UnconfiguredCode c) ∷ [])) }
     ensures same { IfOk result (λ cfg. is_some cfg ≡ false → diagnostics.new ≡ diagnostics.old) }
 {
     let Some(cfg) = node.disabled_by() else {

@@ -55,7 +55,7 @@ placed edition site node expander position flags known at same =
     let loc : InFile FileAstId → MacroRulesLocFlags → MacroLoc = λ p f. record { container = site.scope; position = p; kind = kind_of_expander expander; flags = f; edition = edition } in
     ap (λ p. loc p flags) at ∙ ap (loc (position_of site node)) same
 
-module _ (oracle : Oracle) (s t u : State) (session : Session) (site : Site) (node : ItemNode) (name : Name) (m : MacroItem) (adds : AddsLocations s.session session) (told : u ≡ unimplemented_reported (record s { session = session }) (site_of m.site) m.node.now m.expander) where
+module _ (oracle : Oracle) (s t u : State) (session : Session) (site : Site) (node : ItemNode) (name : Name) (m : MacroItem) (adds : AddsLocations s.session session) (told : u ≡ unimplemented_reported (record s { session = session }) (site_of m.site.now) m.node.now m.expander) where
   abbrev kept : State
   kept = record s { session = session }
 
@@ -64,20 +64,20 @@ module _ (oracle : Oracle) (s t u : State) (session : Session) (site : Site) (no
 
   -- a macro by rules was defined
   pub handled_rules : node.kind ≡ MacroRules name → IsRules oracle s.map session site node name m
-      → (let effect = export_effect (textual_state u (site_of m.site) m.node.now m.name m.id) (has_attr macro_export_name (attrs_of m.node.now.attrs)) m.name m.id in Performs oracle effect.tasks effect.state t)
+      → (let effect = export_effect (textual_state u (site_of m.site.now) m.node.now m.name m.id) (has_attr macro_export_name (attrs_of m.node.now.attrs)) m.name m.id in Performs oracle effect.tasks effect.state t)
       → Handled oracle s t site node []
   handled_rules kind rules after =
       let id : MacroId = macro_of.MacroRules (record { 0 = rules.n }) in
       let effect : Effect = rules_effect kept site node name (rules_expander oracle s.map.id.krate site node rules.found) id in
-      let made : Effect = export_effect (textual_state u (site_of m.site) m.node.now m.name m.id) (has_attr macro_export_name (attrs_of m.node.now.attrs)) m.name m.id in
-      let of_site : site_of m.site ≡ site = rules.of.stands in
+      let made : Effect = export_effect (textual_state u (site_of m.site.now) m.node.now m.name m.id) (has_attr macro_export_name (attrs_of m.node.now.attrs)) m.name m.id in
+      let of_site : site_of m.site.now ≡ site = rules.of.stands in
       let of_node : m.node.now ≡ node = rules.of.is in
       let of_name : m.name ≡ name = rules.of.called in
       let by : m.id ≡ id = rules.id in
       let by_this = rules.expander in
-      let first : made ≡ rules_effect kept (site_of m.site) m.node.now m.name m.expander m.id =
-      ap (λ x. export_effect (textual_state x (site_of m.site) m.node.now m.name m.id) (has_attr macro_export_name (attrs_of m.node.now.attrs)) m.name m.id) told in
-      let second : rules_effect kept (site_of m.site) m.node.now m.name m.expander m.id ≡ effect =
+      let first : made ≡ rules_effect kept (site_of m.site.now) m.node.now m.name m.expander m.id =
+      ap (λ x. export_effect (textual_state x (site_of m.site.now) m.node.now m.name m.id) (has_attr macro_export_name (attrs_of m.node.now.attrs)) m.name m.id) told in
+      let second : rules_effect kept (site_of m.site.now) m.node.now m.name m.expander m.id ≡ effect =
       ap (λ x. rules_effect kept x m.node.now m.name m.expander m.id) of_site
       ∙ ap (λ x. rules_effect kept site x m.name m.expander m.id) of_node
       ∙ ap (λ x. rules_effect kept site node x m.expander m.id) of_name
@@ -93,21 +93,21 @@ module _ (oracle : Oracle) (s t u : State) (session : Session) (site : Site) (no
 
   -- a `macro` item was defined
   pub handled_item : (raw : RawVisibility) (vis : Visibility) → node.kind ≡ Macro2 name raw → vis ≡ written_vis oracle kept site.scope raw → IsItem oracle s.map session site node name m
-      → (let effect = defined_effect u (site_of m.site) m.node.now m.name vis m.expander m.id in Performs oracle effect.tasks effect.state t)
+      → (let effect = defined_effect u (site_of m.site.now) m.node.now m.name vis m.expander m.id in Performs oracle effect.tasks effect.state t)
       → Handled oracle s t site node []
   handled_item raw vis kind seen item after =
       let id : MacroId = macro_of.Macro2 (record { 0 = item.n }) in
       let seen_vis : Visibility = written_vis oracle kept site.scope raw in
       let effect : Effect = item_effect kept site node name seen_vis (item_expander oracle s.map.id.krate site node name) id in
-      let made : Effect = defined_effect u (site_of m.site) m.node.now m.name vis m.expander m.id in
-      let of_site : site_of m.site ≡ site = item.of.stands in
+      let made : Effect = defined_effect u (site_of m.site.now) m.node.now m.name vis m.expander m.id in
+      let of_site : site_of m.site.now ≡ site = item.of.stands in
       let of_node : m.node.now ≡ node = item.of.is in
       let of_name : m.name ≡ name = item.of.called in
       let by : m.id ≡ id = item.id in
       let by_this = item.expander in
-      let first : made ≡ item_effect kept (site_of m.site) m.node.now m.name vis m.expander m.id =
-      ap (λ x. defined_effect x (site_of m.site) m.node.now m.name vis m.expander m.id) told in
-      let second : item_effect kept (site_of m.site) m.node.now m.name vis m.expander m.id ≡ effect =
+      let first : made ≡ item_effect kept (site_of m.site.now) m.node.now m.name vis m.expander m.id =
+      ap (λ x. defined_effect x (site_of m.site.now) m.node.now m.name vis m.expander m.id) told in
+      let second : item_effect kept (site_of m.site.now) m.node.now m.name vis m.expander m.id ≡ effect =
       ap (λ x. item_effect kept x m.node.now m.name vis m.expander m.id) of_site
       ∙ ap (λ x. item_effect kept site x m.name vis m.expander m.id) of_node
       ∙ ap (λ x. item_effect kept site node x vis m.expander m.id) of_name

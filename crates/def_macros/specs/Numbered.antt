@@ -14,7 +14,7 @@ use Rattle.def_rules.specs.State.{Site}
 
 -- a macro that this item defines under this name
 pub record IsOf (site : Site) (node : ItemNode) (name : Name) (item : MacroItem) : Type 0 where
-  pub stands : site_of item.site ≡ site
+  pub stands : site_of item.site.now ≡ site
   pub is : item.node.now ≡ node
   pub called : item.name ≡ name
 

@@ -30,7 +30,7 @@ pub fn report_macro(
 ) -> Result<(), AllocError>
     ensures { OnOk result ((s : State) →
         record s { diagnostics = diagnostics.new.items }
-        ≡ macros.unimplemented_reported (record s { diagnostics = diagnostics.old.items }) (site_of item.entry.site) item.entry.node.now item.entry.expander) }
+        ≡ macros.unimplemented_reported (record s { diagnostics = diagnostics.old.items }) (site_of item.entry.site.now) item.entry.node.now item.entry.expander) }
 {
     match item.expander {
         MacroExpander::UnimplementedBuiltIn => {
@@ -52,7 +52,7 @@ pub fn define_macro_rules(
     ensures { OnOk result ((oracle : Oracle) (s : State) →
         let exported = has_attr macro_export_name (attrs_of item.entry.node.now.attrs) in
         let before = with_parts s def_map.old table.old in
-        let effect = macros.export_effect (macros.textual_state before (site_of item.entry.site) item.entry.node.now item.entry.name item.entry.id) exported item.entry.name item.entry.id in
+        let effect = macros.export_effect (macros.textual_state before (site_of item.entry.site.now) item.entry.node.now item.entry.name item.entry.id) exported item.entry.name item.entry.id in
         Performs oracle effect.tasks effect.state (with_parts s def_map.new table.new)) }
 {
     define_textual(def_map, item)?;
@@ -76,7 +76,7 @@ pub fn define_macro_rules(
 fn define_textual(def_map: &mut MapData, item: MacroItem<'_>) -> Result<(), AllocError>
     ensures { OnOk result ((s : State) →
         with_map s (map_state def_map.new)
-        ≡ macros.textual_state (with_map s (map_state def_map.old)) (site_of item.entry.site) item.entry.node.now item.entry.name item.entry.id) }
+        ≡ macros.textual_state (with_map s (map_state def_map.old)) (site_of item.entry.site.now) item.entry.node.now item.entry.name item.entry.id) }
 {
     let module = item.site.module_id.index;
     def_map.define_legacy_macro(module, item.name, item.id)?;
@@ -94,7 +94,7 @@ pub fn define_macro(
 ) -> Result<(), AllocError>
     ensures { OnOk result ((oracle : Oracle) (s : State) →
         let before = with_parts s def_map.old table.old in
-        let effect = macros.defined_effect before (site_of item.entry.site) item.entry.node.now item.entry.name vis item.entry.expander item.entry.id in
+        let effect = macros.defined_effect before (site_of item.entry.site.now) item.entry.node.now item.entry.name vis item.entry.expander item.entry.id in
         Performs oracle effect.tasks effect.state (with_parts s def_map.new table.new)) }
 {
     export_helpers(alloc, def_map, item)?;

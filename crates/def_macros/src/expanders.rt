@@ -44,11 +44,11 @@ fn builtin_item<D: SourceDatabase>(db: &D, name: Name) -> Option<MacroExpander>
 pub(crate) fn rules_expander<D: SourceDatabase>(
     db: &D,
     krate: Crate,
-    site: Site<'_>,
+    site: &Site,
     node: &ItemNode,
     found: Option<Name>,
 ) -> MacroExpander
-    ensures { result ≡ macros.rules_expander (D.oracle db.now) krate (site_of site.entry) node.now found }
+    ensures { result ≡ macros.rules_expander (D.oracle db.now) krate (site_of site.now) node.now found }
 {
     if !is_builtin(node) {
         return own_rules(db, krate, site, node);
@@ -63,11 +63,11 @@ pub(crate) fn rules_expander<D: SourceDatabase>(
 pub(crate) fn item_expander<D: SourceDatabase>(
     db: &D,
     krate: Crate,
-    site: Site<'_>,
+    site: &Site,
     node: &ItemNode,
     name: Name,
 ) -> MacroExpander
-    ensures { result ≡ macros.item_expander (D.oracle db.now) krate (site_of site.entry) node.now name }
+    ensures { result ≡ macros.item_expander (D.oracle db.now) krate (site_of site.now) node.now name }
 {
     if !is_builtin(node) {
         return own_rules(db, krate, site, node);
@@ -83,13 +83,8 @@ fn is_builtin(node: &ItemNode) -> bool
 }
 
 /// That a macro is expanded by its own rules.
-fn own_rules<D: SourceDatabase>(
-    db: &D,
-    krate: Crate,
-    site: Site<'_>,
-    node: &ItemNode,
-) -> MacroExpander
-    ensures { result ≡ macros.own_rules (D.oracle db.now) krate (site_of site.entry) node.now }
+fn own_rules<D: SourceDatabase>(db: &D, krate: Crate, site: &Site, node: &ItemNode) -> MacroExpander
+    ensures { result ≡ macros.own_rules (D.oracle db.now) krate (site_of site.now) node.now }
 {
     MacroExpander::Declarative(db.rule_styles(site.position(node), krate))
 }

@@ -19,7 +19,7 @@ use std::alloc::AllocError;
 /// expands it.
 #[derive(Clone, Copy)]
 pub struct MacroItem<'a> {
-    pub site: Site<'a>,
+    pub site: &'a Site,
     pub node: &'a ItemNode,
     pub name: Name,
     pub id: MacroId,
@@ -31,12 +31,12 @@ pub fn number_macro_rules<'a, D: SourceDatabase>(
     db: &D,
     session: &mut Interner,
     def_map: &MapData,
-    site: Site<'a>,
+    site: &'a Site,
     node: &'a ItemNode,
     name: Name,
 ) -> Result<MacroItem<'a>, AllocError>
     ensures rules { IfOk result (λ item.
-        IsRules (D.oracle db.now) (map_state def_map.now) (session_of session.new) (site_of site.entry) node.now name item) }
+        IsRules (D.oracle db.now) (map_state def_map.now) (session_of session.new) (site_of site.now) node.now name item) }
     ensures session { AddsLocations (session_of session.old) (session_of session.new) }
 {
     let found = builtin_name(session, node, name);
@@ -63,12 +63,12 @@ pub fn number_macro<'a, D: SourceDatabase>(
     db: &D,
     session: &mut Interner,
     def_map: &MapData,
-    site: Site<'a>,
+    site: &'a Site,
     node: &'a ItemNode,
     name: Name,
 ) -> Result<MacroItem<'a>, AllocError>
     ensures item { IfOk result (λ item.
-        IsItem (D.oracle db.now) (map_state def_map.now) (session_of session.new) (site_of site.entry) node.now name item) }
+        IsItem (D.oracle db.now) (map_state def_map.now) (session_of session.new) (site_of site.now) node.now name item) }
     ensures session { AddsLocations (session_of session.old) (session_of session.new) }
 {
     let expander = item_expander(db, def_map.tree.map.krate, site, node, name);

@@ -17,7 +17,7 @@ use Rattle.tree_ids.specs.declared.name.Name.{Name}
 use Rattle.item_tree.specs.declared.tree.ItemTree.{ItemTree}
 use Rattle.item_tree.specs.Trees.{item_at}
 use Rattle.std.specs.declared.alloc.Global.{Global}
-use Rattle.std.specs.Prelude.{IfSome, is_some, Vec}
+use Rattle.std.specs.Prelude.{Err, IfSome, Ok, OnOk, Result, is_some, Vec}
 use Rattle.def_ids.specs.declared.ids.ModuleId.{ModuleId}
 use Rattle.def_interner.specs.Session.{AddsLocations}
 use Rattle.def_interner.specs.SessionLaws.{adds_refl, adds_trans}
@@ -37,7 +37,7 @@ use Rattle.def_passes.specs.declared.collector.DefCollector.{DefCollector}
 use Rattle.def_rules.specs.State.{Site, State, Task, Enter, Visit, entered, with_map}
 use Rattle.def_laws.specs.Runs.{Leads}
 use Rattle.def_laws.proofs.StepsLaws.{leads_bring, leads_disabled, leads_enter, leads_refl, leads_trans}
-use Rattle.def_laws.proofs.WorkLaws.{walk_length}
+use Rattle.def_laws.proofs.WorkLaws.{nothing_less, walk_length}
 use Rattle.def_passes.proofs.WalkLemmas.{after_turn, agenda_of-one, agenda_of-push, frame_tasks-next, left_of-cons, measure_pushed, work_next}
 
 below : {X : Type 0} (P : X → Type 0) (xs : List X) (x : X) → All P (xs ++ x ∷ []) → All P xs
@@ -77,7 +77,7 @@ past_end xs i none = elim (slice_get_cases xs i).1 [
 ]
 
 -- what the oracle has at a number is what a known list's tree has
-pub node_of : (oracle : Oracle) (frame : ItemList) (id : ModItemId) (found : Option ItemNode) → is_known oracle frame → found ≡ option_and_then (λ (t : Bor ItemTree). item_at t.now.items id) frame.tree → node_at oracle frame.tree_id id ≡ found
+pub node_of : (oracle : Oracle) (frame : ItemList) (id : ModItemId) (found : Option ItemNode) → is_known oracle frame → found ≡ option_and_then (λ (t : Bor ItemTree). item_at t.now.items id) frame.tree → node_at oracle frame.site.tree_id id ≡ found
 node_of oracle frame id found known is = ap (λ o. option_and_then (λ t. slice_get t.items id.0) o) known.0 ∙ below frame.tree ∙ sym is
   where
     below : (tree : Option (Bor ItemTree)) → option_and_then (λ (t : ItemTree). slice_get t.items id.0) (option_map (λ t. t.now) tree) ≡ option_and_then (λ (t : Bor ItemTree). item_at t.now.items id) tree
@@ -85,15 +85,15 @@ node_of oracle frame id found known is = ap (λ o. option_and_then (λ t. slice_
     below (Some t) = refl
 
 -- a list in the order of its visits, in the tree that the oracle has
-pub ordered_known : (oracle : Oracle) (list : ItemList) → is_known oracle list → ordered (tree_in list) list.module_id list.items.now ≡ ordered (oracle.item_tree list.tree_id) list.module_id list.items.now
-ordered_known oracle list known = ap (λ t. ordered t list.module_id list.items.now) (sym known.0)
+pub ordered_known : (oracle : Oracle) (list : ItemList) → is_known oracle list → ordered (tree_in list) list.site.module_id list.items.now ≡ ordered (oracle.item_tree list.site.tree_id) list.site.module_id list.items.now
+ordered_known oracle list known = ap (λ t. ordered t list.site.module_id list.items.now) (sym known.0)
 
 -- what a frame has left, where it was opened for a list
-pub opened_tasks : (oracle : Oracle) (list : ItemList) (frame : Frame) → is_known oracle list → frame.list ≡ list → left_of frame ≡ ordered (tree_in list) list.module_id list.items.now
-    → list_tasks oracle list ≡ Enter list.module_id list.dir ∷ frame_tasks frame
+pub opened_tasks : (oracle : Oracle) (list : ItemList) (frame : Frame) → is_known oracle list → frame.list ≡ list → left_of frame ≡ ordered (tree_in list) list.site.module_id list.items.now
+    → list_tasks oracle list ≡ Enter list.site.module_id list.site.dir ∷ frame_tasks frame
 opened_tasks oracle list frame known same left =
-    ap (λ ids. Enter list.module_id list.dir ∷ (visits (list_site list) ids ++ behind list.module_id list.into)) (sym (left ∙ ordered_known oracle list known))
-    ∙ ap (λ (l : ItemList). Enter list.module_id list.dir ∷ (visits (list_site l) (left_of frame) ++ behind l.module_id l.into)) (sym same)
+    ap (λ ids. Enter list.site.module_id list.site.dir ∷ (visits (list_site list) ids ++ behind list.site.module_id list.into)) (sym (left ∙ ordered_known oracle list known))
+    ∙ ap (λ (l : ItemList). Enter list.site.module_id list.site.dir ∷ (visits (list_site l) (left_of frame) ++ behind l.site.module_id l.into)) (sym same)
 
 -- what is done behind a list
 leads_behind : (oracle : Oracle) (from : ModuleId) (into : Option ModuleId) (rest : List Task) (s : State) → Leads oracle (behind from into ++ rest) s rest (with_map s (brought_into from into s.map))
@@ -125,6 +125,23 @@ module _ (oracle : Oracle) (frame : Frame) (id : ModItemId) (found : Some id ≡
   pub shorter : length (left_of (after_turn frame)) < length (left_of frame)
   shorter = let long = ap length (left_of-cons frame id found) in omega (arith, long)
 
+-- two facts of what went well
+pub on_both : {T E P Q R : Type 0} (r : Result T E) → OnOk r P → OnOk r Q → (P → Q → R) → OnOk r R
+on_both (Ok x) p q f = f p q
+on_both (Err e) p q f = p
+
+-- an item that opens no list leaves the place for one empty
+module _ (oracle : Oracle) (opened : Option ItemList) (empty : opened ≡ None) where
+  pub none_runs : (site : Site) (id : ModItemId) (s t : State) → ((rest : List Task) → Leads oracle (Visit site id ∷ rest) s rest t)
+      → (rest : List Task) → Leads oracle (Visit site id ∷ rest) s (inner_of oracle opened ++ rest) t
+  none_runs site id s t run = subst (λ o. (rest : List Task) → Leads oracle (Visit site id ∷ rest) s (inner_of oracle o ++ rest) t) (sym empty) run
+
+  pub none_fewer : (site : Site) (id : ModItemId) → 1 + work (inner_of oracle opened) < task_work (Visit site id)
+  none_fewer site id = subst (λ o. 1 + work (inner_of oracle o) < task_work (Visit site id)) (sym empty) (nothing_less site id)
+
+  pub none_known : AreKnown oracle opened
+  none_known = subst (AreKnown oracle) (sym empty) tt
+
 -- a frame whose items are all visited has nothing left
 pub none_left : (frame : Frame) → None ≡ slice_get (listed frame) frame.next → left_of frame ≡ []
 none_left frame none = drop_all frame.next (listed frame) (past_end (listed frame) frame.next none)
@@ -136,16 +153,16 @@ pub record IsWalked (oracle : Oracle) (tasks : List Task) (s : State) (frames : 
   pub adds : AddsLocations s.session t.session
 
 -- a walk begins: the directory of its list is stored
-pub walk_begins : (oracle : Oracle) (list : ItemList) (below frames : List Frame) (s t : State) → is_known oracle list → below ≡ [] → IsBegun below list frames → t ≡ entered s list.module_id list.dir → IsWalked oracle (list_tasks oracle list) s frames t
+pub walk_begins : (oracle : Oracle) (list : ItemList) (below frames : List Frame) (s t : State) → is_known oracle list → below ≡ [] → IsBegun below list frames → t ≡ entered s list.site.module_id list.site.dir → IsWalked oracle (list_tasks oracle list) s frames t
 walk_begins oracle list below frames s t known none begun stored =
     let first = begun.frame in
     let one : frames ≡ first ∷ [] = begun.pushed ∙ ap (λ fs. fs ++ first ∷ []) none in
     let tasks : List Task = list_tasks oracle list in
-    let agenda : Enter list.module_id list.dir ∷ agenda_of frames ≡ tasks =
-    ap (λ rest. Enter list.module_id list.dir ∷ rest) (ap agenda_of one ∙ agenda_of-one first) ∙ sym (opened_tasks oracle list first known begun.same begun.left) in
+    let agenda : Enter list.site.module_id list.site.dir ∷ agenda_of frames ≡ tasks =
+    ap (λ rest. Enter list.site.module_id list.site.dir ∷ rest) (ap agenda_of one ∙ agenda_of-one first) ∙ sym (opened_tasks oracle list first known begun.same begun.left) in
     subst (IsWalked oracle tasks s frames) (sym stored)
     (record {
-      run = subst (λ all. Leads oracle all s (agenda_of frames) (entered s list.module_id list.dir)) agenda (leads_enter list.module_id list.dir (agenda_of frames) s);
+      run = subst (λ all. Leads oracle all s (agenda_of frames) (entered s list.site.module_id list.site.dir)) agenda (leads_enter list.site.module_id list.site.dir (agenda_of frames) s);
       known = all_pushed (is_frame_known oracle) [] frames first one (all_none (is_frame_known oracle)) (subst (is_known oracle) (sym begun.same) known);
       adds = adds_refl s.session;
     })
@@ -162,15 +179,15 @@ module _ {oracle : Oracle} {tasks : List Task} {start s t : State} {all : List F
   added = adds_trans start.session s.session t.session so_far.adds adds
 
   -- at its end it goes, once what is behind it is done
-  pub turn_ends : (u : State) → u ≡ with_map t (brought_into after.list.module_id after.list.into t.map) → opened ≡ None → (is_some opened ≡ false → left_of after ≡ []) → IsWalked oracle tasks start frames u
+  pub turn_ends : (u : State) → u ≡ with_map t (brought_into after.list.site.module_id after.list.into t.map) → opened ≡ None → (is_some opened ≡ false → left_of after ≡ []) → IsWalked oracle tasks start frames u
   turn_ends u brought none ends =
-      let last : List Task = behind after.list.module_id after.list.into in
+      let last : List Task = behind after.list.site.module_id after.list.into in
       let come : Leads oracle tasks start (last ++ agenda_of frames) t =
       subst (λ left. Leads oracle tasks start ((visits (list_site after.list) left ++ last) ++ agenda_of frames) t) (ends (ap is_some none))
       (subst (λ o. Leads oracle tasks start (inner_of oracle o ++ (frame_tasks after ++ agenda_of frames)) t) none reached) in
       subst (IsWalked oracle tasks start frames) (sym brought)
       (record {
-        run = leads_trans come (leads_behind oracle after.list.module_id after.list.into (agenda_of frames) t);
+        run = leads_trans come (leads_behind oracle after.list.site.module_id after.list.into (agenda_of frames) t);
         known = all_below (is_frame_known oracle) frames all frame popped so_far.known;
         adds = added;
       })
@@ -184,16 +201,16 @@ module _ {oracle : Oracle} {tasks : List Task} {start s t : State} {all : List F
     list_known = subst (AreKnown oracle) some known.0
 
     -- the directory of the opened list is stored, and its items come first
-    pub turn_opens : (u : State) → u ≡ entered t list.module_id list.dir → IsWalked oracle tasks start last u
+    pub turn_opens : (u : State) → u ≡ entered t list.site.module_id list.site.dir → IsWalked oracle tasks start last u
     turn_opens u stored =
-        let enter : Task = Enter list.module_id list.dir in
+        let enter : Task = Enter list.site.module_id list.site.dir in
         let rest : frame_tasks after ++ agenda_of frames ≡ agenda_of next = sym (agenda_of-push frames after) in
         let inside : inner_of oracle opened ≡ enter ∷ frame_tasks begun.frame = ap (inner_of oracle) some ∙ opened_tasks oracle list begun.frame list_known begun.same begun.left in
         let whole : inner_of oracle opened ++ (frame_tasks after ++ agenda_of frames) ≡ enter ∷ agenda_of last =
         ap (λ l. inner_of oracle opened ++ l) rest ∙ ap (λ l. l ++ agenda_of next) inside ∙ ap (λ l. enter ∷ l) (sym (ap agenda_of begun.pushed ∙ agenda_of-push next begun.frame)) in
         subst (IsWalked oracle tasks start last) (sym stored)
         (record {
-          run = leads_trans (subst (λ l. Leads oracle tasks start l t) whole reached) (leads_enter list.module_id list.dir (agenda_of last) t);
+          run = leads_trans (subst (λ l. Leads oracle tasks start l t) whole reached) (leads_enter list.site.module_id list.site.dir (agenda_of last) t);
           known = all_pushed (is_frame_known oracle) next last begun.frame begun.pushed
               (all_pushed (is_frame_known oracle) frames next after refl (all_below (is_frame_known oracle) frames all frame popped so_far.known) known.1)
               (subst (is_known oracle) (sym begun.same) list_known);
@@ -207,8 +224,8 @@ module _ {oracle : Oracle} {tasks : List Task} {start s t : State} {all : List F
         let first : walk_measure all ≡ _ = ap walk_measure popped ∙ measure_pushed frames frame in
         let stays = measure_pushed frames after in
         let more : walk_measure last ≡ _ = ap walk_measure begun.pushed ∙ measure_pushed next begun.frame in
-        let enter = sum_by-cons task_work (Enter list.module_id list.dir) (frame_tasks begun.frame) in
-        let inside : work (inner_of oracle opened) ≡ work (Enter list.module_id list.dir ∷ frame_tasks begun.frame) =
+        let enter = sum_by-cons task_work (Enter list.site.module_id list.site.dir) (frame_tasks begun.frame) in
+        let inside : work (inner_of oracle opened) ≡ work (Enter list.site.module_id list.site.dir ∷ frame_tasks begun.frame) =
         ap (λ o. work (inner_of oracle o)) some ∙ ap work (opened_tasks oracle list begun.frame list_known begun.same begun.left) in
         omega (arith, less, first, stays, more, enter, inside)
 
@@ -222,8 +239,8 @@ inner_few oracle None known = omega arith
 inner_few oracle (Some list) known =
     let few = known.1 in
     let long = walk_length oracle (list_site list) list.items.now in
-    let both = length-append (walk oracle (list_site list) list.items.now) (behind list.module_id list.into) in
-    let one = one_behind list.module_id list.into in
+    let both = length-append (walk oracle (list_site list) list.items.now) (behind list.site.module_id list.into) in
+    let one = one_behind list.site.module_id list.into in
     omega (arith, few, long, both, one)
   where
     one_behind : (from : ModuleId) (into : Option ModuleId) → length (behind from into) ≤ 1

@@ -43,7 +43,7 @@ left_of-cons frame id found =
 
 -- the next item is visited first
 pub frame_tasks-next : (frame : Frame) (id : ModItemId) → Some id ≡ slice_get (listed frame) frame.next → frame_tasks frame ≡ Visit (list_site frame.list) id ∷ frame_tasks (after_turn frame)
-frame_tasks-next frame id found = ap (λ left. visits (list_site frame.list) left ++ behind frame.list.module_id frame.list.into) (left_of-cons frame id found)
+frame_tasks-next frame id found = ap (λ left. visits (list_site frame.list) left ++ behind frame.list.site.module_id frame.list.into) (left_of-cons frame id found)
 
 -- one frame more
 pub measure_pushed : (frames : List Frame) (frame : Frame) → walk_measure (frames ++ frame ∷ []) ≡ suc (work (frame_tasks frame) + walk_measure frames)

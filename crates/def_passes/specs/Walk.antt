@@ -26,11 +26,11 @@ opens_list _ = false
 
 -- the visits that a frame has left, and what is done behind them
 abbrev pub frame_tasks : Frame → List Task
-frame_tasks frame = visits (list_site frame.list) (left_of frame) ++ behind frame.list.module_id frame.list.into
+frame_tasks frame = visits (list_site frame.list) (left_of frame) ++ behind frame.list.site.module_id frame.list.into
 
 -- the walk of a list, and what is done behind it
 abbrev pub list_tasks : Oracle → ItemList → List Task
-list_tasks oracle list = walk oracle (list_site list) list.items.now ++ behind list.module_id list.into
+list_tasks oracle list = walk oracle (list_site list) list.items.now ++ behind list.site.module_id list.into
 
 -- that of the list that an item opened, if it opened one
 abbrev pub inner_of : Oracle → Option ItemList → List Task
@@ -44,7 +44,7 @@ agenda_of (frame ∷ above) = agenda_of above ++ frame_tasks frame
 
 -- a list goes over the tree that the oracle has, or over none, and has fewer items than a machine can number
 abbrev pub is_known : Oracle → ItemList → Type 0
-is_known oracle list = (oracle.item_tree list.tree_id ≡ tree_in list) × (length list.items.now < 2 ^ 64)
+is_known oracle list = (oracle.item_tree list.site.tree_id ≡ tree_in list) × (length list.items.now < 2 ^ 64)
 
 -- so does the list of a frame
 abbrev pub is_frame_known : Oracle → Frame → Type 0

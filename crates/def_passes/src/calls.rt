@@ -28,12 +28,12 @@ pub(crate) fn collect_macro_call<'a, D: SourceDatabase>(
     collector: &mut DefCollector<'a>,
     db: &'a D,
     session: &Interner,
-    site: Site<'_>,
+    site: &Site,
     node: &ItemNode,
     written: WrittenCall<'a>,
 ) -> Result<Option<ItemList<'a>>, AllocError>
     ensures done { IfOk result (λ opened. IsDone (D.oracle db.now)
-        (calls.call_effect (D.oracle db.now) (state_of collector.old session.now) (site_of site.entry) node.now (written_of written.entry))
+        (calls.call_effect (D.oracle db.now) (state_of collector.old session.now) (site_of site.now) node.now (written_of written.entry))
         (state_of collector.new session.now) (inner_of (D.oracle db.now) opened)) }
     ensures known { IfOk result (λ opened. AreKnown (D.oracle db.now) opened) }
 {
@@ -57,13 +57,13 @@ pub(crate) fn collect_macro_call<'a, D: SourceDatabase>(
 fn collect_answer<'a, D: SourceDatabase>(
     collector: &mut DefCollector<'a>,
     db: &'a D,
-    site: Site<'_>,
+    site: &Site,
     node: &ItemNode,
     written: WrittenCall<'a>,
     answer: &CallAnswer,
 ) -> Result<Option<ItemList<'a>>, AllocError>
     ensures done { IfOk result (λ opened. (session : Interner) → IsDone (D.oracle db.now)
-        (calls.answered_effect (D.oracle db.now) (state_of collector.old session) (site_of site.entry) node.now (written_of written.entry) (Ok answer.now))
+        (calls.answered_effect (D.oracle db.now) (state_of collector.old session) (site_of site.now) node.now (written_of written.entry) (Ok answer.now))
         (state_of collector.new session) (inner_of (D.oracle db.now) opened)) }
     ensures known { IfOk result (λ opened. AreKnown (D.oracle db.now) opened) }
 {
@@ -127,13 +127,15 @@ pub(crate) fn open_expansion<'a, D: SourceDatabase>(
     }
     let dir = expansion_dir(collector.alloc, db, &collector.mod_dirs, module_id, call)?;
     Ok(Some(ItemList {
-        module_id,
-        container,
-        tree_id,
+        site: Site {
+            module_id,
+            container,
+            tree_id,
+            depth,
+            dir,
+        },
         tree,
         items: top_items(tree),
-        depth,
         into: None,
-        dir,
     }))
 }

@@ -1,5 +1,5 @@
 //! What each kind of item does.
-ghost use Rattle.std.specs.Prelude.{◌≡◌, [], false, Some, IfOk, OnOk};
+ghost use Rattle.std.specs.Prelude.{◌≡◌, [], false, Some, None, IfOk, OnOk};
 ghost use Rattle.item_tree.specs.declared.items.ModItemKind.TheVariants as kinds;
 ghost use Rattle.def_interner.specs.Session.{AddsLocations, session_of};
 ghost use Rattle.def_items.specs.Parts.{site_of};
@@ -27,11 +27,11 @@ pub(crate) fn give_deferred<'a, D: SourceDatabase>(
     collector: &mut DefCollector<'a>,
     db: &D,
     session: &mut Interner,
-    site: Site<'_>,
+    site: &Site,
     node: &ItemNode,
 ) -> Result<(), AllocError>
     ensures gave { OnOk result (
-        GaveImpls (D.oracle db.now) (state_of collector.old session.old) (site_of site.entry) node.now (state_of collector.new session.new)) }
+        GaveImpls (D.oracle db.now) (state_of collector.old session.old) (site_of site.now) node.now (state_of collector.new session.new)) }
     ensures session { AddsLocations (session_of session.old) (session_of session.new) }
 {
     if collector.deferred_builtin_derives.is_empty() {
@@ -53,20 +53,22 @@ pub(crate) fn give_deferred<'a, D: SourceDatabase>(
     give_impls(def_map, db, session, item, derives.as_slice())
 }
 
-/// Handles an item by its kind. Answers the list of items that are to be walked next, if it opens one. On
-/// `Err` nothing but safety is promised.
+/// Handles an item by its kind. The list of items that are to be walked next goes into `opened`, where
+/// it opens one. On `Err` nothing but safety is promised.
 #[inline(always)]
 pub(crate) fn collect_item<'a, D: SourceDatabase>(
     collector: &mut DefCollector<'a>,
     db: &'a D,
     session: &mut Interner,
-    site: Site<'_>,
+    site: &Site,
     node: &'a ItemNode,
-) -> Result<Option<ItemList<'a>>, AllocError>
-    ensures handled { IfOk result (λ opened.
+    opened: &mut Option<ItemList<'a>>,
+) -> Result<(), AllocError>
+    requires { opened.old ≡ None }
+    ensures handled { OnOk result (
         Handled (D.oracle db.now) (state_of collector.old session.old) (state_of collector.new session.new)
-        (site_of site.entry) node.now (inner_of (D.oracle db.now) opened)) }
-    ensures known { IfOk result (λ opened. AreKnown (D.oracle db.now) opened) }
+        (site_of site.now) node.now (inner_of (D.oracle db.now) opened.new)) }
+    ensures known { OnOk result (AreKnown (D.oracle db.now) opened.new) }
     ensures session { AddsLocations (session_of session.old) (session_of session.new) }
 {
     match &node.kind {
@@ -82,11 +84,11 @@ pub(crate) fn collect_item<'a, D: SourceDatabase>(
                 name: *name,
                 vis,
             };
-            collect_module(collector, db, session, item, contents)
+            *opened = collect_module(collector, db, session, item, contents)?;
         }
         ModItemKind::ExternBlock { children } => {
             let list = collect_extern_block(collector, db, session, site, node, children)?;
-            Ok(Some(list))
+            *opened = Some(list);
         }
         ModItemKind::MacroCall {
             path,
@@ -98,27 +100,24 @@ pub(crate) fn collect_item<'a, D: SourceDatabase>(
                 expand_to: *expand_to,
                 ctxt: *ctxt,
             };
-            collect_macro_call(collector, db, session, site, node, written)
+            *opened = collect_macro_call(collector, db, session, site, node, written)?;
         }
-        _ => {
-            collect_leaf(collector, db, session, site, node)?;
-            Ok(None)
-        }
+        _ => collect_leaf(collector, db, session, site, node)?,
     }
+    Ok(())
 }
 
 /// Handles an item of a kind that opens no list. On `Err` nothing but safety is promised.
-#[inline(always)]
 fn collect_leaf<'a, D: SourceDatabase>(
     collector: &mut DefCollector<'a>,
     db: &D,
     session: &mut Interner,
-    site: Site<'_>,
+    site: &Site,
     node: &'a ItemNode,
 ) -> Result<(), AllocError>
     ensures handled { OnOk result (opens_list node.now.kind ≡ false →
         Handled (D.oracle db.now) (state_of collector.old session.old) (state_of collector.new session.new)
-        (site_of site.entry) node.now []) }
+        (site_of site.now) node.now []) }
     ensures session { AddsLocations (session_of session.old) (session_of session.new) }
 {
     match &node.kind {
@@ -175,13 +174,13 @@ fn collect_extern_block<'a, D: SourceDatabase>(
     collector: &mut DefCollector<'a>,
     db: &'a D,
     session: &mut Interner,
-    site: Site<'_>,
+    site: &Site,
     node: &ItemNode,
     children: &'a Seq<ModItemId>,
 ) -> Result<ItemList<'a>, AllocError>
     ensures handled { IfOk result (λ list. node.now.kind ≡ kinds.ExternBlock children.now →
         Handled (D.oracle db.now) (state_of collector.old session.old) (state_of collector.new session.new)
-        (site_of site.entry) node.now (inner_of (D.oracle db.now) (Some list))) }
+        (site_of site.now) node.now (inner_of (D.oracle db.now) (Some list))) }
     ensures known { IfOk result (λ list. is_known (D.oracle db.now) list) }
     ensures session { AddsLocations (session_of session.old) (session_of session.new) }
 {
@@ -194,13 +193,15 @@ fn collect_extern_block<'a, D: SourceDatabase>(
         .def_map
         .define_extern_block(site.module_id.index, id)?;
     Ok(ItemList {
-        module_id: site.module_id,
-        container: ItemContainerId::ExternBlock(id),
-        tree_id: site.tree_id,
+        site: Site {
+            module_id: site.module_id,
+            container: ItemContainerId::ExternBlock(id),
+            tree_id: site.tree_id,
+            depth: site.depth,
+            dir: site.dir.clone()?,
+        },
         tree: db.item_tree(site.tree_id),
         items: children.as_slice(),
-        depth: site.depth,
         into: None,
-        dir: site.dir.clone()?,
     })
 }

@@ -30,7 +30,7 @@ use def_calls::{
     call_answer, give_call, leave, put_asked_first, settle_call, stay, stored_dir,
 };
 use def_interner::{Interner, MacroDefId};
-use def_items::ItemList;
+use def_items::{ItemList, Site};
 use def_map::SourceDatabase;
 use def_rules::DefDiagnostic;
 use std::alloc::AllocError;
@@ -350,14 +350,16 @@ pub fn walk_again<'a, D: SourceDatabase>(
 {
     let dir = stored_dir(collector.alloc, &collector.mod_dirs, directive.module_id)?;
     let items = ItemList {
-        module_id: directive.module_id,
-        container: directive.container,
-        tree_id: written.tree_id,
+        site: Site {
+            module_id: directive.module_id,
+            container: directive.container,
+            tree_id: written.tree_id,
+            depth: directive.depth,
+            dir,
+        },
         tree: db.item_tree(written.tree_id),
         items: &[],
-        depth: directive.depth,
         into: None,
-        dir,
     };
     walk_item(collector, db, session, &items, written.item)
 }

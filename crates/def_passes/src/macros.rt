@@ -30,13 +30,13 @@ pub(crate) fn collect_macro_rules<D: SourceDatabase>(
     collector: &mut DefCollector<'_>,
     db: &D,
     session: &mut Interner,
-    site: Site<'_>,
+    site: &Site,
     node: &ItemNode,
     name: Name,
 ) -> Result<(), AllocError>
     ensures handled { OnOk result (node.now.kind ≡ kinds.MacroRules name →
         Handled (D.oracle db.now) (state_of collector.old session.old) (state_of collector.new session.new)
-        (site_of site.entry) node.now []) }
+        (site_of site.now) node.now []) }
     ensures session { AddsLocations (session_of session.old) (session_of session.new) }
 {
     let item = number_macro_rules(db, session, &collector.def_map, site, node, name)?;
@@ -53,13 +53,13 @@ pub(crate) fn collect_macro<D: SourceDatabase>(
     collector: &mut DefCollector<'_>,
     db: &D,
     session: &mut Interner,
-    site: Site<'_>,
+    site: &Site,
     node: &ItemNode,
     written: WrittenMacro<'_>,
 ) -> Result<(), AllocError>
     ensures handled { OnOk result (node.now.kind ≡ kinds.Macro2 written.entry.name written.entry.visibility.now →
         Handled (D.oracle db.now) (state_of collector.old session.old) (state_of collector.new session.new)
-        (site_of site.entry) node.now []) }
+        (site_of site.now) node.now []) }
     ensures session { AddsLocations (session_of session.old) (session_of session.new) }
 {
     let item = number_macro(db, session, &collector.def_map, site, node, written.name)?;

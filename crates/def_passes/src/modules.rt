@@ -31,7 +31,7 @@ use std::alloc::{AllocError, Global};
 /// A module that is declared: its item and where that stands, its name, and its visibility.
 #[derive(Clone, Copy)]
 pub(crate) struct ModuleItem<'a> {
-    pub site: Site<'a>,
+    pub site: &'a Site,
     pub node: &'a ItemNode,
     pub name: Name,
     pub vis: Visibility,
@@ -47,7 +47,7 @@ struct FoundFile {
 
 /// What makes a module whose items are in braces, or nowhere.
 fn inline_origin(item: ModuleItem<'_>) -> ModuleOrigin
-    ensures { result ≡ origin_kind.Inline item.entry.node.now.ast_id item.entry.site.tree_id }
+    ensures { result ≡ origin_kind.Inline item.entry.node.now.ast_id item.entry.site.now.tree_id }
 {
     ModuleOrigin::Inline {
         definition: item.node.ast_id,
@@ -66,7 +66,7 @@ pub(crate) fn collect_module<'a, D: SourceDatabase>(
     contents: &'a ModContents,
 ) -> Result<Option<ItemList<'a>>, AllocError>
     ensures done { IfOk result (λ opened. IsDone (D.oracle db.now)
-        (module_item (D.oracle db.now) (state_of collector.old session.now) (site_of item.entry.site) item.entry.node.now item.entry.name item.entry.vis contents.now)
+        (module_item (D.oracle db.now) (state_of collector.old session.now) (site_of item.entry.site.now) item.entry.node.now item.entry.name item.entry.vis contents.now)
         (state_of collector.new session.now) (inner_of (D.oracle db.now) opened)) }
     ensures known { IfOk result (λ opened. AreKnown (D.oracle db.now) opened) }
 {
@@ -87,7 +87,7 @@ fn collect_inline_module<'a, D: SourceDatabase>(
     children: &'a [ModItemId],
 ) -> Result<Option<ItemList<'a>>, AllocError>
     ensures done { IfOk result (λ opened. IsDone (D.oracle db.now)
-        (module_item (D.oracle db.now) (state_of collector.old session.now) (site_of item.entry.site) item.entry.node.now item.entry.name item.entry.vis (contents_kind.Inline children.now))
+        (module_item (D.oracle db.now) (state_of collector.old session.now) (site_of item.entry.site.now) item.entry.node.now item.entry.name item.entry.vis (contents_kind.Inline children.now))
         (state_of collector.new session.now) (inner_of (D.oracle db.now) opened)) }
     ensures known { IfOk result (λ opened. AreKnown (D.oracle db.now) opened) }
 {
@@ -101,14 +101,16 @@ fn collect_inline_module<'a, D: SourceDatabase>(
         return Ok(None);
     };
     Ok(Some(ItemList {
-        module_id: child,
-        container: ItemContainerId::Module(child),
-        tree_id: site.tree_id,
+        site: Site {
+            module_id: child,
+            container: ItemContainerId::Module(child),
+            tree_id: site.tree_id,
+            depth: site.depth,
+            dir,
+        },
         tree: db.item_tree(site.tree_id),
         items: children,
-        depth: site.depth,
         into: into_if(is_macro_use(item.node), site.module_id),
-        dir,
     }))
 }
 
@@ -120,7 +122,7 @@ fn collect_outline_module<'a, D: SourceDatabase>(
     item: ModuleItem<'_>,
 ) -> Result<Option<ItemList<'a>>, AllocError>
     ensures done { IfOk result (λ opened. IsDone (D.oracle db.now)
-        (module_item (D.oracle db.now) (state_of collector.old session.now) (site_of item.entry.site) item.entry.node.now item.entry.name item.entry.vis contents_kind.Outline)
+        (module_item (D.oracle db.now) (state_of collector.old session.now) (site_of item.entry.site.now) item.entry.node.now item.entry.name item.entry.vis contents_kind.Outline)
         (state_of collector.new session.now) (inner_of (D.oracle db.now) opened)) }
     ensures known { IfOk result (λ opened. AreKnown (D.oracle db.now) opened) }
 {
@@ -158,7 +160,7 @@ fn collect_file_module<'a, D: SourceDatabase>(
     found: FoundFile,
 ) -> Result<Option<ItemList<'a>>, AllocError>
     ensures done { IfOk result (λ opened. IsDone (D.oracle db.now)
-        (outline_item (D.oracle db.now) (state_of collector.old session.now) (site_of item.entry.site) item.entry.node.now item.entry.name item.entry.vis (Ok (found_in found)))
+        (outline_item (D.oracle db.now) (state_of collector.old session.now) (site_of item.entry.site.now) item.entry.node.now item.entry.name item.entry.vis (Ok (found_in found)))
         (state_of collector.new session.now) (inner_of (D.oracle db.now) opened)) }
     ensures known { IfOk result (λ opened. AreKnown (D.oracle db.now) opened) }
 {
@@ -181,14 +183,16 @@ fn collect_file_module<'a, D: SourceDatabase>(
     let child = push_module(collector, item, origin)?;
     let handed_on = hands_on(item.node, tree);
     Ok(Some(ItemList {
-        module_id: child,
-        container: ItemContainerId::Module(child),
-        tree_id,
+        site: Site {
+            module_id: child,
+            container: ItemContainerId::Module(child),
+            tree_id,
+            depth: item.site.depth,
+            dir: found.dir,
+        },
         tree,
         items: top_items(tree),
-        depth: item.site.depth,
         into: into_if(handed_on, item.site.module_id),
-        dir: found.dir,
     }))
 }
 
@@ -202,7 +206,7 @@ fn push_module<'a>(
     ensures child { IfOk result (λ child. (session : Interner) → child ≡ module_rules.next_module (state_of collector.old session)) }
     ensures added { OnOk result ((session : Interner) →
         let s = state_of collector.old session in
-        let at = item.entry.site.module_id in
+        let at = item.entry.site.now.module_id in
         Updated at (items.declared_entry item.entry.name Types (def_kind.Module (module_rules.next_module s)) item.entry.vis ∷ [])
         (module_rules.add_module s at item.entry.name item.entry.vis origin) (state_of collector.new session)) }
 {

@@ -76,11 +76,12 @@ fn walk_list<'a, D: SourceDatabase>(
         × is_frame_known (D.oracle db.now) frame.new) }
     ensures session { AddsLocations (session_of session.old) (session_of session.new) }
 {
+    let mut opened = None;
     'items: while let Some(id) = frame.next_item() {
         frame.next += 1;
-        let opened = visit(collector, db, session, &frame.list, id)?;
-        if let Some(list) = opened {
-            return Ok(Some(list));
+        visit(collector, db, session, &frame.list, id, &mut opened)?;
+        if opened.is_some() {
+            return Ok(opened);
         }
     }
     Ok(None)
@@ -100,50 +101,49 @@ pub fn walk_item<'a, D: SourceDatabase>(
         (state_of collector.old session.old) [] (state_of collector.new session.new)) }
     ensures session { AddsLocations (session_of session.old) (session_of session.new) }
 {
-    match visit(collector, db, session, list, id)? {
+    let mut opened = None;
+    visit(collector, db, session, list, id, &mut opened)?;
+    match opened {
         Some(opened) => walk(collector, db, session, opened),
         None => Ok(()),
     }
 }
 
 /// Visits an item: one that cfg disables is reported, one with an attribute that may be a macro
-/// waits for it, any other is handled. Answers the list of items that are to be walked next, if it
-/// opens one. On `Err` nothing but safety is promised.
+/// waits for it, any other is handled. The list of items that are to be walked next goes into `opened`,
+/// where it opens one: few items do, and a list is long. On `Err` nothing but safety is promised.
+#[inline(always)]
 fn visit<'a, D: SourceDatabase>(
     collector: &mut DefCollector<'a>,
     db: &'a D,
     session: &mut Interner,
     list: &ItemList<'a>,
     id: ModItemId,
-) -> Result<Option<ItemList<'a>>, AllocError>
-    requires { is_known (D.oracle db.now) list.now }
-    ensures run { IfOk result (λ opened. (rest : List Task) →
+    opened: &mut Option<ItemList<'a>>,
+) -> Result<(), AllocError>
+    requires list { is_known (D.oracle db.now) list.now }
+    requires empty { opened.old ≡ None }
+    ensures run { OnOk result ((rest : List Task) →
         Leads (D.oracle db.now) (Visit (list_site list.now) id ∷ rest) (state_of collector.old session.old)
-        (inner_of (D.oracle db.now) opened ++ rest) (state_of collector.new session.new)) }
-    ensures fewer { IfOk result (λ opened.
-        1 + work (inner_of (D.oracle db.now) opened) < task_work (Visit (list_site list.now) id)) }
-    ensures known { IfOk result (λ opened. AreKnown (D.oracle db.now) opened) }
+        (inner_of (D.oracle db.now) opened.new ++ rest) (state_of collector.new session.new)) }
+    ensures fewer { OnOk result (
+        1 + work (inner_of (D.oracle db.now) opened.new) < task_work (Visit (list_site list.now) id)) }
+    ensures known { OnOk result (AreKnown (D.oracle db.now) opened.new) }
     ensures session { AddsLocations (session_of session.old) (session_of session.new) }
 {
     let Some(node) = item_in(list.tree, id) else {
-        return Ok(None);
+        return Ok(());
     };
-    let site = Site {
-        module_id: list.module_id,
-        container: list.container,
-        tree_id: list.tree_id,
-        depth: list.depth,
-        dir: &list.dir,
-    };
+    let site = &list.site;
     let disabled = report_disabled_item(&mut collector.diagnostics, site, node)?;
     if let Some(_) = disabled {
-        return Ok(None);
+        return Ok(());
     }
     if queue_awaited(collector, db, site, id, node)? {
-        return Ok(None);
+        return Ok(());
     }
     give_deferred(collector, db, session, site, node)?;
-    collect_item(collector, db, session, site, node)
+    collect_item(collector, db, session, site, node, opened)
 }
 
 /// Lets an item wait for the macro of an attribute, where it has one that may be a macro. On `Err`
@@ -151,14 +151,14 @@ fn visit<'a, D: SourceDatabase>(
 fn queue_awaited<'a, D: SourceDatabase>(
     collector: &mut DefCollector<'a>,
     db: &D,
-    site: Site<'_>,
+    site: &Site,
     id: ModItemId,
     node: &'a ItemNode,
 ) -> Result<bool, AllocError>
     ensures waits { IfOk result (λ waits. waits ≡ true → (session : Interner) →
-        Awaits (D.oracle db.now) (state_of collector.old session) (site_of site.entry) id node.now (state_of collector.new session)) }
+        Awaits (D.oracle db.now) (state_of collector.old session) (site_of site.now) id node.now (state_of collector.new session)) }
     ensures same { IfOk result (λ waits. waits ≡ false → (collector.new ≡ collector.old)
-        × ((session : Interner) → awaited_attr (D.oracle db.now) (state_of collector.old session) (site_of site.entry) id node.now ≡ None)) }
+        × ((session : Interner) → awaited_attr (D.oracle db.now) (state_of collector.old session) (site_of site.now) id node.now ≡ None)) }
 {
     let def_map = &collector.def_map;
     let awaited = awaited_attr(db, def_map, &collector.item_attrs, site, id, node);

@@ -30,7 +30,7 @@ use std::alloc::AllocError;
 /// visibility.
 #[derive(Clone, Copy)]
 struct CrateItem<'a> {
-    site: Site<'a>,
+    site: &'a Site,
     node: &'a ItemNode,
     id: ExternCrateId,
     /// None is `_`.
@@ -54,14 +54,14 @@ impl<'a> DefCollector<'a> {
         &mut self,
         db: &D,
         session: &mut Interner,
-        site: Site<'_>,
+        site: &Site,
         node: &ItemNode,
         written: WrittenCrate<'_>,
     ) -> Result<(), AllocError>
         ensures handled { OnOk result (
             node.now.kind ≡ kinds.ExternCrate written.entry.name written.entry.visibility.now written.entry.alias →
             Handled (D.oracle db.now) (state_of self.old session.old) (state_of self.new session.new)
-            (site_of site.entry) node.now []) }
+            (site_of site.now) node.now []) }
         ensures session { AddsLocations (session_of session.old) (session_of session.new) }
     {
         let id = ExternCrateLoc {
@@ -128,7 +128,7 @@ impl<'a> DefCollector<'a> {
         root: Option<ModuleId>,
     ) -> Result<(), AllocError>
         ensures { OnOk result ((oracle : Oracle) (session : Interner) →
-            let effect = crate_rules.crate_effect (state_of self.old session) (site_of item.entry.site) item.entry.node.now item.entry.id item.entry.name item.entry.vis brought.now root in
+            let effect = crate_rules.crate_effect (state_of self.old session) (site_of item.entry.site.now) item.entry.node.now item.entry.id item.entry.name item.entry.vis brought.now root in
             Performs oracle effect.tasks effect.state (state_of self.new session)) }
     {
         match root {
@@ -152,8 +152,8 @@ impl<'a> DefCollector<'a> {
         root: ModuleId,
     ) -> Result<(), AllocError>
         ensures { OnOk result ((session : Interner) →
-            let effect = crate_rules.crate_effect (state_of self.old session) (site_of item.entry.site) item.entry.node.now item.entry.id item.entry.name item.entry.vis brought.now (Some root) in
-            Updated item.entry.site.module_id (crate_rules.crate_entry item.entry.id item.entry.name root item.entry.vis ∷ []) effect.state (state_of self.new session)) }
+            let effect = crate_rules.crate_effect (state_of self.old session) (site_of item.entry.site.now) item.entry.node.now item.entry.id item.entry.name item.entry.vis brought.now (Some root) in
+            Updated item.entry.site.now.module_id (crate_rules.crate_entry item.entry.id item.entry.name root item.entry.vis ∷ []) effect.state (state_of self.new session)) }
     {
         let at = item.site.module_id;
         name_crate(&mut self.local_def_map, at, item.name, root, item.id)?;
@@ -176,7 +176,7 @@ impl<'a> DefCollector<'a> {
         ensures { OnOk result ((session : Interner) →
             state_of self.new session
             ≡ reported (with_missing item.entry.name (state_of self.old session))
-            (items.diagnostic (site_of item.entry.site) item.entry.node.now UnresolvedExternCrate)) }
+            (items.diagnostic (site_of item.entry.site.now) item.entry.node.now UnresolvedExternCrate)) }
     {
         if let Some(name) = item.name {
             self.missing_crates.insert(name)?;

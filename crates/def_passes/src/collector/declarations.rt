@@ -34,12 +34,12 @@ impl DefCollector<'_> {
         &mut self,
         db: &D,
         session: &mut Interner,
-        site: Site<'_>,
+        site: &Site,
         node: &ItemNode,
     ) -> Result<(), AllocError>
         ensures handled { OnOk result (is_declaring node.now.kind ≡ true →
             Handled (D.oracle db.now) (state_of self.old session.old) (state_of self.new session.new)
-            (site_of site.entry) node.now []) }
+            (site_of site.now) node.now []) }
         ensures others { OnOk result (is_declaring node.now.kind ≡ false →
             state_of self.new session.new ≡ state_of self.old session.old) }
         ensures session { AddsLocations (session_of session.old) (session_of session.new) }
@@ -65,14 +65,14 @@ impl DefCollector<'_> {
         &mut self,
         db: &D,
         session: &mut Interner,
-        site: Site<'_>,
+        site: &Site,
         node: &ItemNode,
         written: WrittenStruct<'_>,
     ) -> Result<(), AllocError>
         ensures handled { OnOk result (
             node.now.kind ≡ kinds.Struct written.entry.name written.entry.visibility.now written.entry.ctor.now →
             Handled (D.oracle db.now) (state_of self.old session.old) (state_of self.new session.new)
-            (site_of site.entry) node.now []) }
+            (site_of site.now) node.now []) }
         ensures session { AddsLocations (session_of session.old) (session_of session.new) }
     {
         let id = StructLoc {

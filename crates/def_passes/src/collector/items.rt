@@ -21,7 +21,7 @@ impl<'a> DefCollector<'a> {
     pub fn collect_use(
         &mut self,
         session: &mut Interner,
-        site: Site<'_>,
+        site: &Site,
         node: &ItemNode,
         visibility: &'a RawVisibility,
         imports: &'a Seq<UseImport>,
@@ -29,7 +29,7 @@ impl<'a> DefCollector<'a> {
         ensures handled { OnOk result ((oracle : Oracle) →
             node.now.kind ≡ kinds.Use visibility.now imports.now →
             Handled oracle (state_of self.old session.old) (state_of self.new session.new)
-            (site_of site.entry) node.now []) }
+            (site_of site.now) node.now []) }
         ensures session { AddsLocations (session_of session.old) (session_of session.new) }
     {
         let position = site.position(node);

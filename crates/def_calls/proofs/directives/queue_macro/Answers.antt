@@ -8,4 +8,4 @@ returns c =
     ap macros_in c.in_ok-push_back.ensures.items
     ∙ macros_push c.args.directives.now.items _
     ∙ (λ i. macros_in c.args.directives.now.items
-    ++ (record { scope = c.args.site.module_id; container = c.args.site.container; position = c.position.ensures i; depth = c.deeper.ensures i; kind = kind_of c.args.kind }) ∷ [])
+    ++ (record { scope = c.args.site.now.module_id; container = c.args.site.now.container; position = c.position.ensures i; depth = c.deeper.ensures i; kind = kind_of c.args.kind }) ∷ [])

@@ -8,6 +8,6 @@ use Rattle.def_rules.specs.State.{State, with_map}
 pub returns-clause-handled : goal.returns-clause-handled
 returns-clause-handled c = λ oracle s kind.
     let before : State = with_session s c.args.session.now c.args.def_map.now in
-    handled_impl oracle before (with_session s c.intern.new.session c.define_impl.new.self) (session_of c.intern.new.session) (site_of c.args.site) c.args.node.now c.in_ok-id.id.0 c.position.result
+    handled_impl oracle before (with_session s c.intern.new.session c.define_impl.new.self) (session_of c.intern.new.session) (site_of c.args.site.now) c.args.node.now c.in_ok-id.id.0 c.position.result
     c.in_ok-id.ensures.adds c.position.ensures c.args.is_trait_impl kind c.in_ok-id.ensures.shown
     (ap (with_map (record before { session = session_of c.intern.new.session })) c.in_ok-define_impl.ensures)

@@ -11,7 +11,7 @@ returns-in_ok-id-in-Union-clause-declared c = (
   (λ n. def.Union (record { 0 = n })),
   c.in_ok-id-in-Union.id.0,
   refl,
-  c.in_ok-id-in-Union.ensures.shown ∙ ap (λ p. Some (in_container (contained.Module c.args.site.module_id) p)) c.position.ensures,
+  c.in_ok-id-in-Union.ensures.shown ∙ ap (λ p. Some (in_container (contained.Module c.args.site.now.module_id) p)) c.position.ensures,
   ap rule_of c.in-Union.is,
 )
 
@@ -21,7 +21,7 @@ returns-in_ok-id-in-Enum-clause-declared c = (
   (λ n. def.Enum (record { 0 = n })),
   c.in_ok-id-in-Enum.id.0,
   refl,
-  c.in_ok-id-in-Enum.ensures.shown ∙ ap (λ p. Some (in_container (contained.Module c.args.site.module_id) p)) c.position-in-Enum.ensures,
+  c.in_ok-id-in-Enum.ensures.shown ∙ ap (λ p. Some (in_container (contained.Module c.args.site.now.module_id) p)) c.position-in-Enum.ensures,
   ap rule_of c.in-Enum.is,
 )
 
@@ -31,7 +31,7 @@ returns-in_ok-id-in-Trait-clause-declared c = (
   (λ n. def.Trait (record { 0 = n })),
   c.in_ok-id-in-Trait.id.0,
   refl,
-  c.in_ok-id-in-Trait.ensures.shown ∙ ap (λ p. Some (in_container (contained.Module c.args.site.module_id) p)) c.position-in-Trait.ensures,
+  c.in_ok-id-in-Trait.ensures.shown ∙ ap (λ p. Some (in_container (contained.Module c.args.site.now.module_id) p)) c.position-in-Trait.ensures,
   ap rule_of c.in-Trait.is,
 )
 
@@ -41,6 +41,6 @@ returns-in_ok-id-in-TypeAlias-clause-declared c = (
   (λ n. def.TypeAlias (record { 0 = n })),
   c.in_ok-id-in-TypeAlias.id.0,
   refl,
-  c.in_ok-id-in-TypeAlias.ensures.shown ∙ ap (λ p. Some (in_container (c.args.site.container) p)) c.position-in-TypeAlias.ensures,
+  c.in_ok-id-in-TypeAlias.ensures.shown ∙ ap (λ p. Some (in_container (c.args.site.now.container) p)) c.position-in-TypeAlias.ensures,
   ap rule_of c.in-TypeAlias.is,
 )

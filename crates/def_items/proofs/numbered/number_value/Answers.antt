@@ -11,7 +11,7 @@ returns-in_ok-id-in-Function-clause-declared c = λ _. (
   (λ n. def.Function (record { 0 = n })),
   c.in_ok-id-in-Function.id.0,
   refl,
-  c.in_ok-id-in-Function.ensures.shown ∙ ap (λ p. Some (in_container (c.args.site.container) p)) c.position.ensures,
+  c.in_ok-id-in-Function.ensures.shown ∙ ap (λ p. Some (in_container (c.args.site.now.container) p)) c.position.ensures,
   ap rule_of c.in-Function.is,
 )
 
@@ -21,7 +21,7 @@ returns-in-Some-clause-declared c = λ _. (
   (λ n. def.Const (record { 0 = n })),
   c.in_ok-id-in-Const.id.0,
   refl,
-  c.in_ok-id-in-Const.ensures.shown ∙ ap (λ p. Some (in_container (c.args.site.container) p)) c.position-in-Const.ensures,
+  c.in_ok-id-in-Const.ensures.shown ∙ ap (λ p. Some (in_container (c.args.site.now.container) p)) c.position-in-Const.ensures,
   ap rule_of (c.in-Const.is ∙ ap (λ o. Const o c.in-Const.visibility) c.in-Some.is),
 )
 
@@ -31,10 +31,10 @@ returns-in_ok-id-in-Static-clause-declared c = λ _. (
   (λ n. def.Static (record { 0 = n })),
   c.in_ok-id-in-Static.id.0,
   refl,
-  c.in_ok-id-in-Static.ensures.shown ∙ ap (λ p. Some (in_container (c.args.site.container) p)) c.position-in-Static.ensures,
+  c.in_ok-id-in-Static.ensures.shown ∙ ap (λ p. Some (in_container (c.args.site.now.container) p)) c.position-in-Static.ensures,
   ap rule_of c.in-Static.is,
 )
 
 pub returns-in_default-name-clause-declared : goal.returns-in_default-name-clause-declared
 returns-in_default-name-clause-declared c = λ _.
-    (c.in_ok-id-in-Const.ensures.shown ∙ ap (λ p. Some (in_container c.args.site.container p)) c.position-in-Const.ensures, ap rule_of (c.in-Const.is ∙ ap (λ o. Const o c.in-Const.visibility) c.in_default-name.is))
+    (c.in_ok-id-in-Const.ensures.shown ∙ ap (λ p. Some (in_container c.args.site.now.container p)) c.position-in-Const.ensures, ap rule_of (c.in-Const.is ∙ ap (λ o. Const o c.in-Const.visibility) c.in_default-name.is))

@@ -16,7 +16,7 @@ pub returns-then-not-exists : goal.returns-then-not-exists
 returns-then-not-exists c = λ oracle s.
     let item = c.args.item in
     let before : State = with_parts s c.args.def_map.now c.args.table.now in
-    let textual : State = textual_state before (site_of item.site) item.node.now item.name item.id in
+    let textual : State = textual_state before (site_of item.site.now) item.node.now item.name item.id in
     let after : State = with_parts s c.define_textual.new.def_map c.args.table.now in
     let became = c.in_ok-define_textual.ensures before in
     let effect : Bool → Effect = λ exported. export_effect textual exported item.name item.id in
@@ -28,7 +28,7 @@ pub returns : goal.returns
 returns c = λ oracle s.
     let item = c.args.item in
     let before : State = with_parts s c.args.def_map.now c.args.table.now in
-    let textual : State = textual_state before (site_of item.site) item.node.now item.name item.id in
+    let textual : State = textual_state before (site_of item.site.now) item.node.now item.name item.id in
     let between : State = with_parts s c.define_textual.new.def_map c.args.table.now in
     let after : State = with_parts s c.define.new.def_map c.define.new.table in
     let became = c.in_ok-define_textual.ensures before in

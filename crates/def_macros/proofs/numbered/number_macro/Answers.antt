@@ -5,7 +5,7 @@ use Rattle.def_macros.proofs.numbered.number_macro.Goals as goal
 
 pub returns-clause-item : goal.returns-clause-item
 returns-clause-item g c =
-    let site = site_of c.args.site in
+    let site = site_of c.args.site.now in
     let node = c.args.node.now in
     record {
       of = record { stands = refl; is = refl; called = refl };

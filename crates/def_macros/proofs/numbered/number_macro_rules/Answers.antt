@@ -7,7 +7,7 @@ use Rattle.def_macros.proofs.numbered.number_macro_rules.Goals as goal
 
 pub returns-clause-rules : goal.returns-clause-rules
 returns-clause-rules g c =
-    let site = site_of c.args.site in
+    let site = site_of c.args.site.now in
     let node = c.args.node.now in
     let found = c.builtin_name-found.result in
     record {

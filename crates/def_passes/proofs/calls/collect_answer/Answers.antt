@@ -15,27 +15,27 @@ use Rattle.def_passes.proofs.calls.collect_answer.Goals as goal
 pub returns-in-Some-clause-done : goal.returns-in-Some-clause-done
 returns-in-Some-clause-done g c = λ session.
     let before : State = state_of c.args.collector.now session in
-    let at = c.args.site.module_id.index in
+    let at = c.args.site.now.module_id.index in
     let made : map_state c.record_calls.new.def_map ≡ invoking at c.args.answer.now.inner before.map =
     c.in_ok-record_calls.ensures ∙ ap (λ calls. invoking at calls before.map) c.as_slice.ensures in
-    answered_waits (g.D.SourceDatabase.oracle c.args.db.now) before _ (site_of c.args.site) c.args.node.now (written_of c.args.written) c.args.answer.now c.in-Some.field-0 c.in-Some.is
+    answered_waits (g.D.SourceDatabase.oracle c.args.db.now) before _ (site_of c.args.site.now) c.args.node.now (written_of c.args.written) c.args.answer.now c.in-Some.field-0 c.in-Some.is
     (λ i. record before { map = made i; macros = c.in_ok-queue_macro.ensures i })
 
 pub returns-in_default-value-clause-done : goal.returns-in_default-value-clause-done
 returns-in_default-value-clause-done g c = λ session.
     let before : State = state_of c.args.collector.now session in
-    let at = c.args.site.module_id.index in
+    let at = c.args.site.now.module_id.index in
     let made : map_state c.record_calls.new.def_map ≡ invoking at c.args.answer.now.inner before.map =
     c.in_ok-record_calls.ensures ∙ ap (λ calls. invoking at calls before.map) c.as_slice.ensures in
-    answered_nothing (g.D.SourceDatabase.oracle c.args.db.now) before _ (site_of c.args.site) c.args.node.now (written_of c.args.written) c.args.answer.now c.in_default.is c.in_default-value.is
+    answered_nothing (g.D.SourceDatabase.oracle c.args.db.now) before _ (site_of c.args.site.now) c.args.node.now (written_of c.args.written) c.args.answer.now c.in_default.is c.in_default-value.is
     (λ i. record before { map = made i })
 
 pub returns-clause-done : goal.returns-clause-done
 returns-clause-done g c = if_ok c.open_expansion.result c.open_expansion.ensures.opened (λ opened done session.
     let before : State = state_of c.args.collector.now session in
     let oracle = g.D.SourceDatabase.oracle c.args.db.now in
-    let at = c.args.site.module_id.index in
-    let item = position_of (site_of c.args.site) c.args.node.now in
+    let at = c.args.site.now.module_id.index in
+    let item = position_of (site_of c.args.site.now) c.args.node.now in
     let call = c.in-Some-value.call in
     let made : map_state c.record_calls.new.def_map ≡ invoking at c.args.answer.now.inner before.map =
     c.in_ok-record_calls.ensures ∙ ap (λ calls. invoking at calls before.map) c.as_slice.ensures in
@@ -43,6 +43,6 @@ returns-clause-done g c = if_ok c.open_expansion.result c.open_expansion.ensures
     c.in_ok-add_macro_invoc.ensures
     ∙ ap (λ p. with_module (map_state c.record_calls.new.def_map) at (with_invocation p call)) c.position-position.ensures
     ∙ ap (λ m. with_module m at (with_invocation item call)) made in
-    answered_opens oracle before _ (site_of c.args.site) c.args.node.now (written_of c.args.written) c.args.answer.now call (inner_of oracle opened) _ c.in_default.is c.in-Some-value.is
+    answered_opens oracle before _ (site_of c.args.site.now) c.args.node.now (written_of c.args.written) c.args.answer.now call (inner_of oracle opened) _ c.in_default.is c.in-Some-value.is
     (λ i. record before { map = called i })
-    (ap (λ depth. expansion_effect oracle (record before { map = map_state c.add_macro_invoc.new.self }) (record { scope = c.args.site.module_id; container = c.args.site.container; depth = depth; call = call; replaces = None })) (sym c.deeper.ensures) ∙ done session))
+    (ap (λ depth. expansion_effect oracle (record before { map = map_state c.add_macro_invoc.new.self }) (record { scope = c.args.site.now.module_id; container = c.args.site.now.container; depth = depth; call = call; replaces = None })) (sym c.deeper.ensures) ∙ done session))

@@ -9,7 +9,7 @@ use Rattle.def_passes.proofs.items.collect_extern_block.Goals as goal
 pub returns-clause-handled : goal.returns-clause-handled
 returns-clause-handled g c = λ kind.
     let before : State = state_of c.args.collector.now c.args.session.now in
-    handled_extern_block (g.D.SourceDatabase.oracle c.args.db.now) before _ (session_of c.intern.new.session) (site_of c.args.site) c.args.node.now c.in_ok-id.id.0 c.position.result
+    handled_extern_block (g.D.SourceDatabase.oracle c.args.db.now) before _ (session_of c.intern.new.session) (site_of c.args.site.now) c.args.node.now c.in_ok-id.id.0 c.position.result
     c.in_ok-id.ensures.adds c.position.ensures _ c.as_slice.result.now c.in_ok-clone.field-0
     kind c.as_slice.ensures c.in_ok-clone.ensures c.in_ok-id.ensures.shown
     (ap (with_map (record before { session = session_of c.intern.new.session })) c.in_ok-define_extern_block.ensures)

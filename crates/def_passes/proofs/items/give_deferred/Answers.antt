@@ -14,14 +14,14 @@ use Rattle.def_passes.proofs.items.give_deferred.Goals as goal
 
 pub returns-then-is_empty-clause-gave : goal.returns-then-is_empty-clause-gave
 returns-then-is_empty-clause-gave g c =
-    gave_nothing (g.D.SourceDatabase.oracle c.args.db.now) (state_of c.args.collector.now c.args.session.now) (site_of c.args.site) c.args.node.now (c.is_empty.ensures.none c.if-is_empty.true)
+    gave_nothing (g.D.SourceDatabase.oracle c.args.db.now) (state_of c.args.collector.now c.args.session.now) (site_of c.args.site.now) c.args.node.now (c.is_empty.ensures.none c.if-is_empty.true)
 
 pub returns-in_default-take-clause-gave : goal.returns-in_default-take-clause-gave
 returns-in_default-take-clause-gave g c =
     let s : State = state_of c.args.collector.now c.args.session.now in
     let numbered = session_of c.number_adt.new.session in
-    let of_item = subst (λ o. IfSome o (λ adt. (t : State) → IsAdt (record t { session = numbered }) (site_of c.args.site) c.args.node.now c.args.node.now.kind adt)) c.in-Some.is c.in_ok-adt.ensures.numbered in
-    gave_impls (g.D.SourceDatabase.oracle c.args.db.now) s (site_of c.args.site) c.args.node.now numbered numbered c.in_ok-adt.ensures.session (adds_refl numbered) c.in-Some.adt (of_item s)
+    let of_item = subst (λ o. IfSome o (λ adt. (t : State) → IsAdt (record t { session = numbered }) (site_of c.args.site.now) c.args.node.now c.args.node.now.kind adt)) c.in-Some.is c.in_ok-adt.ensures.numbered in
+    gave_impls (g.D.SourceDatabase.oracle c.args.db.now) s (site_of c.args.site.now) c.args.node.now numbered numbered c.in_ok-adt.ensures.session (adds_refl numbered) c.in-Some.adt (of_item s)
     s.map (deferrals_of c.take.new.self) (c.take.ensures.left ∙ ap (without_deferred s.deferred) c.position-position.ensures)
     [] (sym (ap (λ o. unwrap_or o []) c.in_default-take.is) ∙ c.take.ensures.taken ∙ ap (deferred_in s.deferred) c.position-position.ensures) refl
 
@@ -29,7 +29,7 @@ pub returns-clause-gave : goal.returns-clause-gave
 returns-clause-gave g c =
     let oracle = g.D.SourceDatabase.oracle c.args.db.now in
     let s : State = state_of c.args.collector.now c.args.session.now in
-    let site = site_of c.args.site in
+    let site = site_of c.args.site.now in
     let numbered = session_of c.number_adt.new.session in
     let session = session_of c.give_impls.new.session in
     let m = map_state c.give_impls.new.def_map in

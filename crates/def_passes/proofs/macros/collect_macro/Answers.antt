@@ -11,6 +11,6 @@ returns-clause-handled g c = λ kind.
     let before : State = state_of c.args.collector.now c.args.session.now in
     let kept : State = record before { session = session_of c.number_macro.new.session } in
     let told : State = record kept { diagnostics = c.report_macro.new.diagnostics.items } in
-    handled_item oracle before _ told (session_of c.number_macro.new.session) (site_of c.args.site) c.args.node.now c.args.written.name c.in_ok-item.item
+    handled_item oracle before _ told (session_of c.number_macro.new.session) (site_of c.args.site.now) c.args.node.now c.args.written.name c.in_ok-item.item
     c.number_macro.ensures.session (c.in_ok-report_macro.ensures kept) c.args.written.visibility.now c.resolve_visibility-vis.result kind c.resolve_visibility-vis.ensures c.in_ok-item.ensures.item
     (c.in_ok-define_macro.ensures oracle told)

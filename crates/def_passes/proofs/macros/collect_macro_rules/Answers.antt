@@ -11,5 +11,5 @@ returns-clause-handled g c = λ kind.
     let before : State = state_of c.args.collector.now c.args.session.now in
     let kept : State = record before { session = session_of c.number_macro_rules.new.session } in
     let told : State = record kept { diagnostics = c.report_macro.new.diagnostics.items } in
-    handled_rules oracle before _ told (session_of c.number_macro_rules.new.session) (site_of c.args.site) c.args.node.now c.args.name c.in_ok-item.item
+    handled_rules oracle before _ told (session_of c.number_macro_rules.new.session) (site_of c.args.site.now) c.args.node.now c.args.name c.in_ok-item.item
     c.number_macro_rules.ensures.session (c.in_ok-report_macro.ensures kept) kind c.in_ok-item.ensures.rules (c.in_ok-define_macro_rules.ensures oracle told)

@@ -15,7 +15,7 @@ pub returns-in_default-clause-done : goal.returns-in_default-clause-done
 returns-in_default-clause-done g c =
     let session = c.args.session.now in
     let before : State = state_of c.args.collector.now session in
-    let site = site_of c.args.item.site in
+    let site = site_of c.args.item.site.now in
     inline_too_deep (g.D.SourceDatabase.oracle c.args.db.now) before (state_of c.push_module.new.collector session) site c.args.item.name c.args.item.vis (origin.Inline c.args.item.node.now.ast_id site.tree) (is_macro_use (attrs_of c.args.item.node.now.attrs)) c.args.children.now _
     (subst (IsPushed before (state_of c.push_module.new.collector session) site c.args.item.name c.args.item.vis) c.inline_origin.ensures (c.in_ok-child.ensures.added session))
     (sym c.in_default.is ∙ c.in_ok-dir.ensures ∙ ap (λ text. descend site.directory text (text_in c.path_attr.result)) c.name_text-text.ensures
@@ -25,7 +25,7 @@ pub returns-clause-done : goal.returns-clause-done
 returns-clause-done g c =
     let session = c.args.session.now in
     let before : State = state_of c.args.collector.now session in
-    let site = site_of c.args.item.site in
+    let site = site_of c.args.item.site.now in
     inline_opened (g.D.SourceDatabase.oracle c.args.db.now) before (state_of c.push_module.new.collector session) site c.args.item.name c.args.item.vis (origin.Inline c.args.item.node.now.ast_id site.tree) (is_macro_use (attrs_of c.args.item.node.now.attrs)) c.args.children.now _
     (subst (IsPushed before (state_of c.push_module.new.collector session) site c.args.item.name c.args.item.vis) c.inline_origin.ensures (c.in_ok-child.ensures.added session))
     c.in_ok-child.child c.in-Some.dir (λ m. behind m c.into_if.result) (c.in_ok-child.ensures.child session)

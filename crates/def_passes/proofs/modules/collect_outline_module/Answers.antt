@@ -15,7 +15,7 @@ returns-in_ok-push_module-in-Err-clause-done g c =
     let oracle = g.D.SourceDatabase.oracle c.args.db.now in
     let before : State = state_of c.args.collector.now session in
     let told : State = record before { diagnostics = c.report.new.diagnostics.items } in
-    let site = site_of c.args.item.site in
+    let site = site_of c.args.item.site.now in
     file_missing oracle before (state_of c.push_module.new.collector session) site c.args.item.node.now c.args.item.name c.args.item.vis
     (resolve_declaration (files_of oracle) site.tree.file site.directory (name_text (session_of session) c.args.item.name) _)
     c.in_ok-candidates-in-Err.candidates told

@@ -1,4 +1,4 @@
-use Rattle.std.proofs.Common.{[], ◌∷◌, ◌++◌, append-nil, subst}
+use Rattle.std.proofs.Common.{[], ◌∷◌, ◌++◌, append-nil, refl, subst}
 use Rattle.def_passes.specs.Collector.{state_of}
 use Rattle.def_passes.specs.Walk.{inner_of, list_tasks}
 use Rattle.def_interner.specs.Session.{session_of}
@@ -10,6 +10,9 @@ use Rattle.def_laws.specs.Runs.{Leads}
 use Rattle.def_rules.specs.State.{State, Visit}
 use Rattle.def_passes.proofs.stack.walk_item.Goals as goal
 
+pub visit-requires : goal.visit-requires
+visit-requires g c = record { list = c.requires; empty = refl }
+
 pub returns-in-Some-clause-run : goal.returns-in-Some-clause-run
 returns-in-Some-clause-run g c = on_ok c.walk.result c.walk.ensures.run (λ walked.
     let oracle = g.D.SourceDatabase.oracle c.args.db.now in
@@ -18,7 +21,7 @@ returns-in-Some-clause-run g c = on_ok c.walk.result c.walk.ensures.run (λ walk
     let tasks = list_tasks oracle c.in-Some.opened in
     let first : Leads oracle (Visit (list_site c.args.list.now) c.args.id ∷ []) s tasks visited =
     subst (λ ts. Leads oracle (Visit (list_site c.args.list.now) c.args.id ∷ []) s ts visited) (append-nil tasks)
-    (subst (λ o. Leads oracle (Visit (list_site c.args.list.now) c.args.id ∷ []) s (inner_of oracle o ++ []) visited) c.in-Some.is (c.in_ok-opened.ensures.run [])) in
+    (subst (λ o. Leads oracle (Visit (list_site c.args.list.now) c.args.id ∷ []) s (inner_of oracle o ++ []) visited) c.in-Some.is (c.in_ok-visit.ensures.run [])) in
     leads_trans first walked)
 
 pub returns-in-Some-clause-session : goal.returns-in-Some-clause-session
@@ -29,4 +32,4 @@ pub returns-in-None-clause-run : goal.returns-in-None-clause-run
 returns-in-None-clause-run g c =
     let oracle = g.D.SourceDatabase.oracle c.args.db.now in
     let s : State = state_of c.args.collector.now c.args.session.now in
-    subst (λ o. Leads oracle (Visit (list_site c.args.list.now) c.args.id ∷ []) s (inner_of oracle o ++ []) (state_of c.visit.new.collector c.visit.new.session)) c.in-None.is (c.in_ok-opened.ensures.run [])
+    subst (λ o. Leads oracle (Visit (list_site c.args.list.now) c.args.id ∷ []) s (inner_of oracle o ++ []) (state_of c.visit.new.collector c.visit.new.session)) c.in-None.is (c.in_ok-visit.ensures.run [])

@@ -1,9 +1,9 @@
-use Rattle.std.proofs.Common.{None, Some, subst, arith}
+use Rattle.std.proofs.Common.{None, arith, refl, sym, ◌∙◌}
+use Rattle.std.proofs.option.Match.{None-if_not_some}
 use Rattle.def_interner.specs.Session.{session_of}
 use Rattle.def_interner.specs.SessionLaws.{adds_refl, adds_trans}
 use Rattle.def_laws.proofs.StepsLaws.{leads_refl, leads_trans}
 use Rattle.def_passes.specs.Collector.{state_of}
-use Rattle.def_passes.specs.Walk.{AreKnown}
 use Rattle.def_passes.proofs.VisitLemmas.{none_left, shorter, visited, visited_fewer, visited_within}
 use Rattle.def_passes.proofs.stack.walk_list.Goals as goal
 
@@ -13,42 +13,45 @@ items-init g c = record {
   fewer = omega arith;
   known = c.requires;
   adds = adds_refl (session_of c.args.session.now);
+  empty = refl;
 }
 
 pub visit-requires : goal.visit-requires
-visit-requires g c = c.items.invariant.known
+visit-requires g c = record { list = c.items.invariant.known; empty = c.items.invariant.empty }
 
-pub returns-in_err-opened-clause-session : goal.returns-in_err-opened-clause-session
-returns-in_err-opened-clause-session g c = adds_trans (session_of c.args.session.now) (session_of c.items.session) (session_of c.visit.new.session) c.items.invariant.adds c.visit.ensures.session
+pub returns-in_err-visit-clause-session : goal.returns-in_err-visit-clause-session
+returns-in_err-visit-clause-session g c = adds_trans (session_of c.args.session.now) (session_of c.items.session) (session_of c.visit.new.session) c.items.invariant.adds c.visit.ensures.session
 
-pub returns-in-Some-opened-clause-run : goal.returns-in-Some-opened-clause-run
-returns-in-Some-opened-clause-run g c rest =
+pub returns-then-is_some-clause-run : goal.returns-then-is_some-clause-run
+returns-then-is_some-clause-run g c rest =
     leads_trans (c.items.invariant.run rest)
     (visited (g.D.SourceDatabase.oracle c.args.db.now) c.items.frame c.in-Some.id c.in-Some.ensures.item (state_of c.items.collector c.items.session) (state_of c.visit.new.collector c.visit.new.session)
-    c.in_ok-opened.opened (Some c.in-Some-opened.list) c.in-Some-opened.is c.in_ok-opened.ensures.run rest)
+    c.visit.new.opened c.visit.new.opened refl c.in_ok-visit.ensures.run rest)
 
-pub returns-in-Some-opened-clause-fewer : goal.returns-in-Some-opened-clause-fewer
-returns-in-Some-opened-clause-fewer g c some =
+pub returns-then-is_some-clause-fewer : goal.returns-then-is_some-clause-fewer
+returns-then-is_some-clause-fewer g c some =
     visited_fewer (g.D.SourceDatabase.oracle c.args.db.now) c.items.frame c.in-Some.id c.in-Some.ensures.item
-    c.in_ok-opened.opened (Some c.in-Some-opened.list) _ c.in-Some-opened.is c.items.invariant.fewer c.in_ok-opened.ensures.fewer
+    c.visit.new.opened c.visit.new.opened _ refl c.items.invariant.fewer c.in_ok-visit.ensures.fewer
 
-pub returns-in-Some-opened-clause-known : goal.returns-in-Some-opened-clause-known
-returns-in-Some-opened-clause-known g c =
-    (subst (AreKnown (g.D.SourceDatabase.oracle c.args.db.now)) c.in-Some-opened.is c.in_ok-opened.ensures.known, c.items.invariant.known)
+pub returns-then-is_some-clause-known : goal.returns-then-is_some-clause-known
+returns-then-is_some-clause-known g c =
+    (c.in_ok-visit.ensures.known, c.items.invariant.known)
 
-pub returns-in-Some-opened-clause-session : goal.returns-in-Some-opened-clause-session
-returns-in-Some-opened-clause-session g c = adds_trans (session_of c.args.session.now) (session_of c.items.session) (session_of c.visit.new.session) c.items.invariant.adds c.visit.ensures.session
+pub returns-then-is_some-clause-session : goal.returns-then-is_some-clause-session
+returns-then-is_some-clause-session g c = adds_trans (session_of c.args.session.now) (session_of c.items.session) (session_of c.visit.new.session) c.items.invariant.adds c.visit.ensures.session
 
 pub items-preserved : goal.items-preserved
 items-preserved g c =
     let oracle = g.D.SourceDatabase.oracle c.args.db.now in
+    let none = None-if_not_some c.visit.new.opened (sym c.is_some.ensures ∙ c.if-is_some.false) in
     record {
       run = λ rest. leads_trans (c.items.invariant.run rest)
           (visited oracle c.items.frame c.in-Some.id c.in-Some.ensures.item (state_of c.items.collector c.items.session) (state_of c.visit.new.collector c.visit.new.session)
-          c.in_ok-opened.opened None c.in_default-opened.is c.in_ok-opened.ensures.run rest);
+          c.visit.new.opened None none c.in_ok-visit.ensures.run rest);
       fewer = visited_within oracle c.items.frame c.in-Some.id c.in-Some.ensures.item _ c.items.invariant.fewer;
       known = c.items.invariant.known;
       adds = adds_trans (session_of c.args.session.now) (session_of c.items.session) (session_of c.visit.new.session) c.items.invariant.adds c.visit.ensures.session;
+      empty = none;
     }
 
 pub items-smaller : goal.items-smaller

@@ -1,4 +1,4 @@
-use Rattle.std.proofs.Common.{◌≤◌, ◌++◌, List, length}
+use Rattle.std.proofs.Common.{◌≡◌, ◌≤◌, ◌++◌, List, None, length}
 use Rattle.def_interner.specs.Session.{AddsLocations, session_of}
 use Rattle.def_passes.specs.Collector.{state_of}
 use Rattle.def_passes.specs.Walk.{frame_tasks, is_frame_known}
@@ -16,6 +16,7 @@ invariant-items g l =
       fewer : work (frame_tasks l.frame) ≤ work (frame_tasks l.fn.frame);
       known : is_frame_known oracle l.frame;
       adds : AddsLocations (session_of l.fn.session) (session_of l.session);
+      empty : l.opened ≡ None;
     }
 
 abbrev pub decreases-items : goal.decreases-items

@@ -12,14 +12,14 @@ pub returns-in_ok-put_crate-in-Some : goal.returns-in_ok-put_crate-in-Some
 returns-in_ok-put_crate-in-Some c = λ oracle session.
     let item = c.args.item in
     let after : State = state_of c.put_crate.new.self session in
-    let effect : Option ModuleId → Effect = λ root. crate_effect (state_of c.args.self.now session) (site_of item.site) item.node.now item.id item.name item.vis c.args.brought.now root in
+    let effect : Option ModuleId → Effect = λ root. crate_effect (state_of c.args.self.now session) (site_of item.site.now) item.node.now item.id item.name item.vis c.args.brought.now root in
     subst (λ root. Performs oracle (effect root).tasks (effect root).state after) (sym c.in-Some.is)
-    (performs_updated item.site.module_id (crate_entry item.id item.name c.in-Some.root item.vis ∷ []) (effect (Some c.in-Some.root)).state after (c.in_ok-put_crate-in-Some.ensures session))
+    (performs_updated item.site.now.module_id (crate_entry item.id item.name c.in-Some.root item.vis ∷ []) (effect (Some c.in-Some.root)).state after (c.in_ok-put_crate-in-Some.ensures session))
 
 pub returns-in_ok-miss_crate-in-None : goal.returns-in_ok-miss_crate-in-None
 returns-in_ok-miss_crate-in-None c = λ oracle session.
     let item = c.args.item in
     let after : State = state_of c.miss_crate.new.self session in
-    let effect : Option ModuleId → Effect = λ root. crate_effect (state_of c.args.self.now session) (site_of item.site) item.node.now item.id item.name item.vis c.args.brought.now root in
+    let effect : Option ModuleId → Effect = λ root. crate_effect (state_of c.args.self.now session) (site_of item.site.now) item.node.now item.id item.name item.vis c.args.brought.now root in
     subst (λ root. Performs oracle (effect root).tasks (effect root).state after) (sym c.in-None.is)
     (subst (λ u. Performs oracle [] (effect None).state u) (sym (c.in_ok-miss_crate-in-None.ensures session)) (performs_none (effect None).state))

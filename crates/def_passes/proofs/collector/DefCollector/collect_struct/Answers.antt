@@ -9,6 +9,6 @@ pub returns-clause-handled : goal.returns-clause-handled
 returns-clause-handled g c = λ kind.
     let oracle = g.D.SourceDatabase.oracle c.args.db.now in
     let before : State = state_of c.args.self.now c.args.session.now in
-    handled_struct oracle before _ (session_of c.intern.new.session) (site_of c.args.site) c.args.node.now _ _ _ c.in_ok-id.id.0 c.position.result c.resolve_visibility.result c.constructor_visibility-ctor_vis.result
+    handled_struct oracle before _ (session_of c.intern.new.session) (site_of c.args.site.now) c.args.node.now _ _ _ c.in_ok-id.id.0 c.position.result c.resolve_visibility.result c.constructor_visibility-ctor_vis.result
     kind c.in_ok-id.ensures.adds c.position.ensures c.in_ok-id.ensures.shown c.resolve_visibility.ensures c.constructor_visibility-ctor_vis.ensures
     (c.in_ok-define_struct.ensures oracle (state_of c.args.self.now c.intern.new.session))

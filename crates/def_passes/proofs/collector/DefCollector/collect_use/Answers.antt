@@ -13,9 +13,9 @@ returns-clause-handled c = λ oracle kind.
     let before : State = state_of c.args.self.now c.args.session.now in
     let unresolved : List ImportDirective = directives_in c.args.self.now.unresolved_imports.items in
     let indeterminate : List ImportDirective = directives_in c.args.self.now.indeterminate_imports.items in
-    let new : List ImportDirective = imports_at c.args.site.module_id c.position-position.result c.in_ok-use_id.use_id.0 c.args.visibility.now c.is_prelude_import.result c.args.imports.now in
-    let queued = c.in_ok-queue_imports.ensures ∙ ap (λ l. unresolved ++ imports_at c.args.site.module_id c.position-position.result c.in_ok-use_id.use_id.0 c.args.visibility.now c.is_prelude_import.result l) c.as_slice.ensures in
-    handled_use oracle before _ (session_of c.intern.new.session) (site_of c.args.site) c.args.node.now _ _ c.in_ok-use_id.use_id.0 c.position-position.result c.is_prelude_import.result
+    let new : List ImportDirective = imports_at c.args.site.now.module_id c.position-position.result c.in_ok-use_id.use_id.0 c.args.visibility.now c.is_prelude_import.result c.args.imports.now in
+    let queued = c.in_ok-queue_imports.ensures ∙ ap (λ l. unresolved ++ imports_at c.args.site.now.module_id c.position-position.result c.in_ok-use_id.use_id.0 c.args.visibility.now c.is_prelude_import.result l) c.as_slice.ensures in
+    handled_use oracle before _ (session_of c.intern.new.session) (site_of c.args.site.now) c.args.node.now _ _ c.in_ok-use_id.use_id.0 c.position-position.result c.is_prelude_import.result
     kind c.in_ok-use_id.ensures.adds c.position-position.ensures c.is_prelude_import.ensures c.in_ok-use_id.ensures.shown
     (record {
       imports = subst (λ l. IsPermutation ((unresolved ++ indeterminate) ++ new) (l ++ indeterminate)) (sym queued) (appended_in unresolved indeterminate new);

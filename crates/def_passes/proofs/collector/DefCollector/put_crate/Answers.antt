@@ -15,8 +15,8 @@ returns c = λ session.
     let after : State = state_of c.put.new.self session in
     let before : State = state_of c.args.self.now session in
     let named : State = with_local before (local_view c.name_crate.new.local) in
-    subst (λ u. Updated item.site.module_id (crate_entry item.id item.name c.args.root item.vis ∷ []) u after)
+    subst (λ u. Updated item.site.now.module_id (crate_entry item.id item.name c.args.root item.vis ∷ []) u after)
     (c.in_ok-take_at_root.ensures named
     ∙ ap (λ b. taking_macros b c.args.brought.now named) c.is_crate_root.ensures
-    ∙ ap (taking_macros (items.is_crate_root item.site.module_id) c.args.brought.now) (c.in_ok-name_crate.ensures before))
+    ∙ ap (taking_macros (items.is_crate_root item.site.now.module_id) c.args.brought.now) (c.in_ok-name_crate.ensures before))
     (c.in_ok-put.ensures.updated session)
