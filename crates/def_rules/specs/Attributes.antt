@@ -1,5 +1,5 @@
 -- Attributes of items: which one an item waits for, and what its macro does with the item.
-use Rattle.std.specs.Prelude.{Bool, true, false, cond, nat_eq, nat_lt, ◌==◌, ◌&&◌, ◌||◌, List, [], ◌∷◌, ◌++◌, Option, None, Some}
+use Rattle.std.specs.Prelude.{Bool, false, cond, nat_eq, nat_lt, ◌==◌, ◌&&◌, ◌||◌, List, [], ◌∷◌, ◌++◌, Option, None, Some}
 use Rattle.item_tree.specs.declared.attrs.Attr.{Attr}
 use Rattle.tree_ids.specs.declared.ids.AttrId.{AttrId}
 use Rattle.tree_ids.specs.declared.ids.Crate.{Crate}

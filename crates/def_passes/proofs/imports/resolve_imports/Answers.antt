@@ -1,4 +1,4 @@
-use Rattle.std.proofs.Common.{◌≡◌, ◌<◌, ◌||◌, [], true, false, Bool, refl, ap, sym, subst, ◌∙◌}
+use Rattle.std.proofs.Common.{◌<◌, ◌||◌, [], true, false, ap, sym, subst, ◌∙◌}
 use Rattle.def_passes.specs.Collector.{state_of}
 use Rattle.def_laws.specs.Turns.{turns_left}
 use Rattle.def_laws.specs.Runs.{Leads}
