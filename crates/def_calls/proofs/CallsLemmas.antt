@@ -16,7 +16,7 @@ use Rattle.def_bindings.specs.Content.{Content}
 use Rattle.def_map.specs.Paths.{macro_named, scope}
 use Rattle.def_map.specs.Sources.{World, finished_map}
 use Rattle.def_modules.specs.MapView.{MapView}
-use Rattle.def_paths.specs.Items.{macro_of_def}
+use Rattle.def_sources.specs.Items.{macro_of_def}
 use Rattle.def_rules.specs.Calls.{textual_among, textual_macro}
 
 module _ (w : World) (name : Name) where

@@ -2,7 +2,7 @@
 ghost use Rattle.def_map.specs.Asking.{world_lent};
 ghost use Rattle.def_modules.specs.Tables.{bound_by};
 ghost use Rattle.def_map.specs.Paths.{resolver};
-ghost use Rattle.def_paths.specs.declared.asked.BuiltinShadowMode.TheVariants as shadow;
+ghost use Rattle.def_sources.specs.declared.asked.BuiltinShadowMode.TheVariants as shadow;
 
 use def_ids::{Def, ModuleId};
 use def_interner::MacroDefId;

@@ -26,7 +26,7 @@ use Rattle.def_bindings.specs.Puts.{held, lessened, slot_for, slot_of, unnamed_b
 use Rattle.def_oracle.specs.declared.source_database.EnumVariant.{EnumVariant}
 use Rattle.def_paths.specs.Answers.{variant_found}
 use Rattle.def_modules.specs.MapView.{MapView}
-use Rattle.def_paths.specs.PerNs.{Item, kept}
+use Rattle.def_sources.specs.PerNs.{Item, kept}
 use Rattle.def_globs.proofs.ListLaws.{first_in, none_in, only_in, in_cases}
 use Rattle.def_globs.specs.Raised.{HasOneDef, ListsCarried}
 use Rattle.def_globs.specs.Waves.{ListsAll, slots_of}

@@ -23,7 +23,7 @@ use Rattle.def_modules.specs.Equality.{position_eq}
 use Rattle.def_oracle.specs.declared.source_database.CallAnswer.{CallAnswer}
 use Rattle.def_oracle.specs.declared.source_database.UnresolvedMacro.{UnresolvedMacro}
 use Rattle.def_oracle.specs.Oracle.{Oracle}
-use Rattle.def_paths.specs.declared.asked.ResolvePathResult.{ResolvePathResult}
+use Rattle.def_paths.specs.declared.path_result.ResolvePathResult.{ResolvePathResult}
 use Rattle.def_globs.proofs.ListLaws.{first_in, in_cases, later_in, none_in, only_in}
 use Rattle.def_rules.specs.declared.deferred.DeferredDerive.{DeferredDerive}
 use Rattle.def_rules.specs.declared.diagnostics.DefDiagnosticKind.{DefDiagnosticKind}

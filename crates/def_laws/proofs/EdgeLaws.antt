@@ -21,7 +21,7 @@ use Rattle.def_bindings.specs.IdLaws.{same_map_itself}
 use Rattle.def_bindings.specs.Puts.{held, slot_for, slot_of}
 use Rattle.def_oracle.specs.Oracle.{Oracle}
 use Rattle.def_paths.specs.Paths.{map_of}
-use Rattle.def_paths.specs.Sources.{finished_map}
+use Rattle.def_sources.specs.Sources.{finished_map}
 use Rattle.def_globs.specs.Globs.{with_recorded}
 use Rattle.def_globs.proofs.AddingLaws.{adding_raised}
 use Rattle.def_globs.proofs.ListLaws.{first_in}

@@ -16,10 +16,10 @@ use Rattle.def_bindings.specs.Closure.{IsBound}
 use Rattle.def_bindings.specs.Content.{Content}
 use Rattle.def_bindings.specs.Puts.{glob_of, put_entry}
 use Rattle.def_bindings.specs.PutsLaws.{bound_stays-copied}
-use Rattle.def_paths.specs.declared.asked.ResolvePathResult.{ResolvePathResult}
-use Rattle.def_paths.specs.declared.per_ns.PerNs.{PerNs}
+use Rattle.def_paths.specs.declared.path_result.ResolvePathResult.{ResolvePathResult}
+use Rattle.def_sources.specs.declared.per_ns.PerNs.{PerNs}
 use Rattle.def_oracle.specs.Oracle.{Oracle}
-use Rattle.def_paths.specs.PerNs.{in_namespace}
+use Rattle.def_sources.specs.PerNs.{in_namespace}
 use Rattle.def_globs.specs.Globs.{with_recorded}
 use Rattle.def_rules.specs.Imports.{answer_now, given_set, is_extended, is_foreign, is_full, is_missing}
 use Rattle.def_rules.specs.Recording.{ImportStep, NoneReady, after_import}

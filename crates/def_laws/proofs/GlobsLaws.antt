@@ -11,7 +11,7 @@ use Rattle.def_ids.specs.declared.ids.ModuleId.{ModuleId}
 use Rattle.def_bindings.specs.declared.bindings.EdgeTo.{EdgeTo}
 use Rattle.def_bindings.specs.declared.bindings.Entry.{Entry}
 use Rattle.def_bindings.specs.declared.visibility.Visibility.{Visibility}
-use Rattle.def_paths.specs.declared.asked.ResolvePathResult.{ResolvePathResult}
+use Rattle.def_paths.specs.declared.path_result.ResolvePathResult.{ResolvePathResult}
 use Rattle.def_oracle.specs.Oracle.{Oracle}
 use Rattle.def_paths.specs.Paths.{map_of}
 use Rattle.def_globs.specs.Globs.{with_recorded}

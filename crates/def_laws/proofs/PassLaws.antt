@@ -26,8 +26,8 @@ use Rattle.def_modules.specs.Updates.{update_at}
 use Rattle.def_oracle.specs.declared.source_database.CallAnswer.{CallAnswer}
 use Rattle.def_oracle.specs.declared.source_database.UnresolvedMacro.{UnresolvedMacro}
 use Rattle.def_oracle.specs.Oracle.{Oracle}
-use Rattle.def_paths.specs.declared.asked.BuiltinShadowMode.TheVariants as shadow
-use Rattle.def_paths.specs.declared.per_ns.MacroSubNs.TheVariants as sub
+use Rattle.def_sources.specs.declared.asked.BuiltinShadowMode.TheVariants as shadow
+use Rattle.def_sources.specs.declared.per_ns.MacroSubNs.TheVariants as sub
 use Rattle.def_paths.specs.Paths.{for_import, resolve, resolver}
 use Rattle.def_globs.proofs.ListLaws.{first_in, later_in}
 use Rattle.def_rules.specs.Calls.{answer_by, deeper, deepest, expansion_effect, expansion_site, expansion_tree, invoking, is_too_deep, with_invocations, with_replaced}

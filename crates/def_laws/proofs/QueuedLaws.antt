@@ -30,10 +30,10 @@ use Rattle.def_oracle.specs.declared.source_database.CallAnswer.{CallAnswer}
 use Rattle.def_oracle.specs.declared.source_database.UnresolvedMacro.{UnresolvedMacro}
 use Rattle.def_oracle.specs.Oracle.{Oracle}
 use Rattle.def_readings.specs.Directories.{Directory, FoundFile, descend}
-use Rattle.def_paths.specs.declared.asked.ResolvePathResult.{ResolvePathResult}
+use Rattle.def_paths.specs.declared.path_result.ResolvePathResult.{ResolvePathResult}
 use Rattle.def_paths.specs.Answers.{variants_of}
 use Rattle.def_paths.specs.Paths.{for_import, map_of, question}
-use Rattle.def_paths.specs.Sources.{World}
+use Rattle.def_sources.specs.Sources.{World}
 use Rattle.def_globs.proofs.ListLaws.{none_in, only_in}
 use Rattle.def_rules.specs.Calls.{answered_effect, deepest, expansion_at, expansion_effect, expansion_site, expansion_tree, queued, told_effect, waiting, with_invocations, with_replaced}
 use Rattle.def_rules.specs.Crates.{tree_attrs}

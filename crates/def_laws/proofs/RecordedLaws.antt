@@ -12,9 +12,9 @@ use Rattle.def_bindings.specs.declared.bindings.Namespace.TheVariants.{Types, Va
 use Rattle.def_bindings.specs.declared.visibility.Visibility.{Visibility}
 use Rattle.def_bindings.specs.Content.{Content}
 use Rattle.def_bindings.specs.Order.{Order}
-use Rattle.def_paths.specs.declared.asked.ResolvePathResult.{ResolvePathResult}
+use Rattle.def_paths.specs.declared.path_result.ResolvePathResult.{ResolvePathResult}
 use Rattle.def_oracle.specs.Oracle.{Oracle}
-use Rattle.def_paths.specs.PerNs.{Item}
+use Rattle.def_sources.specs.PerNs.{Item}
 use Rattle.def_rules.specs.Globs.{is_public}
 use Rattle.def_rules.specs.Imports.{bound_name, entry_of, given_set, is_foreign, is_full, keeps_ns, kept_after, kept_item, import_vis, name_by, named_entries, reexported, taken_types, union}
 use Rattle.def_rules.specs.Recording.{kept_list, record_tasks}

@@ -9,7 +9,7 @@ use Rattle.item_tree.specs.declared.tree.ItemTree.{ItemTree}
 use Rattle.item_tree.specs.Attrs.{attrs_in, cfg_in}
 use Rattle.item_tree.specs.declared.mod_path.ModPath.{ModPath}
 use Rattle.def_ids.specs.declared.ids.ModuleId.{ModuleId}
-use Rattle.def_paths.specs.declared.per_ns.PerNs.{PerNs}
+use Rattle.def_sources.specs.declared.per_ns.PerNs.{PerNs}
 use Rattle.def_modules.specs.MapState.{MapState}
 use Rattle.def_modules.specs.MapView.{LocalView}
 use Rattle.def_oracle.specs.Oracle.{Oracle}

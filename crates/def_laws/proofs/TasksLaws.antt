@@ -17,12 +17,12 @@ use Rattle.def_bindings.specs.declared.bindings.Namespace.{Namespace}
 use Rattle.def_bindings.specs.declared.bindings.Namespace.TheVariants.{Types, Values, Macros}
 use Rattle.def_bindings.specs.declared.visibility.Visibility.{Visibility}
 use Rattle.def_bindings.specs.Order.{Order}
-use Rattle.def_paths.specs.declared.asked.ResolvePathResult.{ResolvePathResult}
+use Rattle.def_paths.specs.declared.path_result.ResolvePathResult.{ResolvePathResult}
 use Rattle.def_bindings.specs.Puts.{lessened}
 use Rattle.def_oracle.specs.Oracle.{Oracle}
 use Rattle.def_paths.specs.Answers.{variants_of}
 use Rattle.def_paths.specs.Paths.{for_import, map_of, question}
-use Rattle.def_paths.specs.PerNs.{Item}
+use Rattle.def_sources.specs.PerNs.{Item}
 use Rattle.def_globs.proofs.ListLaws.{none_in, only_in}
 use Rattle.def_laws.specs.Followed.{AreFollowed}
 use Rattle.def_laws.specs.Own.{AreOwn, AreOwnTasks, IsOwn}

@@ -10,9 +10,9 @@ use Rattle.def_bindings.specs.declared.visibility.Visibility.TheVariants.{Public
 use Rattle.def_map.specs.declared.block.BlockInfo.{BlockInfo}
 use Rattle.def_map.specs.DefMaps.{seeded}
 use Rattle.def_seed.specs.Fresh.{known_tools}
-use Rattle.def_paths.specs.Items.{public_item}
+use Rattle.def_sources.specs.Items.{public_item}
 use Rattle.def_map.specs.ItemScopes.{resolutions_from, unnamed_from}
-use Rattle.def_paths.specs.PerNs.{Item, in_types}
+use Rattle.def_sources.specs.PerNs.{Item, in_types}
 
 -- a crate's map stands in no module, and knows the tools that need no declaration
 seeded_crate : ((seeded (record { 0 = 1 }) Edition2015 None).id ≡ record { krate = record { 0 = 1 }; block = None }) × ((seeded (record { 0 = 1 }) Edition2015 None).containing ≡ [])

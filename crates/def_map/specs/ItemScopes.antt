@@ -8,10 +8,10 @@ use Rattle.def_bindings.specs.Tree.{module_of}
 use Rattle.def_bindings.specs.declared.visibility.Visibility.{Visibility}
 use Rattle.def_map.specs.declared.def_map.DefMap.{DefMap}
 use Rattle.def_map.specs.declared.item_scope.ItemScope.{ItemScope}
-use Rattle.def_paths.specs.declared.per_ns.PerNs.{PerNs}
+use Rattle.def_sources.specs.declared.per_ns.PerNs.{PerNs}
 use Rattle.def_map.specs.DefMaps.{state_of, content_of}
 use Rattle.def_modules.specs.MapState.{ModuleState}
-use Rattle.def_paths.specs.PerNs.{per_namespace}
+use Rattle.def_sources.specs.PerNs.{per_namespace}
 use Rattle.def_modules.specs.Scopes.{module_state}
 use Rattle.def_modules.specs.Tables.{bound_by}
 

@@ -14,11 +14,11 @@ pub use Rattle.def_seed.specs.Fresh
 pub use Rattle.def_seed.specs.Seeds
 pub use Rattle.def_oracle.specs.Queries
 pub use Rattle.def_oracle.specs.Oracle
-pub use Rattle.def_paths.specs.PerNs
-pub use Rattle.def_paths.specs.Items
-pub use Rattle.def_paths.specs.Sources
-pub use Rattle.def_paths.specs.Asking
+pub use Rattle.def_sources.specs.PerNs
+pub use Rattle.def_sources.specs.Items
+pub use Rattle.def_sources.specs.Sources
+pub use Rattle.def_sources.specs.Asking
 pub use Rattle.def_paths.specs.Answers
 pub use Rattle.def_paths.specs.OuterMaps
-pub use Rattle.def_paths.specs.Modes
+pub use Rattle.def_sources.specs.Modes
 pub use Rattle.def_paths.specs.Paths

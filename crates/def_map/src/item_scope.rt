@@ -134,8 +134,8 @@ impl<'a> Model for Resolutions<'a> {
     ghost use Rattle.std.specs.Coded.{coded_list, coded×};
     ghost use Rattle.tree_ids.specs.declared.name.Name.{Name};
     ghost use Rattle.tree_ids.specs.contracts.name.Name as name;
-    ghost use Rattle.def_paths.specs.declared.per_ns.PerNs.{PerNs};
-    ghost use Rattle.def_paths.specs.contracts.per_ns.PerNs as per_ns;
+    ghost use Rattle.def_sources.specs.declared.per_ns.PerNs.{PerNs};
+    ghost use Rattle.def_sources.specs.contracts.per_ns.PerNs as per_ns;
 
     ghost Value = { List (Name × PerNs) };
 

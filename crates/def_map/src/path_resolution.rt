@@ -3,11 +3,11 @@ ghost use Rattle.std.specs.Prelude.{◌≡◌, option_map};
 ghost use Rattle.def_interner.specs.Session.{session_of};
 ghost use Rattle.def_map.specs.DefMaps.{view_of};
 ghost use Rattle.def_modules.specs.Locals.{local_view};
-ghost use Rattle.def_paths.specs.declared.asked.ResolveMode.TheVariants.{Other};
-ghost use Rattle.def_paths.specs.Asking.{map_with, world_lent};
-ghost use Rattle.def_paths.specs.Modes.{asked_by};
+ghost use Rattle.def_sources.specs.declared.asked.ResolveMode.TheVariants.{Other};
+ghost use Rattle.def_sources.specs.Asking.{map_with, world_lent};
+ghost use Rattle.def_sources.specs.Modes.{asked_by};
 ghost use Rattle.def_paths.specs.Paths.{for_module, module_found, resolve, resolve_visibility as visibility_of};
-ghost use Rattle.def_paths.specs.Sources.{world_of, finished_map as finished_map_of};
+ghost use Rattle.def_sources.specs.Sources.{world_of, finished_map as finished_map_of};
 
 use crate::def_map::DefMap;
 use crate::source_database::SourceDatabase;

@@ -32,7 +32,7 @@ use Rattle.def_laws.proofs.StepsLaws.{collects_refl, collects_sound, collects_tr
 use Rattle.def_calls.proofs.WaitingLemmas.{macros_all, macros_more}
 use Rattle.def_oracle.specs.declared.source_database.CallAnswer.{CallAnswer}
 use Rattle.def_oracle.specs.declared.source_database.UnresolvedMacro.{UnresolvedMacro}
-use Rattle.def_paths.specs.Sources.{World}
+use Rattle.def_sources.specs.Sources.{World}
 use Rattle.def_rules.specs.Report.{answer_report, kind_report, macro_report, with_macro_reports}
 
 -- Results and lists

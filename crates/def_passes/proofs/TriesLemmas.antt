@@ -3,7 +3,7 @@ use Rattle.std.proofs.Common.{◌≡◌, ◌<◌, ◌||◌, ℕ, Bool, false, tr
 use Rattle.std.proofs.lemmas.List.Elements.{All-contains, All-map, Contains-append_cases}
 use Rattle.std.proofs.lemmas.Option.{none-some, same_Some, slice_get-get_or, slice_get_within}
 use Rattle.def_interner.specs.declared.interner.Interner.{Interner}
-use Rattle.def_paths.specs.declared.asked.ResolvePathResult.{ResolvePathResult}
+use Rattle.def_paths.specs.declared.path_result.ResolvePathResult.{ResolvePathResult}
 use Rattle.def_map.specs.Oracle.{Oracle}
 use Rattle.def_passes.specs.declared.collector.DefCollector.{DefCollector}
 use Rattle.def_steps.specs.declared.directive.ImportDirective.{ImportDirective}

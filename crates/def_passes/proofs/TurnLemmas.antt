@@ -8,7 +8,7 @@ use Rattle.def_passes.specs.Passes.{HasLeft, IsAsked, IsWalked, OnlyAsked}
 use Rattle.def_oracle.specs.declared.source_database.CallAnswer.{CallAnswer}
 use Rattle.def_oracle.specs.declared.source_database.UnresolvedMacro.{UnresolvedMacro}
 use Rattle.def_map.specs.Oracle.{Oracle}
-use Rattle.def_paths.specs.Sources.{World}
+use Rattle.def_sources.specs.Sources.{World}
 use Rattle.def_rules.specs.Attributes.{AttrUse, attr_macro, attr_use, is_helper, item_site}
 use Rattle.def_rules.specs.Calls.{deepest}
 use Rattle.def_rules.specs.Derives.{derive_call, derive_macro, derived}

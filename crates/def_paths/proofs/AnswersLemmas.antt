@@ -7,20 +7,20 @@ use Rattle.item_tree.specs.declared.mod_path.ModPath.{ModPath}
 use Rattle.tree_ids.specs.declared.name.Name.{Name}
 use Rattle.def_ids.specs.declared.ids.ModuleId.{ModuleId}
 use Rattle.def_ids.specs.Ids.{is_same_map}
-use Rattle.def_paths.specs.declared.asked.PrefixInfo.{PrefixInfo}
-use Rattle.def_paths.specs.declared.asked.ReachedFixedPoint.{ReachedFixedPoint}
-use Rattle.def_paths.specs.declared.asked.ReachedFixedPoint.TheVariants.{Yes, No}
-use Rattle.def_paths.specs.declared.asked.ResolvePathResult.{ResolvePathResult}
-use Rattle.def_paths.specs.declared.per_ns.MacroSubNs.{MacroSubNs}
-use Rattle.def_paths.specs.declared.per_ns.PerNs.{PerNs}
+use Rattle.def_paths.specs.declared.path_result.PrefixInfo.{PrefixInfo}
+use Rattle.def_paths.specs.declared.path_result.ReachedFixedPoint.{ReachedFixedPoint}
+use Rattle.def_paths.specs.declared.path_result.ReachedFixedPoint.TheVariants.{Yes, No}
+use Rattle.def_paths.specs.declared.path_result.ResolvePathResult.{ResolvePathResult}
+use Rattle.def_sources.specs.declared.per_ns.MacroSubNs.{MacroSubNs}
+use Rattle.def_sources.specs.declared.per_ns.PerNs.{PerNs}
 use Rattle.def_paths.specs.Answers.{ended_at, missing, walk, step, is_elsewhere, answer_after, answer_from, leading, is_reached, joined, first_resolved}
 use Rattle.def_modules.specs.MapView.{MapView}
-use Rattle.def_paths.specs.Items.{is_fitting}
+use Rattle.def_sources.specs.Items.{is_fitting}
 use Rattle.def_paths.specs.OuterMaps.{is_alone, answer_outside, answers_outside}
-use Rattle.def_paths.specs.PerNs.{Item, in_types, otherwise, is_nothing}
+use Rattle.def_sources.specs.PerNs.{Item, in_types, otherwise, is_nothing}
 use Rattle.def_bindings.specs.declared.bindings.Namespace.TheVariants.{Types}
-use Rattle.def_paths.specs.Sources.{Question, first_found, found_in, by_sources, relative_sources}
-use Rattle.def_paths.proofs.SourcesLemmas.{option_or-none, option_or-or, per_namespace-equal}
+use Rattle.def_sources.specs.Sources.{Question, first_found, found_in, by_sources, relative_sources}
+use Rattle.def_sources.proofs.SourcesLemmas.{option_or-none, option_or-or, per_namespace-equal}
 
 -- what later segments mean depends on types alone
 walk-types : (q : Question) (own : MapView) (crossed : Bool) (a b : PerNs) (i : ℕ) (names : List Name)

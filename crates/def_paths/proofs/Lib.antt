@@ -1,4 +1,3 @@
-pub mod SourcesLemmas
 pub mod AnswersLemmas
 pub mod PathsFacts
 mod OuterPathsFacts

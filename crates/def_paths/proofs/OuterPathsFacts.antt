@@ -22,14 +22,14 @@ use Rattle.def_bindings.specs.declared.bindings.Namespace.{Namespace}
 use Rattle.def_bindings.specs.declared.bindings.Namespace.TheVariants.{Types, Values, Macros}
 use Rattle.def_bindings.specs.declared.visibility.Visibility.TheVariants.{Public}
 use Rattle.def_modules.specs.MapView.{MapView}
-use Rattle.def_paths.specs.declared.asked.BuiltinShadowMode.TheVariants as shadow
-use Rattle.def_paths.specs.declared.per_ns.MacroSubNs.TheVariants.{Bang, Attr}
+use Rattle.def_sources.specs.declared.asked.BuiltinShadowMode.TheVariants as shadow
+use Rattle.def_sources.specs.declared.per_ns.MacroSubNs.TheVariants.{Bang, Attr}
 use Rattle.def_oracle.specs.declared.source_database.EnumVariant.{EnumVariant}
 use Rattle.def_paths.specs.Answers.{missing, reached, leading}
-use Rattle.def_paths.specs.Items.{public_item, module_item, is_of_kind}
+use Rattle.def_sources.specs.Items.{public_item, module_item, is_of_kind}
 use Rattle.def_paths.specs.OuterMaps.{first_of_each_map, answers_outside}
 use Rattle.def_paths.specs.Paths.{World, question, for_macro, for_module, resolve, resolver}
-use Rattle.def_paths.specs.PerNs.{Item, in_types, nothing}
+use Rattle.def_sources.specs.PerNs.{Item, in_types, nothing}
 use Rattle.def_paths.proofs.PathsFacts.{oracle_with, in_crate, in_block, elsewhere, a_struct, path, name}
 
 -- modules of the block in which block 0 stands

@@ -14,14 +14,14 @@ use Rattle.def_ids.specs.Ids.{is_same_module}
 use Rattle.def_bindings.specs.declared.bindings.Namespace.{Namespace}
 use Rattle.def_bindings.specs.declared.bindings.Namespace.TheVariants.{Types, Values, Macros}
 use Rattle.def_bindings.specs.declared.visibility.Visibility.TheVariants as vis
-use Rattle.def_paths.specs.declared.asked.BuiltinShadowMode.TheVariants as shadow
-use Rattle.def_paths.specs.declared.asked.ResolveMode.TheVariants as mode
+use Rattle.def_sources.specs.declared.asked.BuiltinShadowMode.TheVariants as shadow
+use Rattle.def_sources.specs.declared.asked.ResolveMode.TheVariants as mode
 use Rattle.def_paths.specs.Answers.{missing, reached}
-use Rattle.def_paths.specs.Items.{public_item, module_item}
+use Rattle.def_sources.specs.Items.{public_item, module_item}
 use Rattle.def_modules.specs.MapView.{MapView}
 use Rattle.def_oracle.specs.Oracle.{Oracle}
 use Rattle.def_paths.specs.Paths.{World, asked_by, for_import, for_module, resolve, resolve_visibility}
-use Rattle.def_paths.specs.PerNs.{Item, in_types, nothing}
+use Rattle.def_sources.specs.PerNs.{Item, in_types, nothing}
 
 -- an oracle that knows the builtin type 9, number 5, a finished map of each crate, and nothing else
 abbrev pub oracle_with : MapView → Oracle

@@ -5,15 +5,15 @@ use Rattle.std.specs.Option.{option_map, option_map_or, option_or, option_and_th
 use Rattle.tree_ids.specs.declared.name.Name.{Name}
 use Rattle.def_ids.specs.declared.ids.Def.{Def}
 use Rattle.def_ids.specs.declared.ids.Def.TheVariants.{Module, Enum, Variant}
-use Rattle.def_paths.specs.declared.asked.ReachedFixedPoint.{ReachedFixedPoint}
-use Rattle.def_paths.specs.declared.asked.ReachedFixedPoint.TheVariants.{Yes, No}
-use Rattle.def_paths.specs.declared.asked.ResolvePathResult.{ResolvePathResult}
-use Rattle.def_paths.specs.declared.per_ns.PerNs.{PerNs}
+use Rattle.def_paths.specs.declared.path_result.ReachedFixedPoint.{ReachedFixedPoint}
+use Rattle.def_paths.specs.declared.path_result.ReachedFixedPoint.TheVariants.{Yes, No}
+use Rattle.def_paths.specs.declared.path_result.ResolvePathResult.{ResolvePathResult}
+use Rattle.def_sources.specs.declared.per_ns.PerNs.{PerNs}
 use Rattle.def_oracle.specs.declared.source_database.EnumVariant.{EnumVariant}
-use Rattle.def_paths.specs.Items.{public_item, module_item}
+use Rattle.def_sources.specs.Items.{public_item, module_item}
 use Rattle.def_modules.specs.MapView.{MapView}
-use Rattle.def_paths.specs.PerNs.{Item, per_namespace, nothing, in_types, is_nothing}
-use Rattle.def_paths.specs.Sources.{Question, found_in, scope_source, Beginning, at_module, by_sources}
+use Rattle.def_sources.specs.PerNs.{Item, per_namespace, nothing, in_types, is_nothing}
+use Rattle.def_sources.specs.Sources.{Question, found_in, scope_source, Beginning, at_module, by_sources}
 
 -- the answer where something on the way is missing
 abbrev pub missing : Bool → ResolvePathResult

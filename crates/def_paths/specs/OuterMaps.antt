@@ -8,12 +8,12 @@ use Rattle.item_tree.specs.declared.mod_path.PathKind.TheVariants.{Plain}
 use Rattle.tree_ids.specs.declared.name.Name.{Name}
 use Rattle.def_ids.specs.declared.ids.ModuleId.{ModuleId}
 use Rattle.def_ids.specs.Ids.{is_same_map, is_block_root}
-use Rattle.def_paths.specs.declared.asked.ResolvePathResult.{ResolvePathResult}
-use Rattle.def_paths.specs.declared.per_ns.MacroSubNs.{MacroSubNs}
+use Rattle.def_paths.specs.declared.path_result.ResolvePathResult.{ResolvePathResult}
+use Rattle.def_sources.specs.declared.per_ns.MacroSubNs.{MacroSubNs}
 use Rattle.def_paths.specs.Answers.{answer_from, joined}
-use Rattle.def_paths.specs.Items.{is_fitting}
+use Rattle.def_sources.specs.Items.{is_fitting}
 use Rattle.def_modules.specs.MapView.{MapView}
-use Rattle.def_paths.specs.Sources.{Question, beginning, finished_map}
+use Rattle.def_sources.specs.Sources.{Question, beginning, finished_map}
 
 -- a path of one segment
 abbrev pub is_alone : List Name → Bool

@@ -10,20 +10,20 @@ use Rattle.def_ids.specs.declared.ids.MapId.{MapId}
 use Rattle.def_ids.specs.declared.ids.ModuleId.{ModuleId}
 use Rattle.def_bindings.specs.declared.visibility.Visibility.{Visibility}
 use Rattle.def_bindings.specs.declared.visibility.Visibility.TheVariants as visible
-use Rattle.def_paths.specs.declared.asked.Asked.{Asked}
-use Rattle.def_paths.specs.declared.asked.BuiltinShadowMode.{BuiltinShadowMode}
-use Rattle.def_paths.specs.declared.asked.ResolvePathResult.{ResolvePathResult}
-use Rattle.def_paths.specs.declared.per_ns.MacroSubNs.{MacroSubNs}
-use Rattle.def_paths.specs.declared.per_ns.PerNs.{PerNs}
-use Rattle.def_paths.specs.Items.{module_of_def, macro_of_def}
+use Rattle.def_sources.specs.declared.asked.Asked.{Asked}
+use Rattle.def_sources.specs.declared.asked.BuiltinShadowMode.{BuiltinShadowMode}
+use Rattle.def_paths.specs.declared.path_result.ResolvePathResult.{ResolvePathResult}
+use Rattle.def_sources.specs.declared.per_ns.MacroSubNs.{MacroSubNs}
+use Rattle.def_sources.specs.declared.per_ns.PerNs.{PerNs}
+use Rattle.def_sources.specs.Items.{module_of_def, macro_of_def}
 use Rattle.def_modules.specs.MapView.{MapView}
 use Rattle.def_oracle.specs.Oracle.{Meaning}
 use Rattle.def_paths.specs.OuterMaps.{answer_of}
-use Rattle.def_paths.specs.PerNs.{per_namespace}
-use Rattle.def_paths.specs.Sources.{map_of_id, scope_source}
+use Rattle.def_sources.specs.PerNs.{per_namespace}
+use Rattle.def_sources.specs.Sources.{map_of_id, scope_source}
 pub use Rattle.def_interner.specs.Session.{macro_def}
-pub use Rattle.def_paths.specs.Modes.{asked_by, for_import, for_macro, for_module}
-pub use Rattle.def_paths.specs.Sources.{World, Question, question, world_of}
+pub use Rattle.def_sources.specs.Modes.{asked_by, for_import, for_macro, for_module}
+pub use Rattle.def_sources.specs.Sources.{World, Question, question, world_of}
 
 -- what a path means from a module
 abbrev pub resolve : World → Asked → ModuleId → ModPath → ResolvePathResult

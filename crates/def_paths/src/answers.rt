@@ -7,26 +7,25 @@ ghost use Rattle.def_paths.specs.Answers.{missing as missing_after, reached as r
 ghost use Rattle.def_paths.specs.Answers.{variants_of, variant_named as first_named, variant_found as found_of};
 ghost use Rattle.def_paths.specs.Answers.{step as step_of, is_elsewhere as elsewhere, walk as walk_of};
 ghost use Rattle.def_paths.specs.Answers.{answer_after, answer_from, joined};
-ghost use Rattle.def_paths.specs.declared.per_ns.PerNs.{PerNs};
-ghost use Rattle.def_paths.specs.Asking.{question_in, map_in, map_with};
-ghost use Rattle.def_paths.specs.Items.{is_fitting};
+ghost use Rattle.def_sources.specs.declared.per_ns.PerNs.{PerNs};
+ghost use Rattle.def_sources.specs.Asking.{question_in, map_in, map_with};
+ghost use Rattle.def_sources.specs.Items.{is_fitting};
 ghost use Rattle.def_paths.specs.OuterMaps.{is_alone as stands_alone, is_plain as has_no_word};
 ghost use Rattle.def_paths.specs.OuterMaps.{answer_in as answer_in_map, answer_outside as answer_outside_of};
 ghost use Rattle.def_paths.specs.OuterMaps.{answers_outside, answer_of};
-ghost use Rattle.def_paths.specs.PerNs.{in_types, is_nothing};
-ghost use Rattle.def_paths.specs.Sources.{at_module, by_sources, absolute_sources, relative_sources};
+ghost use Rattle.def_sources.specs.PerNs.{in_types, is_nothing};
+ghost use Rattle.def_sources.specs.Sources.{at_module, by_sources, absolute_sources, relative_sources};
 
-use crate::asked::{PrefixInfo, ReachedFixedPoint, ResolvePathResult};
-use crate::path_database::PathDatabase;
-use crate::per_ns::{Item, PerNs, public_item};
-use crate::prefixes::{absolute_type, relative_type};
-use crate::sources::{Segment, absolute, relative, scope, scope_type};
-use crate::world::{Asking, World};
+use crate::path_result::{PrefixInfo, ReachedFixedPoint, ResolvePathResult};
 use def_bindings::{BindingTable, Visibility};
 use def_ids::{Def, EnumId, ModuleId};
 use def_interner::LocationId;
 use def_modules::MapData;
 use def_oracle::EnumVariant;
+use def_sources::{
+    Asking, Item, PathDatabase, PerNs, Segment, World, absolute, absolute_type, public_item,
+    relative, relative_type, scope, scope_type,
+};
 use item_tree::{ModPath, Name, PathKind};
 
 /// The answer where something on the way is missing.

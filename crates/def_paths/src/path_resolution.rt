@@ -1,16 +1,14 @@
 //! What paths mean in a world.
 ghost use Rattle.std.specs.Prelude.{◌≡◌};
-ghost use Rattle.def_paths.specs.Asking.{world_lent};
+ghost use Rattle.def_sources.specs.Asking.{world_lent};
 ghost use Rattle.def_paths.specs.Paths.{resolve as meaning_of, resolve_visibility as visibility_of};
 ghost use Rattle.def_paths.specs.Paths.{for_module, module_found, module_reached as module_reached_by};
 
 use crate::answers::resolve;
-use crate::asked::{Asked, ResolvePathResult};
-use crate::path_database::PathDatabase;
-use crate::per_ns::PerNs;
-use crate::world::{Asking, World};
+use crate::path_result::ResolvePathResult;
 use def_bindings::{BindingTable, Visibility};
 use def_ids::{Def, ModuleId};
+use def_sources::{Asked, Asking, PathDatabase, PerNs, World};
 use item_tree::{ModPath, RawVisibility};
 
 /// What a path means, asked from a module.

@@ -17,14 +17,14 @@ use Rattle.def_bindings.specs.declared.visibility.Visibility.{Visibility}
 use Rattle.def_bindings.specs.Content.{Content}
 use Rattle.def_modules.specs.MapView.{MapView}
 use Rattle.def_oracle.specs.declared.source_database.EnumVariant.{EnumVariant}
-use Rattle.def_paths.specs.declared.asked.ResolvePathResult.{ResolvePathResult}
-use Rattle.def_paths.specs.declared.per_ns.PerNs.{PerNs}
+use Rattle.def_paths.specs.declared.path_result.ResolvePathResult.{ResolvePathResult}
+use Rattle.def_sources.specs.declared.per_ns.PerNs.{PerNs}
 use Rattle.def_paths.specs.Answers.{answer_after, answer_from, ended_at, is_elsewhere, joined, missing, step, variant_found, variant_named, variants_of, walk}
-use Rattle.def_paths.specs.Items.{is_2015, is_builtin_first, is_fitting, is_for_import, is_module_item, module_item, module_of_def, public_item}
+use Rattle.def_sources.specs.Items.{is_2015, is_builtin_first, is_fitting, is_for_import, is_module_item, module_item, module_of_def, public_item}
 use Rattle.def_paths.specs.OuterMaps.{answer_of, answers_outside, asked_kind, is_alone, is_plain}
-use Rattle.def_paths.specs.PerNs.{Item, kept, is_nothing, in_types, per_namespace}
-use Rattle.def_paths.specs.Sources.{Question, Source, at_module, beginning, builtin_source, by_sources, extern_source, finished_map, first_found, found_in, macro_use_source, outer_sources, plain_sources, prelude_source, root_sources, scope_and_builtin, scope_source, textual_source, unless_block_root}
-use Rattle.def_paths.proofs.SourcesLemmas.{first_found-append, per_namespace-equal}
+use Rattle.def_sources.specs.PerNs.{Item, kept, is_nothing, in_types, per_namespace}
+use Rattle.def_sources.specs.Sources.{Question, Source, at_module, beginning, builtin_source, by_sources, extern_source, finished_map, first_found, found_in, macro_use_source, outer_sources, plain_sources, prelude_source, root_sources, scope_and_builtin, scope_source, textual_source, unless_block_root}
+use Rattle.def_sources.proofs.SourcesLemmas.{first_found-append, per_namespace-equal}
 use Rattle.def_reads.specs.Reads.{AgreesAt, Place, before_prelude, looked_up, module_in, reads, reads_after, reads_by_kind, reads_from_crate, reads_from_root, reads_plain, reads_prelude}
 
 firsts : (P : Place → Type 0) (xs ys : List Place) → All P (xs ++ ys) → All P xs

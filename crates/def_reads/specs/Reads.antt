@@ -12,10 +12,10 @@ use Rattle.def_bindings.specs.declared.bindings.Namespace.TheVariants.{Types}
 use Rattle.def_bindings.specs.declared.visibility.Visibility.{Visibility}
 use Rattle.def_bindings.specs.Content.{Content}
 use Rattle.def_modules.specs.MapView.{MapView}
-use Rattle.def_paths.specs.Items.{is_2015, is_fitting, is_for_import, module_of_def}
+use Rattle.def_sources.specs.Items.{is_2015, is_fitting, is_for_import, module_of_def}
 use Rattle.def_paths.specs.OuterMaps.{asked_kind}
-use Rattle.def_paths.specs.PerNs.{Item}
-use Rattle.def_paths.specs.Sources.{Question, Source, builtin_source, extern_source, first_found, macro_use_source, plain_sources, root_sources, scope_source, textual_source, unless_block_root}
+use Rattle.def_sources.specs.PerNs.{Item}
+use Rattle.def_sources.specs.Sources.{Question, Source, builtin_source, extern_source, first_found, macro_use_source, plain_sources, root_sources, scope_source, textual_source, unless_block_root}
 
 -- a name in a module
 abbrev pub Place : Type 0

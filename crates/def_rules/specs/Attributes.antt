@@ -26,11 +26,11 @@ use Rattle.def_modules.specs.MapState.{ShownHelper}
 use Rattle.def_modules.specs.Updates.{set_where}
 use Rattle.def_oracle.specs.Oracle.{Oracle}
 use Rattle.def_oracle.specs.Queries.{PlainAttrCall}
-use Rattle.def_paths.specs.declared.asked.BuiltinShadowMode.TheVariants as shadow
-use Rattle.def_paths.specs.declared.per_ns.MacroSubNs.TheVariants as sub
+use Rattle.def_sources.specs.declared.asked.BuiltinShadowMode.TheVariants as shadow
+use Rattle.def_sources.specs.declared.per_ns.MacroSubNs.TheVariants as sub
 use Rattle.def_paths.specs.OuterMaps.{is_plain}
 use Rattle.def_paths.specs.Paths.{resolver}
-use Rattle.def_paths.specs.Sources.{World}
+use Rattle.def_sources.specs.Sources.{World}
 use Rattle.def_rules.specs.declared.diagnostics.DefDiagnosticKind.{DefDiagnosticKind}
 use Rattle.def_rules.specs.Calls.{deepest, stored_directory}
 use Rattle.def_rules.specs.State.{State, Site, reported}

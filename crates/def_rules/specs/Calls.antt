@@ -24,7 +24,7 @@ use Rattle.def_oracle.specs.Queries.{PlainCall}
 use Rattle.def_readings.specs.Directories.{Directory, root_directory}
 use Rattle.def_paths.specs.OuterMaps.{first_of_each_map}
 use Rattle.def_paths.specs.Paths.{macro_named, map_of, scope}
-use Rattle.def_paths.specs.Sources.{World}
+use Rattle.def_sources.specs.Sources.{World}
 use Rattle.tree_ids.specs.declared.ids.ModItemId.{ModItemId}
 use Rattle.def_rules.specs.Items.{node_at, position_of, top_items, walk}
 use Rattle.def_rules.specs.State.{State, Effect, only, followed_by, Site, with_map, world}

@@ -20,10 +20,10 @@ use Rattle.def_modules.specs.MapView.{MapView}
 use Rattle.def_modules.specs.Scopes.{called_at, with_derive}
 use Rattle.def_oracle.specs.declared.source_database.DeriveCallQuery.{DeriveCallQuery}
 use Rattle.def_oracle.specs.Oracle.{Oracle}
-use Rattle.def_paths.specs.declared.asked.BuiltinShadowMode.TheVariants as shadow
-use Rattle.def_paths.specs.declared.per_ns.MacroSubNs.TheVariants as sub
+use Rattle.def_sources.specs.declared.asked.BuiltinShadowMode.TheVariants as shadow
+use Rattle.def_sources.specs.declared.per_ns.MacroSubNs.TheVariants as sub
 use Rattle.def_paths.specs.Paths.{resolver}
-use Rattle.def_paths.specs.Sources.{World}
+use Rattle.def_sources.specs.Sources.{World}
 use Rattle.def_rules.specs.declared.diagnostics.DefDiagnosticKind.{DefDiagnosticKind}
 use Rattle.def_rules.specs.declared.diagnostics.DefDiagnosticKind.TheVariants.{InvalidDeriveTarget, MalformedDerive}
 use Rattle.def_rules.specs.Calls.{deeper, with_helpers}

@@ -21,7 +21,7 @@ use Rattle.def_bindings.specs.Puts.{lessened}
 use Rattle.def_oracle.specs.declared.source_database.EnumVariant.{EnumVariant}
 use Rattle.def_paths.specs.Answers.{variant_found}
 use Rattle.def_modules.specs.MapView.{MapView}
-use Rattle.def_paths.specs.PerNs.{Item, kept}
+use Rattle.def_sources.specs.PerNs.{Item, kept}
 
 -- What a glob brings
 

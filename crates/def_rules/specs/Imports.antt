@@ -18,12 +18,12 @@ use Rattle.def_bindings.specs.declared.visibility.Visibility.{Visibility}
 use Rattle.def_bindings.specs.declared.visibility.Visibility.TheVariants.{Public}
 use Rattle.def_bindings.specs.Order.{Order}
 use Rattle.def_bindings.specs.Puts.{lessened}
-use Rattle.def_paths.specs.declared.asked.ResolvePathResult.{ResolvePathResult}
-use Rattle.def_paths.specs.declared.per_ns.PerNs.{PerNs}
+use Rattle.def_paths.specs.declared.path_result.ResolvePathResult.{ResolvePathResult}
+use Rattle.def_sources.specs.declared.per_ns.PerNs.{PerNs}
 use Rattle.def_oracle.specs.Oracle.{Oracle}
 use Rattle.def_paths.specs.Answers.{is_reached}
 use Rattle.def_paths.specs.Paths.{resolve, for_import, resolve_visibility}
-use Rattle.def_paths.specs.PerNs.{Item, is_nothing, kept}
+use Rattle.def_sources.specs.PerNs.{Item, is_nothing, kept}
 use Rattle.def_rules.specs.State.{State, Import, ImportDirective, NsSet, world, order}
 use Rattle.def_rules.specs.Globs.{is_public}
 

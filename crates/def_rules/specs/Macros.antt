@@ -36,9 +36,9 @@ use Rattle.def_modules.specs.MapView.{MapView}
 use Rattle.def_modules.specs.Scopes.{with_textual}
 use Rattle.def_oracle.specs.Oracle.{Oracle}
 use Rattle.def_readings.specs.DeriveNames.{NameAndHelpers, is_word, name_and_helpers}
-use Rattle.def_paths.specs.Items.{macro_of_def}
+use Rattle.def_sources.specs.Items.{macro_of_def}
 use Rattle.def_paths.specs.Paths.{map_of}
-use Rattle.def_paths.specs.Sources.{World}
+use Rattle.def_sources.specs.Sources.{World}
 use Rattle.def_rules.specs.declared.diagnostics.DefDiagnosticKind.TheVariants.{UnimplementedBuiltinMacro}
 use Rattle.def_rules.specs.Items.{declared_effect, diagnostic, position_of}
 use Rattle.def_rules.specs.State.{State, Effect, only, reported, root, with_map, Site, world}

@@ -13,10 +13,10 @@ use Rattle.def_bindings.specs.declared.bindings.EdgeTo.{EdgeTo}
 use Rattle.def_bindings.specs.declared.visibility.Visibility.{Visibility}
 use Rattle.def_bindings.specs.Visibility.{order_over}
 use Rattle.def_modules.specs.MapState.{MapState}
-use Rattle.def_paths.specs.declared.asked.ResolvePathResult.{ResolvePathResult}
+use Rattle.def_paths.specs.declared.path_result.ResolvePathResult.{ResolvePathResult}
 use Rattle.def_oracle.specs.Oracle.{Oracle}
 use Rattle.def_paths.specs.Answers.{variants_of}
-use Rattle.def_paths.specs.Sources.{World}
+use Rattle.def_sources.specs.Sources.{World}
 use Rattle.def_paths.specs.Paths.{for_import, map_of, question}
 use Rattle.def_rules.specs.State.{State, Effect, followed_by, Import, ImportDirective, NsSet, Task, AddEdge, Recorded, noting, put_each, world, order}
 use Rattle.def_rules.specs.Globs.{Targets, module_entries, variant_entries, with_target}

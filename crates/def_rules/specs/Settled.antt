@@ -8,7 +8,7 @@ use Rattle.def_bindings.specs.declared.visibility.Visibility.{Visibility}
 use Rattle.def_bindings.specs.Content.{Content}
 use Rattle.def_bindings.specs.Puts.{IsExplicit}
 use Rattle.def_oracle.specs.Oracle.{Oracle}
-use Rattle.def_paths.specs.PerNs.{in_namespace}
+use Rattle.def_sources.specs.PerNs.{in_namespace}
 use Rattle.def_rules.specs.State.{State, Import, Event, PutExplicit, Recorded, Moment}
 use Rattle.def_rules.specs.Directives.{AllStay}
 use Rattle.def_rules.specs.Imports.{is_missing, answer_now, bound_name, keeps_ns}

@@ -27,7 +27,7 @@ use Rattle.def_modules.specs.MapState.{MapState}
 use Rattle.def_modules.specs.MapView.{MapView, LocalView}
 use Rattle.def_modules.specs.Maps.{facts_in}
 use Rattle.def_oracle.specs.Oracle.{Oracle}
-use Rattle.def_paths.specs.Sources.{World}
+use Rattle.def_sources.specs.Sources.{World}
 use Rattle.def_modules.specs.Updates.{set_where}
 use Rattle.def_readings.specs.Directories.{Directory}
 use Rattle.def_rules.specs.declared.diagnostics.DefDiagnostic.{DefDiagnostic}

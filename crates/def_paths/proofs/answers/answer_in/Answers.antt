@@ -1,5 +1,5 @@
-use Rattle.def_paths.specs.Asking.{question_in}
-use Rattle.def_paths.specs.Items.{is_fitting}
+use Rattle.def_sources.specs.Asking.{question_in}
+use Rattle.def_sources.specs.Items.{is_fitting}
 use Rattle.def_paths.specs.OuterMaps.{asked_kind}
 use Rattle.def_paths.proofs.answers.answer_in.Goals as goal
 

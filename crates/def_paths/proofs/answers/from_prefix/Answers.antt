@@ -1,5 +1,5 @@
 use Rattle.std.proofs.Common.{arith, drop, length, ◌<◌, length-drop, ◌∙◌}
-use Rattle.def_paths.specs.Asking.{question_in, map_in}
+use Rattle.def_sources.specs.Asking.{question_in, map_in}
 use Rattle.def_paths.proofs.AnswersLemmas.{prefix-none, prefix-some}
 use Rattle.def_paths.proofs.answers.from_prefix.Goals as goal
 

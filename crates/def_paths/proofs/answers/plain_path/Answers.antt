@@ -1,4 +1,4 @@
-use Rattle.def_paths.specs.Asking.{question_in, map_in}
+use Rattle.def_sources.specs.Asking.{question_in, map_in}
 use Rattle.def_paths.proofs.AnswersLemmas.{plain-alone, plain-longer}
 use Rattle.def_paths.proofs.answers.plain_path.Goals as goal
 

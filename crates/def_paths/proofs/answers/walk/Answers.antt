@@ -1,8 +1,8 @@
 use Rattle.std.proofs.Common.{Some, add-one, ap, arith, drop, drop-cons, get_or, length, length-drop, sym, ◌+◌, ◌<◌, ◌||◌, ◌∙◌, ◌∷◌, ◌≡◌}
 use Rattle.tree_ids.specs.declared.name.Name.{Name}
 use Rattle.def_paths.specs.Answers.{is_elsewhere, missing, walk}
-use Rattle.def_paths.specs.Asking.{question_in, map_in}
-use Rattle.def_paths.specs.PerNs.{in_types}
+use Rattle.def_sources.specs.Asking.{question_in, map_in}
+use Rattle.def_sources.specs.PerNs.{in_types}
 use Rattle.def_paths.proofs.AnswersLemmas.{walk-found, walk-lost}
 use Rattle.def_paths.proofs.answers.walk.Goals as goal
 use Rattle.def_paths.proofs.answers.walk.Goals.{then-crossed, else-crossed}

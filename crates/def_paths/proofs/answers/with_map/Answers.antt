@@ -1,5 +1,5 @@
 use Rattle.std.proofs.Common.{◌∙◌, sym}
-use Rattle.def_paths.specs.Asking.{question_in}
+use Rattle.def_sources.specs.Asking.{question_in}
 use Rattle.def_paths.proofs.AnswersLemmas.{outside-seen, outside-unknown, outside-joined}
 use Rattle.def_paths.proofs.answers.with_map.Goals as goal
 

@@ -1,5 +1,5 @@
 use Rattle.def_ids.specs.Ids.{crate_root}
-use Rattle.def_paths.specs.Asking.{question_in}
+use Rattle.def_sources.specs.Asking.{question_in}
 use Rattle.def_paths.proofs.AnswersLemmas.{outside-step}
 use Rattle.def_paths.proofs.answers.with_outside.Goals as goal
 

@@ -1,6 +1,6 @@
 use Rattle.std.proofs.Common.{◌≡◌, take, drop, []}
 use Rattle.def_paths.specs.Answers.{joined}
-use Rattle.def_paths.specs.Asking.{question_in}
+use Rattle.def_sources.specs.Asking.{question_in}
 use Rattle.def_paths.specs.OuterMaps.{answers_outside}
 use Rattle.def_paths.proofs.answers.with_outside.Given as goal
 

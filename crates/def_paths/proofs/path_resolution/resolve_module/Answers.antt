@@ -1,5 +1,5 @@
 use Rattle.std.proofs.Common.{ap, ◌∙◌}
-use Rattle.def_paths.specs.Asking.{world_lent}
+use Rattle.def_sources.specs.Asking.{world_lent}
 use Rattle.def_paths.specs.Paths.{module_found, resolve}
 use Rattle.def_paths.proofs.path_resolution.resolve_module.Goals as goal
 

@@ -2,7 +2,7 @@ use Rattle.std.proofs.Common.{◌≡◌, [], ◌∷◌, ◌<◌, Some, None, len
 use Rattle.std.specs.Prelude.{map}
 use Rattle.std.proofs.lemmas.Option.{slice_get_within}
 use Rattle.tree_ids.specs.declared.name.Name.{Name}
-use Rattle.def_paths.specs.declared.per_ns.PerNs.{PerNs}
+use Rattle.def_sources.specs.declared.per_ns.PerNs.{PerNs}
 use Rattle.def_map.specs.ItemScopes.{place_of, scope_content, meaning}
 use Rattle.def_map.proofs.IterLemmas.{drop_at, drop_end}
 use Rattle.def_map.proofs.item_scope.ResolutionsIterator.next.Goals as goal

@@ -1,5 +1,0 @@
-use Rattle.std.proofs.Common.{rules}
-use Rattle.def_paths.proofs.asked.Asked.is_builtin_first.Goals as goal
-
-pub returns : goal.returns
-returns c = search rules

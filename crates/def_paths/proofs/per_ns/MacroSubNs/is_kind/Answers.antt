@@ -1,5 +1,0 @@
-use Rattle.std.proofs.Common.{rules}
-use Rattle.def_paths.proofs.per_ns.MacroSubNs.is_kind.Goals as goal
-
-pub returns-else-is_attribute : goal.returns-else-is_attribute
-returns-else-is_attribute c = search rules

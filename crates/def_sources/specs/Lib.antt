@@ -1,0 +1,5 @@
+pub mod PerNs
+pub mod Items
+pub mod Sources
+pub mod Asking
+pub mod Modes
