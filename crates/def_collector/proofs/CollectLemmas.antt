@@ -29,7 +29,7 @@ use Rattle.def_rules.specs.Start.{first_tasks, seeded_state, started}
 use Rattle.def_rules.specs.State as rules
 use Rattle.def_rules.specs.Waiting as waits
 use Rattle.def_rules.specs.State.{Setting, State}
-use Rattle.def_passes.specs.Passes.{Ends}
+use Rattle.def_rounds.specs.Rounds.{Ends}
 use Rattle.def_laws.specs.Sound.{IsSoundWith}
 use Rattle.def_laws.proofs.BegunLaws.{begins_sound}
 use Rattle.def_laws.proofs.HeadlineLaws.{answers}

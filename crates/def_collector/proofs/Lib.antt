@@ -1,3 +1,13 @@
+mod CallLemmas
 mod CollectLemmas
-mod LoopLemmas
+mod DeriveLemmas
+mod FallbackLemmas
+mod FinishLemmas
+mod GivenLemmas
+mod MacroPassLemmas
+mod PassLemmas
+mod TriesLemmas
+mod TurnLemmas
+mod VisitLemmas
 mod WakeLemmas
+mod WalkLemmas

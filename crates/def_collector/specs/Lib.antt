@@ -1,5 +1,8 @@
+pub mod Collector
+pub mod Passes
 pub mod Places
 pub mod Setting
+pub mod Walk
 pub use Rattle.def_rules.specs.Globs
 pub use Rattle.def_rules.specs.State
 pub use Rattle.def_rules.specs.Imports

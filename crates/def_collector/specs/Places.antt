@@ -2,8 +2,8 @@
 use Rattle.std.specs.Prelude.{Option, option_and_then, slice_get}
 use Rattle.def_imports.specs.declared.turns.ImportAt.{ImportAt}
 use Rattle.def_steps.specs.declared.directive.ImportDirective.{ImportDirective}
-use Rattle.def_passes.specs.declared.collector.DefCollector.{DefCollector}
-use Rattle.def_passes.specs.Passes.{entries_of}
+use Rattle.def_collector.specs.declared.collector.DefCollector.{DefCollector}
+use Rattle.def_collector.specs.Passes.{entries_of}
 
 -- the import at a place of one of the two lists, if one is there
 abbrev pub import_there : ImportAt → DefCollector → Option ImportDirective

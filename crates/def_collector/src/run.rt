@@ -1,5 +1,5 @@
-//! A whole run: what is known of a crate is read, its items are walked, and imports are recorded and
-//! macros expanded until nothing moves.
+//! A whole run: what is known of a crate is read, its items are walked, and passes over imports and
+//! macros are made until nothing moves.
 ghost use Rattle.std.specs.Prelude.{◌≡◌, ◌<◌, ◌++◌, [], Some, length, is_some, option_map, slice_get, IfOk, OnOk};
 ghost use Rattle.def_calls.specs.Shown.{macro_directive_of};
 ghost use Rattle.def_calls.specs.declared.directives.MacroDirective.{MacroDirective};
@@ -12,18 +12,20 @@ ghost use Rattle.def_modules.specs.Locals.{local_view};
 ghost use Rattle.def_modules.specs.Maps.{map_state};
 ghost use Rattle.def_modules.specs.Tables.{bound_by};
 ghost use Rattle.def_answer.specs.Shown.{shown};
-ghost use Rattle.def_passes.specs.Collector.{state_of};
-ghost use Rattle.def_passes.specs.Passes.{Ends};
+ghost use Rattle.def_collector.specs.Collector.{state_of};
 ghost use Rattle.def_collector.specs.Setting.{setting_of};
 ghost use Rattle.def_rules.specs.Headline.{Answers};
-ghost use Rattle.def_rules.specs.Recording.{NoneReady};
 ghost use Rattle.def_rules.specs.Report.{macro_report, with_macro_reports};
 ghost use Rattle.def_rules.specs.Start.{first_depth, first_tasks, first_tree};
 ghost use Rattle.def_rules.specs.Start.{seeded_state, started};
 ghost use Rattle.def_laws.specs.Runs.{Leads};
 ghost use Rattle.def_laws.specs.Sound.{IsSoundWith};
+ghost use Rattle.def_rounds.specs.Rounds.{Ends};
 
-use crate::wakes::import_pass;
+use crate::collector::DefCollector;
+use crate::passes::Run;
+use crate::seeding::seed;
+use crate::stack::walk;
 use def_answer::Collected;
 use def_attrs::{DeferredDerives, ItemAttrs};
 use def_calls::{MacroDirectiveKind, call_answer, report_left_call, report_left_derive};
@@ -33,14 +35,11 @@ use def_interner::Interner;
 use def_items::{ItemList, ModDirs, Site, disabled_by, report_disabled, top_items};
 use def_map::{DefMap, LocalDefMap, SourceDatabase, Table};
 use def_parts::{Globs, ModDir};
-use def_passes::{DefCollector, fall_back, resolve_macros, seed, walk};
+use def_rounds::resolution_loop;
 use indexmap::IndexMap;
 use item_tree::{HirFileId, TreeId};
 use std::alloc::{AllocError, Global};
 use std::collections::VecDeque;
-
-/// How many rounds a run may make: passes over the macros in which one leaves.
-const FIXED_POINT_LIMIT: u32 = 8192;
 
 /// Collects the definitions of a crate or a block into its seeded map.
 ///
@@ -68,9 +67,11 @@ pub fn collect_defs<D: SourceDatabase>(
     // Whatever is answered, the session keeps its entries, and no name gets a text.
     ensures session { AddsLocations (session_of session.old) (session_of session.new) }
 {
-    let mut collector = begin(alloc, db, def_map, tree_id, crate_local)?;
+    let collector = begin(alloc, db, def_map, tree_id, crate_local)?;
     make_room_for_items(db, collector.def_map.tree.map, tree_id, session)?;
-    let limit_met = collect(&mut collector, db, session, tree_id)?;
+    let mut run = Run { collector, db };
+    let limit_met = collect(&mut run, session, tree_id)?;
+    let mut collector = run.into_collector();
     report_macros(&mut collector, db, session)?;
     collector.finish(limit_met)
 }
@@ -146,29 +147,27 @@ fn make_room_for_items<D: SourceDatabase>(
     }
 }
 
-/// Walks the items, and then records imports and expands macros until nothing moves, or too many
-/// rounds were made. Answers whether the limit of rounds was met. On `Err` nothing but safety is
-/// promised.
+/// Walks the items, and then makes passes until nothing moves, or too many rounds were made. Answers
+/// whether the limit of rounds was met. On `Err` nothing but safety is promised.
 fn collect<'a, D: SourceDatabase>(
-    collector: &mut DefCollector<'a>,
-    db: &'a D,
+    run: &mut Run<'a, D>,
     session: &mut Interner,
     tree_id: TreeId,
 ) -> Result<bool, AllocError>
     requires start { IsSoundWith
-        (first_tasks (D.oracle db.now) (map_state collector.old.def_map) tree_id)
-        (started (D.oracle db.now) tree_id (state_of collector.old session.old)) }
-    requires bare { collector.old.expansions.items ≡ [] }
-    ensures ends { IfOk result (λ limit_met. Ends (D.oracle db.now)
-        (first_tasks (D.oracle db.now) (map_state collector.old.def_map) tree_id)
-        (started (D.oracle db.now) tree_id (state_of collector.old session.old))
-        limit_met (state_of collector.new session.new)) }
-    ensures sound { OnOk result (IsSoundWith [] (state_of collector.new session.new)) }
-    ensures expanded { OnOk result (collector.new.expansions.items ≡ []) }
+        (first_tasks (D.oracle run.old.db.now) (map_state run.old.collector.def_map) tree_id)
+        (started (D.oracle run.old.db.now) tree_id (state_of run.old.collector session.old)) }
+    requires bare { run.old.collector.expansions.items ≡ [] }
+    ensures ends { IfOk result (λ limit_met. Ends (D.oracle run.old.db.now)
+        (first_tasks (D.oracle run.old.db.now) (map_state run.old.collector.def_map) tree_id)
+        (started (D.oracle run.old.db.now) tree_id (state_of run.old.collector session.old))
+        limit_met (state_of run.new.collector session.new)) }
+    ensures sound { OnOk result (IsSoundWith [] (state_of run.new.collector session.new)) }
+    ensures expanded { OnOk result ((state_of run.new.collector session.new).expansions ≡ []) }
     ensures session { AddsLocations (session_of session.old) (session_of session.new) }
 {
-    seed_with_top_level(collector, db, session, tree_id)?;
-    resolution_loop(collector, db, session)
+    seed_with_top_level(&mut run.collector, run.db, session, tree_id)?;
+    resolution_loop(run, session)
 }
 
 /// Learns what is known of the crate, and walks the top items of its root file, or of the block.
@@ -211,53 +210,6 @@ fn seed_with_top_level<'a, D: SourceDatabase>(
             into: None,
         },
     )
-}
-
-/// Records imports and expands macros in turns, and gives up attributes whose macros are not found, until
-/// nothing moves, or too many rounds were made. Giving up is no round. Answers whether the limit of
-/// rounds was met. On `Err` nothing but safety is promised.
-fn resolution_loop<'a, D: SourceDatabase>(
-    collector: &mut DefCollector<'a>,
-    db: &'a D,
-    session: &mut Interner,
-) -> Result<bool, AllocError>
-    requires sound { IsSoundWith [] (state_of collector.old session.old) }
-    requires bare { collector.old.expansions.items ≡ [] }
-    ensures ends { IfOk result (λ limit_met. Ends (D.oracle db.now)
-        [] (state_of collector.old session.old) limit_met (state_of collector.new session.new)) }
-    ensures sound { OnOk result (IsSoundWith [] (state_of collector.new session.new)) }
-    ensures expanded { OnOk result (collector.new.expansions.items ≡ []) }
-    ensures session { AddsLocations (session_of session.old) (session_of session.new) }
-{
-    let mut rounds = 0u32;
-    'rounds: loop {
-        import_passes(collector, db, session)?;
-        if resolve_macros(collector, db, session)? {
-            rounds += 1;
-            if FIXED_POINT_LIMIT < rounds {
-                return Ok(true);
-            }
-        } else if !fall_back(collector, db, session)? {
-            return Ok(false);
-        }
-    }
-}
-
-/// Records imports until none is ready. On `Err` nothing but safety is promised.
-fn import_passes<'a, D: SourceDatabase>(
-    collector: &mut DefCollector<'a>,
-    db: &D,
-    session: &Interner,
-) -> Result<(), AllocError>
-    ensures run { OnOk result (Leads (D.oracle db.now)
-        [] (state_of collector.old session.now) [] (state_of collector.new session.now)) }
-    ensures settled { OnOk result (NoneReady (D.oracle db.now) (state_of collector.new session.now)) }
-{
-    let mut made = 0u32;
-    'passes: while import_pass(collector, db, session, made)? {
-        made = made.saturating_add(1);
-    }
-    Ok(())
 }
 
 /// Reports what waits for a macro and is left over, in order. On `Err` nothing but safety is

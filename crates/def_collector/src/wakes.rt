@@ -1,53 +1,24 @@
 //! Imports that wake: each is tried again only where a name changed that its path reads, in the order
 //! in which passes over all of them try them.
-ghost use Rattle.std.specs.Prelude.{◌≡◌, ◌<◌, ◌≤◌, [], false, true, is_some, length, IfOk, IfSome, OnOk};
+ghost use Rattle.std.specs.Prelude.{◌≡◌, ◌≤◌, ◌<◌, [], false, true, is_some, length, IfOk, IfSome, OnOk};
 ghost use Rattle.def_collector.specs.Places.{import_there};
-ghost use Rattle.def_passes.specs.Collector.{state_of};
-ghost use Rattle.def_passes.specs.Passes.{IsUnready, entries_of};
+ghost use Rattle.def_collector.specs.Collector.{state_of};
+ghost use Rattle.def_collector.specs.Passes.{IsUnready, entries_of};
 ghost use Rattle.def_laws.specs.Runs.{Leads};
 ghost use Rattle.def_laws.specs.Turns.{Moves, turns_left};
-ghost use Rattle.def_rules.specs.Recording.{NoneReady};
 
+use crate::collector::DefCollector;
+use crate::imports::{drop_resolved, entries, try_import};
 use def_ids::ModuleId;
 use def_imports::{ImportAt, Turns, Watchers};
 use def_interner::Interner;
 use def_map::SourceDatabase;
-use def_passes::{DefCollector, drop_resolved, entries, resolve_imports, try_import};
 use def_steps::{ImportDirective, ImportList};
 use std::alloc::AllocError;
 
-/// How many passes over all imports record some before those that wait watch the names that they read.
-/// In most crates nothing moves after these.
-const PASSES_WITHOUT_WATCHES: u32 = 2;
-
-/// Records each import that is ready, in a pass over all of them; in one that is not among the first,
-/// also those that become ready by what it recorded. Answers whether one was recorded. On `Err` nothing
-/// but safety is promised.
-pub fn import_pass<'a, D: SourceDatabase>(
-    collector: &mut DefCollector<'a>,
-    db: &D,
-    session: &Interner,
-    passes: u32,
-) -> Result<bool, AllocError>
-    ensures run { OnOk result (Leads (D.oracle db.now)
-        [] (state_of collector.old session.now) [] (state_of collector.new session.now)) }
-    ensures settled { IfOk result (λ moved. moved ≡ false →
-        NoneReady (D.oracle db.now) (state_of collector.new session.now)) }
-    ensures fewer { IfOk result (λ moved. moved ≡ true → turns_left (state_of collector.new session.now) < turns_left (state_of collector.old session.now)) }
-{
-    if !resolve_imports(collector, db, session)? {
-        return Ok(false);
-    }
-    if passes < PASSES_WITHOUT_WATCHES {
-        return Ok(true);
-    }
-    record_woken(collector, db, session)?;
-    Ok(true)
-}
-
 /// Records imports until none wakes: each is tried once, and again where a name changed that its path
 /// reads. On `Err` nothing but safety is promised.
-fn record_woken<'a, D: SourceDatabase>(
+pub fn record_woken<'a, D: SourceDatabase>(
     collector: &mut DefCollector<'a>,
     db: &D,
     session: &Interner,

@@ -1,5 +1,5 @@
 use Rattle.std.proofs.Common.{◌<◌, ◌≤◌, length, arith}
-use Rattle.def_passes.proofs.MacroPassLemmas.{reported_all, reported_more, reported_none}
+use Rattle.def_collector.proofs.MacroPassLemmas.{reported_all, reported_more, reported_none}
 use Rattle.def_collector.proofs.run.report_macros.Goals as goal
 
 pub left-init : goal.left-init

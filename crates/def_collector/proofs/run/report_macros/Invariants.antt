@@ -1,4 +1,4 @@
-use Rattle.def_passes.proofs.MacroPassLemmas.{ReportedSoFar}
+use Rattle.def_collector.proofs.MacroPassLemmas.{ReportedSoFar}
 use Rattle.def_collector.proofs.run.report_macros.Given as goal
 
 abbrev pub invariant-left : goal.invariant-left

@@ -1,5 +1,5 @@
 use Rattle.std.proofs.Common.{[], ap, append-nil, subst, ◌∙◌}
-use Rattle.def_passes.specs.Collector.{state_of}
+use Rattle.def_collector.specs.Collector.{state_of}
 use Rattle.def_rules.specs.State.{State}
 use Rattle.def_laws.specs.Runs.{Leads}
 use Rattle.def_laws.proofs.RecordLaws.{on_ok}

@@ -1,5 +1,5 @@
 use Rattle.std.proofs.Common.{subst, sym, ◌∙◌}
-use Rattle.def_passes.specs.Collector.{state_of}
+use Rattle.def_collector.specs.Collector.{state_of}
 use Rattle.def_laws.specs.Turns.{Moves}
 use Rattle.def_collector.proofs.wakes.record_next.Goals as goal
 

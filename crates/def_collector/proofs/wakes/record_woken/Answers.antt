@@ -1,5 +1,5 @@
 use Rattle.std.proofs.Common.{[], ◌≤◌, arith, subst, sym, ◌∙◌}
-use Rattle.def_passes.specs.Collector.{state_of}
+use Rattle.def_collector.specs.Collector.{state_of}
 use Rattle.def_laws.specs.Runs.{Leads}
 use Rattle.def_laws.specs.Turns.{turns_left}
 use Rattle.def_laws.proofs.StepsLaws.{leads_refl, leads_trans}

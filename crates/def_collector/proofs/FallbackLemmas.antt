@@ -1,0 +1,36 @@
+-- Where a state is stuck, and what giving an item up does.
+use Rattle.std.proofs.Common.{◌≡◌, ◌<◌, ◌≤◌, ◌^◌, List, [], ◌∷◌, ◌++◌, length, ap, subst, ◌∙◌, arith}
+use Rattle.std.specs.Prelude.{IsPermutation}
+use Rattle.def_map.specs.Oracle.{Oracle}
+use Rattle.def_rules.specs.Attributes.{item_site}
+use Rattle.def_rules.specs.Calls.{deepest}
+use Rattle.def_rules.specs.Fallback.{IsStuck, attr_reported}
+use Rattle.def_rules.specs.State.{State, Visit}
+use Rattle.def_rules.specs.Waiting.{Attr, MacroDirective, WrittenAttr}
+use Rattle.def_laws.specs.Runs.{Leads}
+use Rattle.def_laws.proofs.PassLaws.{collects_given_up, collects_ordered, given_up_lighter, given_up_state, ordered_work, tried_none}
+use Rattle.def_laws.proofs.StepsLaws.{collects_trans}
+use Rattle.def_rounds.specs.Rounds.{GivesUp}
+
+-- An item is given up
+
+module _ (oracle : Oracle) (s s' t : State) (before : List MacroDirective) (d : MacroDirective) (behind : List MacroDirective) (written : WrittenAttr) (stands : s.macros ≡ before ++ d ∷ behind) (is_attr : d.kind ≡ Attr written)
+    (passed : s' ≡ given_up_state oracle s before d behind written stands is_attr) (leads : Leads oracle (Visit (item_site s' d written) written.item ∷ []) s' [] t) (macros : List MacroDirective) (same : IsPermutation t.macros macros) where
+  abbrev given_up : State
+  given_up = given_up_state oracle s before d behind written stands is_attr
+
+  walked : Leads oracle (Visit (item_site (attr_reported s d written) d written) written.item ∷ []) given_up [] t
+  walked = subst (λ x. Leads oracle (Visit (item_site x d written) written.item ∷ []) x [] t) passed leads
+
+  pub gave_up : IsStuck oracle s → d.depth ≤ deepest → length t.macros < 2 ^ 64 → GivesUp oracle s (record t { macros = macros })
+  gave_up stuck most few = record {
+    run = collects_trans (collects_given_up oracle s before d behind written stands is_attr given_up t (tried_none oracle d given_up) walked stuck) (collects_ordered oracle t macros same);
+    fewer =
+        let less = given_up_lighter oracle s before d behind written stands is_attr given_up t (tried_none oracle d given_up) walked most few in
+        let as_much = ordered_work t macros same in
+        omega (arith, less, as_much);
+  }
+
+  -- no expansion is left to be walked
+  pub gave_up_bare : s.expansions ≡ [] → t.expansions ≡ []
+  gave_up_bare bare = leads.expansions ∙ ap (λ (x : State). x.expansions) passed ∙ bare

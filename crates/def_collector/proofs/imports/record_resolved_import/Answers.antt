@@ -1,0 +1,23 @@
+use Rattle.std.proofs.Common.{ap, refl, sym, ◌∙◌}
+use Rattle.def_steps.specs.Shown.{import_of}
+use Rattle.def_collector.specs.Collector.{state_of}
+use Rattle.def_rules.specs.Imports.{bound_name, named_entries}
+use Rattle.def_rules.specs.State.{Import, State, order}
+use Rattle.def_laws.proofs.GlobsLaws.{recorded_named, recorded_prelude}
+use Rattle.def_laws.proofs.StepsLaws.{performs_listed}
+use Rattle.def_collector.proofs.imports.record_resolved_import.Goals as goal
+
+pub returns-in_ok-record_named-in-Plain-clause-performs :
+    goal.returns-in_ok-record_named-in-Plain-clause-performs
+returns-in_ok-record_named-in-Plain-clause-performs g c =
+    let oracle = g.D.SourceDatabase.oracle c.args.db.now in
+    let s : State = state_of c.args.collector.now c.args.session.now in
+    let t : State = state_of (record c.args.collector.now { table = c.record_named.new.table }) c.args.session.now in
+    let p : Import = import_of c.args.import.now in
+    recorded_named oracle s t p c.args.answer.now c.in-Plain.is
+    (performs_listed p.scope _ _ s t (ap (λ vis. named_entries (order s) p vis c.args.answer.now (bound_name p.written)) c.resolve_visibility-vis.ensures) (c.in_ok-record_named-in-Plain.ensures s))
+
+pub returns-in-Some-clause-performs : goal.returns-in-Some-clause-performs
+returns-in-Some-clause-performs g c =
+    recorded_prelude (g.D.SourceDatabase.oracle c.args.db.now) (state_of c.args.collector.now c.args.session.now) _ (import_of c.args.import.now) c.args.answer.now
+    c.in-Some.source c.in-Glob.is (sym c.new_prelude.ensures ∙ c.in-Some.is) refl

@@ -1,0 +1,40 @@
+-- What the collector's parts stand for.
+use Rattle.std.specs.Prelude.{◌++◌, map, option_map}
+use Rattle.def_interner.specs.declared.interner.Interner.{Interner}
+use Rattle.def_ids.specs.Equality.{glob_eq}
+use Rattle.def_interner.specs.Session.{session_of}
+use Rattle.def_attrs.specs.ItemAttrs.{active_of, skipped_of}
+use Rattle.def_attrs.specs.Shown.{deferrals_of}
+use Rattle.def_calls.specs.Shown.{expansion_shown, macros_in}
+use Rattle.def_crates.specs.Missing.{missing_in}
+use Rattle.def_items.specs.Parts.{directories_of}
+use Rattle.def_modules.specs.Locals.{local_view}
+use Rattle.def_modules.specs.Maps.{map_state}
+use Rattle.def_modules.specs.Tables.{bound_by}
+use Rattle.def_collector.specs.declared.collector.DefCollector.{DefCollector}
+use Rattle.def_steps.specs.ImportLists.{directives_in}
+use Rattle.indexmap.specs.IndexMap.{get}
+use Rattle.def_rules.specs.State.{State}
+
+-- the state that the collector is in
+abbrev pub state_of : DefCollector → Interner → State
+state_of c session =
+    record {
+      session = session_of session;
+      map = map_state c.def_map;
+      content = bound_by c.table;
+      targets = get glob_eq c.targets;
+      local = local_view c.local_def_map;
+      outer = option_map (λ l. local_view l.now) c.crate_local;
+      is_proc_macro = c.is_proc_macro;
+      deps = local_view c.deps;
+      missing_crates = missing_in c.missing_crates;
+      directories = directories_of c.mod_dirs;
+      imports = directives_in c.unresolved_imports.items ++ directives_in c.indeterminate_imports.items;
+      skipped = skipped_of c.item_attrs;
+      active = active_of c.item_attrs;
+      deferred = deferrals_of c.deferred_builtin_derives;
+      macros = macros_in c.unresolved_macros.items;
+      expansions = map expansion_shown c.expansions.items;
+      diagnostics = c.diagnostics.items;
+    }

@@ -1,0 +1,207 @@
+//! What each kind of item does.
+ghost use Rattle.std.specs.Prelude.{◌≡◌, [], false, Some, None, IfOk, OnOk};
+ghost use Rattle.item_tree.specs.declared.items.ModItemKind.TheVariants as kinds;
+ghost use Rattle.def_interner.specs.Session.{AddsLocations, session_of};
+ghost use Rattle.def_items.specs.Parts.{site_of};
+ghost use Rattle.def_collector.specs.Collector.{state_of};
+ghost use Rattle.def_collector.specs.Walk.{AreKnown, inner_of, is_known, opens_list};
+ghost use Rattle.def_laws.specs.Performs.{GaveImpls, Handled};
+
+use crate::calls::collect_macro_call;
+use crate::collector::{DefCollector, WrittenCrate, WrittenStruct};
+use crate::macros::{WrittenMacro, collect_macro, collect_macro_rules};
+use crate::modules::{ModuleItem, collect_module};
+use def_attrs::{DerivedItem, give_impls};
+use def_calls::WrittenCall;
+use def_ids::ItemContainerId;
+use def_interner::{Interner, Location};
+use def_items::{ItemList, Site, define_impl, number_adt};
+use def_locs::ExternBlockLoc;
+use def_map::SourceDatabase;
+use item_tree::{ItemNode, ModItemId, ModItemKind, Seq};
+use std::alloc::AllocError;
+
+/// Lets the derives that are deferred for an item give their impls, where it is a struct, a union or an
+/// enum. On `Err` nothing but safety is promised.
+pub(crate) fn give_deferred<'a, D: SourceDatabase>(
+    collector: &mut DefCollector<'a>,
+    db: &D,
+    session: &mut Interner,
+    site: &Site,
+    node: &ItemNode,
+) -> Result<(), AllocError>
+    ensures gave { OnOk result (
+        GaveImpls (D.oracle db.now) (state_of collector.old session.old) (site_of site.now) node.now (state_of collector.new session.new)) }
+    ensures session { AddsLocations (session_of session.old) (session_of session.new) }
+{
+    if collector.deferred_builtin_derives.is_empty() {
+        return Ok(());
+    }
+    let Some(adt) = number_adt(session, site, node)? else {
+        return Ok(());
+    };
+    let position = site.position(node);
+    let Some(derives) = collector.deferred_builtin_derives.take(position) else {
+        return Ok(());
+    };
+    let item = DerivedItem {
+        adt,
+        module_id: site.module_id,
+        position,
+    };
+    let def_map = &mut collector.def_map;
+    give_impls(def_map, db, session, item, derives.as_slice())
+}
+
+/// Handles an item by its kind. The list of items that are to be walked next goes into `opened`, where
+/// it opens one. On `Err` nothing but safety is promised.
+#[inline(always)]
+pub(crate) fn collect_item<'a, D: SourceDatabase>(
+    collector: &mut DefCollector<'a>,
+    db: &'a D,
+    session: &mut Interner,
+    site: &Site,
+    node: &'a ItemNode,
+    opened: &mut Option<ItemList<'a>>,
+) -> Result<(), AllocError>
+    requires { opened.old ≡ None }
+    ensures handled { OnOk result (
+        Handled (D.oracle db.now) (state_of collector.old session.old) (state_of collector.new session.new)
+        (site_of site.now) node.now (inner_of (D.oracle db.now) opened.new)) }
+    ensures known { OnOk result (AreKnown (D.oracle db.now) opened.new) }
+    ensures session { AddsLocations (session_of session.old) (session_of session.new) }
+{
+    match &node.kind {
+        ModItemKind::Mod {
+            name,
+            visibility,
+            contents,
+        } => {
+            let vis = collector.resolve_visibility(db, session, site.module_id, visibility);
+            let item = ModuleItem {
+                site,
+                node,
+                name: *name,
+                vis,
+            };
+            *opened = collect_module(collector, db, session, item, contents)?;
+        }
+        ModItemKind::ExternBlock { children } => {
+            let list = collect_extern_block(collector, db, session, site, node, children)?;
+            *opened = Some(list);
+        }
+        ModItemKind::MacroCall {
+            path,
+            expand_to,
+            ctxt,
+        } => {
+            let written = WrittenCall {
+                path,
+                expand_to: *expand_to,
+                ctxt: *ctxt,
+            };
+            *opened = collect_macro_call(collector, db, session, site, node, written)?;
+        }
+        _ => collect_leaf(collector, db, session, site, node)?,
+    }
+    Ok(())
+}
+
+/// Handles an item of a kind that opens no list. On `Err` nothing but safety is promised.
+fn collect_leaf<'a, D: SourceDatabase>(
+    collector: &mut DefCollector<'a>,
+    db: &D,
+    session: &mut Interner,
+    site: &Site,
+    node: &'a ItemNode,
+) -> Result<(), AllocError>
+    ensures handled { OnOk result (opens_list node.now.kind ≡ false →
+        Handled (D.oracle db.now) (state_of collector.old session.old) (state_of collector.new session.new)
+        (site_of site.now) node.now []) }
+    ensures session { AddsLocations (session_of session.old) (session_of session.new) }
+{
+    match &node.kind {
+        ModItemKind::Use {
+            visibility,
+            imports,
+        } => collector.collect_use(session, site, node, visibility, imports),
+        ModItemKind::ExternCrate {
+            name,
+            visibility,
+            alias,
+        } => {
+            let written = WrittenCrate {
+                name: *name,
+                visibility,
+                alias: *alias,
+            };
+            collector.collect_crate(db, session, site, node, written)
+        }
+        ModItemKind::Impl { is_trait_impl } => {
+            let def_map = &mut collector.def_map;
+            define_impl(def_map, session, site, node, *is_trait_impl)
+        }
+        ModItemKind::Struct {
+            name,
+            visibility,
+            ctor,
+        } => {
+            let written = WrittenStruct {
+                name: *name,
+                visibility,
+                ctor,
+            };
+            collector.collect_struct(db, session, site, node, written)
+        }
+        ModItemKind::MacroRules { name } => {
+            collect_macro_rules(collector, db, session, site, node, *name)
+        }
+        ModItemKind::Macro2 { name, visibility } => {
+            let written = WrittenMacro {
+                name: *name,
+                visibility,
+            };
+            collect_macro(collector, db, session, site, node, written)
+        }
+        _ => collector.collect_declaration(db, session, site, node),
+    }
+}
+
+/// Records an extern block. Answers the list of its items. On `Err` nothing but safety is
+/// promised.
+#[inline(never)]
+fn collect_extern_block<'a, D: SourceDatabase>(
+    collector: &mut DefCollector<'a>,
+    db: &'a D,
+    session: &mut Interner,
+    site: &Site,
+    node: &ItemNode,
+    children: &'a Seq<ModItemId>,
+) -> Result<ItemList<'a>, AllocError>
+    ensures handled { IfOk result (λ list. node.now.kind ≡ kinds.ExternBlock children.now →
+        Handled (D.oracle db.now) (state_of collector.old session.old) (state_of collector.new session.new)
+        (site_of site.now) node.now (inner_of (D.oracle db.now) (Some list))) }
+    ensures known { IfOk result (λ list. is_known (D.oracle db.now) list) }
+    ensures session { AddsLocations (session_of session.old) (session_of session.new) }
+{
+    let id = ExternBlockLoc {
+        container: site.module_id,
+        position: site.position(node),
+    }
+    .intern(session)?;
+    collector
+        .def_map
+        .define_extern_block(site.module_id.index, id)?;
+    Ok(ItemList {
+        site: Site {
+            module_id: site.module_id,
+            container: ItemContainerId::ExternBlock(id),
+            tree_id: site.tree_id,
+            depth: site.depth,
+            dir: site.dir.clone()?,
+        },
+        tree: db.item_tree(site.tree_id),
+        items: children.as_slice(),
+        into: None,
+    })
+}

@@ -1,3 +1,0 @@
-pub mod Collector
-pub mod Passes
-pub mod Walk
