@@ -1,0 +1,5 @@
+use Rattle.std.proofs.Common.{rules}
+use Rattle.def_parts.proofs.proc_macro.readers.parse_macro_name_and_helper_attrs.Goals as goal
+
+pub returns-in_default-2 : goal.returns-in_default-2
+returns-in_default-2 c = search rules
