@@ -1,12 +1,4 @@
-//! What no contract says: the printed lines, and worked rows over scripted crates.
+//! What no contract says: what the program prints, and the examples of use.
 
-mod answers;
 mod examples;
-mod extern_crates;
-mod files;
-mod glob_kinds;
-mod kinds;
-mod paths;
 mod program;
-mod rows;
-mod second_visit;

@@ -1,5 +1,0 @@
-//! Worked rows of attributes and derives over scripted crates.
-#![tactic(auto)]
-
-#[cfg(test)]
-mod tests;
