@@ -1,5 +1,4 @@
-//! Worked rows over scripted crates: items of each kind, files and paths, globs, blocks and dependencies,
-//! attributes and derives, macros and their calls, and what later passes bring.
+//! Worked rows over scripted crates: items of each kind, files and paths, globs, blocks and dependencies.
 #![tactic(auto)]
 
 #[cfg(test)]

@@ -1,30 +1,16 @@
 //! What no contract says: worked rows over scripted crates.
 
-mod answers;
-mod attributes;
-mod attrs;
 mod blocks;
-mod calls;
 mod deep_blocks;
 mod dependencies;
-mod derives;
-mod expansions;
 mod extern_crates;
-mod fallback;
-mod fast_path;
 mod files;
 mod glob_imports;
 mod glob_kinds;
 mod kinds;
-mod late_names;
-mod limit;
-mod macros;
-mod missing_answers;
-mod passes;
 mod paths;
 mod prelude_imports;
 mod rows;
 mod second_visit;
 mod shown_order;
 mod texts;
-mod wakes;

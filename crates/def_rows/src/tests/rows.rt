@@ -1,10 +1,8 @@
 //! Rows: scripted crates, and what is shown of them.
 #![tactic(auto)]
 
-use def_ids::{Edition, Macro2Id, MacroId};
-use def_workspace::{
-    CALL, CallText, Collected, CrateText, DependencyText, Fault, Vector, Workspace, find, show,
-};
+use def_ids::Edition;
+use def_workspace::{Collected, CrateText, DependencyText, Fault, Vector, Workspace, find, show};
 use std::alloc::Global;
 use std::process::Abort;
 
@@ -32,35 +30,8 @@ pub const OVER_D: &[CrateText] = &[
     },
 ];
 
-/// The first `macro` item.
-pub const ITEM: MacroId = MacroId::Macro2(Macro2Id(0));
-
-/// A call of the first macro by rules, which gives a struct.
-pub const GIVES_A: CallText = CallText {
-    gives: "pub struct A;",
-    ..CALL
-};
-
-/// Only `A` is bound.
-pub const A_ALONE: &str = "module 0 - crate
-binding 0 A types struct:0 pub decl
-binding 0 A values struct:0 pub decl
-";
-
-/// `A` is bound, and the crate `d`.
-pub const A_AND_D: &str = "module 0 - crate
-binding 0 A types struct:0 pub decl
-binding 0 A values struct:0 pub decl
-binding 0 d types mod:1/0 in:0 extern:0
-";
-
 /// Looks at the lines of a workspace.
-pub fn expect_lines(
-    rt: &impl Abort,
-    alloc: Global,
-    vector: &Vector,
-    want: &str,
-) -> Result<(), Fault> {
+fn expect_lines(rt: &impl Abort, alloc: Global, vector: &Vector, want: &str) -> Result<(), Fault> {
     let name = vector.name;
     let mut lines: Vec<u8> = Vec::new(alloc);
     show(alloc, vector, &mut lines)?;
