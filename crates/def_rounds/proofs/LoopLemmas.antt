@@ -1,5 +1,5 @@
 -- The loop over imports and macros: rounds, and what lies between them.
-use Rattle.std.proofs.Common.{◌≡◌, ◌<◌, ◌+◌, ℕ, true, false, true≢false, Contains, [], sym, subst, arith}
+use Rattle.std.proofs.Common.{◌≡◌, ◌<◌, ◌+◌, ◌∙◌, ℕ, true, false, true≢false, Contains, [], sym, subst, arith}
 use Rattle.def_interner.specs.Session.{AddsLocations, Session}
 use Rattle.def_interner.specs.SessionLaws.{adds_trans}
 use Rattle.def_oracle.specs.Oracle.{Oracle}
@@ -9,10 +9,10 @@ use Rattle.def_rules.specs.Settled.{IsNoAttribute}
 use Rattle.def_rules.specs.State.{State}
 use Rattle.def_rules.specs.Waiting.{MacroDirective}
 use Rattle.def_laws.specs.Finished.{IsAtRest}
-use Rattle.def_laws.specs.Runs.{Collects, HoldRounds}
+use Rattle.def_laws.specs.Runs.{Collects, HoldRounds, Leads}
 use Rattle.def_laws.proofs.RoundsLaws.{holds_both, holds_none, holds_one}
 use Rattle.def_laws.proofs.StepsLaws.{collects_refl, collects_trans}
-use Rattle.def_rounds.specs.Rounds.{Ends, GetsStuck, HasMade, MakesRound}
+use Rattle.def_rounds.specs.Rounds.{Ends, GetsStuck, GivesUp, HasMade, MakesRound}
 
 -- locations were added twice more
 pub adds_twice : (a b c d : Session) → AddsLocations a b → AddsLocations b c → AddsLocations c d → AddsLocations a d
@@ -46,3 +46,23 @@ pub ends_at_rest : {oracle : Oracle} {start s t : State} {rounds : ℕ} → HasM
 ends_at_rest {oracle = oracle} {t = t} {rounds = rounds} made stuck none =
     let whole = made_on made stuck.run in
     record { run = whole.run; rounds = rounds; holds = whole.holds; limit = λ met. absurd (true≢false (sym met)); rest = λ unmet. rest_then oracle t stuck.stuck none }
+
+-- what one turn of the loop does behind the imports that it records, by an oracle that stays the same
+module _ {oracle o : Oracle} {start s t : State} {rounds : ℕ} (made : HasMade oracle start rounds s) (at : o ≡ oracle) (imports : Leads o [] s [] t) where
+  passed : HasMade oracle start rounds t
+  passed = made_on made (subst (λ x. Leads x [] s [] t) at imports).collects
+
+  -- a round is made
+  pub made_round : {p : Oracle} {u : State} → p ≡ o → MakesRound p t u → HasMade oracle start (rounds + 1) u
+  made_round {u = u} then_at round = made_more passed (subst (λ x. MakesRound x t u) (then_at ∙ at) round)
+
+  -- nothing moves, and the run ends
+  pub ends_stuck : {p : Oracle} {u : State} → p ≡ o → GetsStuck p t u → ((d : MacroDirective) → Contains u.macros d → IsNoAttribute d.kind) → Ends oracle [] start false u
+  ends_stuck {u = u} then_at stuck none = ends_at_rest passed (subst (λ x. GetsStuck x t u) (then_at ∙ at) stuck) none
+
+  -- nothing moves, and an item is given up
+  pub made_given : {p q : Oracle} {u v : State} → p ≡ o → q ≡ p → GetsStuck p t u → GivesUp q u v → HasMade oracle start rounds v
+  made_given {u = u} {v = v} then_at last_at stuck given =
+      let stays = subst (λ x. GetsStuck x t u) (then_at ∙ at) stuck in
+      let leaves = subst (λ x. GivesUp x u v) (last_at ∙ then_at ∙ at) given in
+      made_on (made_on passed stays.run) leaves.run

@@ -1,7 +1,6 @@
 use Rattle.std.proofs.Common.{[], Contains, arith, false, refl, subst, sym, ◌∙◌}
 use Rattle.def_interner.specs.Session.{session_of}
 use Rattle.def_interner.specs.SessionLaws.{adds_refl, adds_trans}
-use Rattle.def_laws.specs.Runs.{Leads}
 use Rattle.def_laws.specs.Sound.{IsSoundWith}
 use Rattle.def_laws.proofs.PassLaws.{leads_lighter}
 use Rattle.def_laws.proofs.StepsLaws.{collects_sound}
@@ -10,14 +9,13 @@ use Rattle.def_rules.specs.Recording.{NoneReady}
 use Rattle.def_rules.specs.Settled.{IsNoAttribute}
 use Rattle.def_rules.specs.State.{State}
 use Rattle.def_rules.specs.Waiting.{MacroDirective}
-use Rattle.def_rounds.specs.Rounds.{Ends, GetsStuck, GivesUp, MakesRound}
-use Rattle.def_rounds.proofs.LoopLemmas.{adds_twice, ends_at_rest, ends_over, made_more, made_none, made_on}
+use Rattle.def_rounds.specs.Rounds.{Ends}
+use Rattle.def_rounds.proofs.LoopLemmas.{adds_twice, ends_over, ends_stuck, made_given, made_none, made_round}
 use Rattle.def_rounds.proofs.rounds.resolution_loop.Goals as goal
 
 pub rounds-init : goal.rounds-init
 rounds-init g c =
-    let begins = g.P.Passes.state c.args.passes.now c.args.session.now in
-    record { asks = refl; made = made_none (g.P.Passes.oracle c.args.passes.now) begins; few = omega arith; sound = c.requires.sound; bare = c.requires.bare; adds = adds_refl (session_of c.args.session.now) }
+    record { asks = refl; made = made_none _ _; few = omega arith; sound = c.requires.sound; bare = c.requires.bare; adds = adds_refl (session_of c.args.session.now) }
 
 pub resolve_macros-requires-clause-sound : goal.resolve_macros-requires-clause-sound
 resolve_macros-requires-clause-sound g c = collects_sound c.in_ok-import_passes.ensures.run.collects c.rounds.invariant.sound
@@ -26,61 +24,37 @@ pub resolve_macros-requires-clause-ready : goal.resolve_macros-requires-clause-r
 resolve_macros-requires-clause-ready g c =
     subst (λ o. NoneReady o (g.P.Passes.state c.import_passes.new.passes c.rounds.session)) (sym c.in_ok-import_passes.ensures.asks) c.in_ok-import_passes.ensures.settled
 
-pub resolve_macros-requires-clause-bare : goal.resolve_macros-requires-clause-bare
-resolve_macros-requires-clause-bare g c = c.in_ok-import_passes.ensures.run.expansions ∙ c.rounds.invariant.bare
-
 pub returns-in_err-resolve_macros-clause-session : goal.returns-in_err-resolve_macros-clause-session
-returns-in_err-resolve_macros-clause-session g c =
-    adds_trans (session_of c.args.session.now) (session_of c.rounds.session) (session_of c.resolve_macros.new.session) c.rounds.invariant.adds c.resolve_macros.ensures.session
-
-pub returns-then-rounds-gt-FIXED_POINT_LIMIT-clause-asks : goal.returns-then-rounds-gt-FIXED_POINT_LIMIT-clause-asks
-returns-then-rounds-gt-FIXED_POINT_LIMIT-clause-asks g c = c.in_ok-resolve_macros.ensures.asks ∙ c.in_ok-import_passes.ensures.asks ∙ c.rounds.invariant.asks
+returns-in_err-resolve_macros-clause-session g c = adds_trans _ _ _ c.rounds.invariant.adds c.resolve_macros.ensures.session
 
 pub returns-then-rounds-gt-FIXED_POINT_LIMIT-clause-ends : goal.returns-then-rounds-gt-FIXED_POINT_LIMIT-clause-ends
 returns-then-rounds-gt-FIXED_POINT_LIMIT-clause-ends g c =
-    let state = g.P.Passes.state in
-    let s = state c.rounds.passes c.rounds.session in
-    let t = state c.import_passes.new.passes c.rounds.session in
-    let u = state c.resolve_macros.new.self c.resolve_macros.new.session in
-    let at = c.rounds.invariant.asks in
-    let imports = subst (λ o. Leads o [] s [] t) at c.in_ok-import_passes.ensures.run in
-    let round = subst (λ o. MakesRound o t u) (c.in_ok-import_passes.ensures.asks ∙ at) (c.in_ok-resolve_macros.ensures.round c.if-branch.true) in
-    let more = c.if-rounds-gt-FIXED_POINT_LIMIT.true in
-    ends_over (made_more (made_on c.rounds.invariant.made imports.collects) round) (omega (arith, more))
+    let round = c.in_ok-resolve_macros.ensures.round c.if-branch.true in
+    ends_over (made_round c.rounds.invariant.made c.rounds.invariant.asks c.in_ok-import_passes.ensures.run c.in_ok-import_passes.ensures.asks round) (omega (arith, c.if-rounds-gt-FIXED_POINT_LIMIT.true))
 
 pub returns-then-rounds-gt-FIXED_POINT_LIMIT-clause-sound : goal.returns-then-rounds-gt-FIXED_POINT_LIMIT-clause-sound
 returns-then-rounds-gt-FIXED_POINT_LIMIT-clause-sound g c =
     collects_sound (c.in_ok-resolve_macros.ensures.round c.if-branch.true).run (collects_sound c.in_ok-import_passes.ensures.run.collects c.rounds.invariant.sound)
 
 pub returns-then-rounds-gt-FIXED_POINT_LIMIT-clause-session : goal.returns-then-rounds-gt-FIXED_POINT_LIMIT-clause-session
-returns-then-rounds-gt-FIXED_POINT_LIMIT-clause-session g c =
-    adds_trans (session_of c.args.session.now) (session_of c.rounds.session) (session_of c.resolve_macros.new.session) c.rounds.invariant.adds c.resolve_macros.ensures.session
+returns-then-rounds-gt-FIXED_POINT_LIMIT-clause-session g c = adds_trans _ _ _ c.rounds.invariant.adds c.resolve_macros.ensures.session
 
 pub rounds-smaller-else-rounds-gt-FIXED_POINT_LIMIT : goal.rounds-smaller-else-rounds-gt-FIXED_POINT_LIMIT
 rounds-smaller-else-rounds-gt-FIXED_POINT_LIMIT g c =
-    let state = g.P.Passes.state in
     let less = (c.in_ok-resolve_macros.ensures.round c.if-branch.true).fewer in
-    let most = leads_lighter (state c.rounds.passes c.rounds.session) (state c.import_passes.new.passes c.rounds.session) c.in_ok-import_passes.ensures.run in
-    omega (arith, less, most)
+    omega (arith, less, leads_lighter _ _ c.in_ok-import_passes.ensures.run)
 
 pub rounds-preserved-else-rounds-gt-FIXED_POINT_LIMIT : goal.rounds-preserved-else-rounds-gt-FIXED_POINT_LIMIT
 rounds-preserved-else-rounds-gt-FIXED_POINT_LIMIT g c =
-    let state = g.P.Passes.state in
-    let s = state c.rounds.passes c.rounds.session in
-    let t = state c.import_passes.new.passes c.rounds.session in
-    let u = state c.resolve_macros.new.self c.resolve_macros.new.session in
-    let at = c.rounds.invariant.asks in
-    let then_at = c.in_ok-import_passes.ensures.asks ∙ at in
-    let imports = subst (λ o. Leads o [] s [] t) at c.in_ok-import_passes.ensures.run in
-    let round = subst (λ o. MakesRound o t u) then_at (c.in_ok-resolve_macros.ensures.round c.if-branch.true) in
+    let round = c.in_ok-resolve_macros.ensures.round c.if-branch.true in
     let few = c.if-rounds-gt-FIXED_POINT_LIMIT.false in
     record {
-      asks = c.in_ok-resolve_macros.ensures.asks ∙ then_at;
-      made = made_more (made_on c.rounds.invariant.made imports.collects) round;
+      asks = c.in_ok-resolve_macros.ensures.asks ∙ c.in_ok-import_passes.ensures.asks ∙ c.rounds.invariant.asks;
+      made = made_round c.rounds.invariant.made c.rounds.invariant.asks c.in_ok-import_passes.ensures.run c.in_ok-import_passes.ensures.asks round;
       few = omega (arith, few);
-      sound = collects_sound round.run (collects_sound imports.collects c.rounds.invariant.sound);
+      sound = collects_sound round.run (collects_sound c.in_ok-import_passes.ensures.run.collects c.rounds.invariant.sound);
       bare = c.in_ok-resolve_macros.ensures.expanded;
-      adds = adds_trans (session_of c.args.session.now) (session_of c.rounds.session) (session_of c.resolve_macros.new.session) c.rounds.invariant.adds c.resolve_macros.ensures.session;
+      adds = adds_trans _ _ _ c.rounds.invariant.adds c.resolve_macros.ensures.session;
     }
 
 pub fall_back-requires-clause-stuck : goal.fall_back-requires-clause-stuck
@@ -89,25 +63,14 @@ fall_back-requires-clause-stuck g c =
     subst (λ o. IsStuck o u) (sym c.in_ok-resolve_macros.ensures.asks) (c.in_ok-resolve_macros.ensures.stuck c.if-branch.false).stuck
 
 pub returns-in_err-fall_back-clause-session : goal.returns-in_err-fall_back-clause-session
-returns-in_err-fall_back-clause-session g c =
-    adds_twice (session_of c.args.session.now) (session_of c.rounds.session) (session_of c.resolve_macros.new.session) (session_of c.fall_back.new.session) c.rounds.invariant.adds c.resolve_macros.ensures.session c.fall_back.ensures.session
-
-pub returns-then-not-branch-clause-asks : goal.returns-then-not-branch-clause-asks
-returns-then-not-branch-clause-asks g c = c.in_ok-fall_back.ensures.asks ∙ c.in_ok-resolve_macros.ensures.asks ∙ c.in_ok-import_passes.ensures.asks ∙ c.rounds.invariant.asks
+returns-in_err-fall_back-clause-session g c = adds_twice _ _ _ _ c.rounds.invariant.adds c.resolve_macros.ensures.session c.fall_back.ensures.session
 
 pub returns-then-not-branch-clause-ends : goal.returns-then-not-branch-clause-ends
 returns-then-not-branch-clause-ends g c =
-    let state = g.P.Passes.state in
-    let s = state c.rounds.passes c.rounds.session in
-    let t = state c.import_passes.new.passes c.rounds.session in
-    let u = state c.resolve_macros.new.self c.resolve_macros.new.session in
-    let at = c.rounds.invariant.asks in
-    let imports = subst (λ o. Leads o [] s [] t) at c.in_ok-import_passes.ensures.run in
-    let stuck = subst (λ o. GetsStuck o t u) (c.in_ok-import_passes.ensures.asks ∙ at) (c.in_ok-resolve_macros.ensures.stuck c.if-branch.false) in
     let same = c.in_ok-fall_back.ensures.same c.if-not-branch.true in
     let none = subst (λ (x : State). (d : MacroDirective) → Contains x.macros d → IsNoAttribute d.kind) same (c.in_ok-fall_back.ensures.none c.if-not-branch.true) in
-    subst (λ x. Ends (g.P.Passes.oracle c.args.passes.now) [] (state c.args.passes.now c.args.session.now) false x) (sym same)
-    (ends_at_rest (made_on c.rounds.invariant.made imports.collects) stuck none)
+    subst (λ x. Ends (g.P.Passes.oracle c.args.passes.now) [] (g.P.Passes.state c.args.passes.now c.args.session.now) false x) (sym same)
+    (ends_stuck c.rounds.invariant.made c.rounds.invariant.asks c.in_ok-import_passes.ensures.run c.in_ok-import_passes.ensures.asks (c.in_ok-resolve_macros.ensures.stuck c.if-branch.false) none)
 
 pub returns-then-not-branch-clause-sound : goal.returns-then-not-branch-clause-sound
 returns-then-not-branch-clause-sound g c =
@@ -115,35 +78,23 @@ returns-then-not-branch-clause-sound g c =
     (collects_sound (c.in_ok-resolve_macros.ensures.stuck c.if-branch.false).run (collects_sound c.in_ok-import_passes.ensures.run.collects c.rounds.invariant.sound))
 
 pub returns-then-not-branch-clause-session : goal.returns-then-not-branch-clause-session
-returns-then-not-branch-clause-session g c =
-    adds_twice (session_of c.args.session.now) (session_of c.rounds.session) (session_of c.resolve_macros.new.session) (session_of c.fall_back.new.session) c.rounds.invariant.adds c.resolve_macros.ensures.session c.fall_back.ensures.session
+returns-then-not-branch-clause-session g c = adds_twice _ _ _ _ c.rounds.invariant.adds c.resolve_macros.ensures.session c.fall_back.ensures.session
 
 pub rounds-smaller : goal.rounds-smaller
 rounds-smaller g c =
-    let state = g.P.Passes.state in
     let less = (c.in_ok-fall_back.ensures.given_up c.if-not-branch.false).fewer in
     let as_much = (c.in_ok-resolve_macros.ensures.stuck c.if-branch.false).as_much in
-    let most = leads_lighter (state c.rounds.passes c.rounds.session) (state c.import_passes.new.passes c.rounds.session) c.in_ok-import_passes.ensures.run in
-    omega (arith, less, as_much, most)
+    omega (arith, less, as_much, leads_lighter _ _ c.in_ok-import_passes.ensures.run)
 
 pub rounds-preserved : goal.rounds-preserved
 rounds-preserved g c =
-    let state = g.P.Passes.state in
-    let s = state c.rounds.passes c.rounds.session in
-    let t = state c.import_passes.new.passes c.rounds.session in
-    let u = state c.resolve_macros.new.self c.resolve_macros.new.session in
-    let v = state c.fall_back.new.self c.fall_back.new.session in
-    let at = c.rounds.invariant.asks in
-    let then_at = c.in_ok-import_passes.ensures.asks ∙ at in
-    let last_at = c.in_ok-resolve_macros.ensures.asks ∙ then_at in
-    let imports = subst (λ o. Leads o [] s [] t) at c.in_ok-import_passes.ensures.run in
-    let stuck = subst (λ o. GetsStuck o t u) then_at (c.in_ok-resolve_macros.ensures.stuck c.if-branch.false) in
-    let given = subst (λ o. GivesUp o u v) last_at (c.in_ok-fall_back.ensures.given_up c.if-not-branch.false) in
+    let stuck = c.in_ok-resolve_macros.ensures.stuck c.if-branch.false in
+    let given = c.in_ok-fall_back.ensures.given_up c.if-not-branch.false in
     record {
-      asks = c.in_ok-fall_back.ensures.asks ∙ last_at;
-      made = made_on (made_on (made_on c.rounds.invariant.made imports.collects) stuck.run) given.run;
+      asks = c.in_ok-fall_back.ensures.asks ∙ c.in_ok-resolve_macros.ensures.asks ∙ c.in_ok-import_passes.ensures.asks ∙ c.rounds.invariant.asks;
+      made = made_given c.rounds.invariant.made c.rounds.invariant.asks c.in_ok-import_passes.ensures.run c.in_ok-import_passes.ensures.asks c.in_ok-resolve_macros.ensures.asks stuck given;
       few = c.rounds.invariant.few;
-      sound = collects_sound given.run (collects_sound stuck.run (collects_sound imports.collects c.rounds.invariant.sound));
+      sound = collects_sound given.run (collects_sound stuck.run (collects_sound c.in_ok-import_passes.ensures.run.collects c.rounds.invariant.sound));
       bare = c.in_ok-fall_back.ensures.expanded;
-      adds = adds_twice (session_of c.args.session.now) (session_of c.rounds.session) (session_of c.resolve_macros.new.session) (session_of c.fall_back.new.session) c.rounds.invariant.adds c.resolve_macros.ensures.session c.fall_back.ensures.session;
+      adds = adds_twice _ _ _ _ c.rounds.invariant.adds c.resolve_macros.ensures.session c.fall_back.ensures.session;
     }
