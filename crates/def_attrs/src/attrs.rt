@@ -3,7 +3,7 @@ ghost use Rattle.std.specs.Prelude.{◌≡◌, map, option_map};
 ghost use Rattle.def_attrs.specs.ItemAttrs.{active_of, skipped_of};
 ghost use Rattle.def_attrs.specs.Shown.{attr_use_of};
 ghost use Rattle.def_calls.specs.Shown.{macro_directive_of, written_attr_of};
-ghost use Rattle.def_items.specs.Parts.{site_of};
+ghost use Rattle.def_parts.specs.Sites.{site_of};
 ghost use Rattle.def_map.specs.Asking.{world_lent};
 ghost use Rattle.def_modules.specs.Maps.{helper_state, map_state};
 ghost use Rattle.def_modules.specs.Tables.{bound_by};
@@ -15,11 +15,11 @@ use crate::item_attrs::ItemAttrs;
 use def_calls::{MacroDirective, PathResolver, WrittenAttr};
 use def_ids::ModuleId;
 use def_interner::{MacroDefId, MacroDefKind};
-use def_items::Site;
 use def_locs::BuiltinAttr;
 use def_map::{
     AttrCallQuery, DeriveHelper, MacroResolver, MacroSubNs, MapData, SourceDatabase, Table, World,
 };
+use def_parts::Site;
 use item_tree::{
     Attr, AttrId, AttrsAfter, Crate, FileAstId, InFile, ItemNode, MacroCallId, ModItemId, ModPath,
     Name, PathKind,

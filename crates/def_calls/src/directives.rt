@@ -3,7 +3,7 @@ ghost use Rattle.std.specs.Prelude.{◌≡◌, ◌++◌, ◌∷◌, [], List, fa
 ghost use Rattle.def_calls.specs.declared.directives.MacroDirective.{MacroDirective as Directive};
 ghost use Rattle.def_calls.specs.Shown.{IsTurned, expansion_shown, kind_of, leaves, macro_directive_of, macros_in, with_waiting, written_derive_of};
 ghost use Rattle.def_modules.specs.Maps.{map_state};
-ghost use Rattle.def_items.specs.Parts.{site_of};
+ghost use Rattle.def_parts.specs.Sites.{site_of};
 ghost use Rattle.def_rules.specs.Calls.{invoking, waiting};
 ghost use Rattle.def_rules.specs.Derives.{derive_directive};
 ghost use Rattle.def_rules.specs.Directives.{GivesCall, call_told, expansion_of};
@@ -13,8 +13,8 @@ ghost use Rattle.def_rules.specs.Waiting.{Derive, FnLike, WrittenCall as Written
 
 use crate::queries::deeper;
 use def_ids::{ItemContainerId, ModuleId};
-use def_items::Site;
 use def_map::{CallAnswer, MapData, UnresolvedMacro};
+use def_parts::Site;
 use def_rules::{DefDiagnostic, DefDiagnosticKind, LeftMacro, LeftMacroKind};
 use item_tree::{
     Attr, AttrId, ExpandTo, FileAstId, InFile, ItemNode, MacroCallId, ModItemId, ModPath,

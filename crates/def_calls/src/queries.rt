@@ -1,7 +1,7 @@
 //! What a call is asked with, and how deep its expansion lies.
 ghost use Rattle.std.specs.Prelude.{◌≡◌, IfOk};
 ghost use Rattle.def_calls.specs.Shown.{macro_directive_of, written_of};
-ghost use Rattle.def_items.specs.Parts.{directories_of};
+ghost use Rattle.def_parts.specs.Sites.{directories_of};
 ghost use Rattle.def_map.specs.Asking.{world_lent};
 ghost use Rattle.def_map.specs.Queries.{plain_call};
 ghost use Rattle.def_modules.specs.Maps.{map_state};
@@ -13,11 +13,10 @@ use crate::directives::{MacroDirective, WrittenCall};
 use crate::early_resolver::EarlyResolver;
 use crate::path_resolver::PathResolver;
 use def_ids::ModuleId;
-use def_items::ModDirs;
 use def_map::{
     CallAnswer, CallQuery, MacroSubNs, MapData, SourceDatabase, Table, UnresolvedMacro, World,
 };
-use def_parts::ModDir;
+use def_parts::{ModDir, ModDirs};
 use item_tree::{FileAstId, InFile, MacroCallId};
 use std::alloc::{AllocError, Global};
 

@@ -7,7 +7,7 @@ use Rattle.def_attrs.specs.ItemAttrs.{active_of, skipped_of}
 use Rattle.def_attrs.specs.Shown.{deferrals_of}
 use Rattle.def_calls.specs.Shown.{expansion_shown, macros_in}
 use Rattle.def_crates.specs.Missing.{missing_in}
-use Rattle.def_items.specs.Parts.{directories_of}
+use Rattle.def_parts.specs.Sites.{directories_of}
 use Rattle.def_modules.specs.Locals.{local_view}
 use Rattle.def_modules.specs.Maps.{map_state}
 use Rattle.def_modules.specs.Tables.{bound_by}

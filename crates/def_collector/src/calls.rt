@@ -2,7 +2,7 @@
 ghost use Rattle.std.specs.Prelude.{◌≡◌, Ok, IfOk};
 ghost use Rattle.def_interner.specs.declared.interner.Interner.{Interner};
 ghost use Rattle.def_calls.specs.Shown.{expansion_shown, written_of};
-ghost use Rattle.def_items.specs.Parts.{site_of};
+ghost use Rattle.def_parts.specs.Sites.{site_of};
 ghost use Rattle.def_collector.specs.Collector.{state_of};
 ghost use Rattle.def_collector.specs.Walk.{AreKnown, inner_of};
 ghost use Rattle.def_laws.specs.Performs.{IsDone};
@@ -16,8 +16,9 @@ use def_calls::{
     is_too_deep, queue_macro, record_calls,
 };
 use def_interner::Interner;
-use def_items::{ItemList, Site, top_items};
+use def_items::{ItemList, top_items};
 use def_map::{CallAnswer, SourceDatabase};
+use def_parts::Site;
 use item_tree::{HirFileId, ItemNode, TreeId};
 use std::alloc::AllocError;
 

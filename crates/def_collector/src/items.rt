@@ -2,7 +2,7 @@
 ghost use Rattle.std.specs.Prelude.{◌≡◌, [], false, Some, None, IfOk, OnOk};
 ghost use Rattle.item_tree.specs.declared.items.ModItemKind.TheVariants as kinds;
 ghost use Rattle.def_interner.specs.Session.{AddsLocations, session_of};
-ghost use Rattle.def_items.specs.Parts.{site_of};
+ghost use Rattle.def_parts.specs.Sites.{site_of};
 ghost use Rattle.def_collector.specs.Collector.{state_of};
 ghost use Rattle.def_collector.specs.Walk.{AreKnown, inner_of, is_known, opens_list};
 ghost use Rattle.def_laws.specs.Performs.{GaveImpls, Handled};
@@ -15,9 +15,10 @@ use def_attrs::{DerivedItem, give_impls};
 use def_calls::WrittenCall;
 use def_ids::ItemContainerId;
 use def_interner::{Interner, Location};
-use def_items::{ItemList, Site, define_impl, number_adt};
+use def_items::{ItemList, define_impl, number_adt};
 use def_locs::ExternBlockLoc;
 use def_map::SourceDatabase;
+use def_parts::Site;
 use item_tree::{ItemNode, ModItemId, ModItemKind, Seq};
 use std::alloc::AllocError;
 

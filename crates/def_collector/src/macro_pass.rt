@@ -31,8 +31,9 @@ use def_calls::{
     call_answer, give_call, leave, put_asked_first, settle_call, stay, stored_dir,
 };
 use def_interner::{Interner, MacroDefId};
-use def_items::{ItemList, Site};
+use def_items::ItemList;
 use def_map::SourceDatabase;
+use def_parts::Site;
 use def_rules::DefDiagnostic;
 use std::alloc::AllocError;
 

@@ -2,17 +2,17 @@
 ghost use Rattle.std.specs.Prelude.{◌≡◌, [], OnOk};
 ghost use Rattle.item_tree.specs.declared.items.ModItemKind.TheVariants as kinds;
 ghost use Rattle.def_interner.specs.Session.{AddsLocations, session_of};
-ghost use Rattle.def_items.specs.Parts.{site_of};
+ghost use Rattle.def_parts.specs.Sites.{site_of};
 ghost use Rattle.def_collector.specs.Collector.{state_of};
 ghost use Rattle.def_laws.specs.Performs.{Handled};
 
 use crate::collector::DefCollector;
 use def_interner::Interner;
-use def_items::Site;
 use def_macros::{
     define_macro, define_macro_rules, number_macro, number_macro_rules, report_macro,
 };
 use def_map::SourceDatabase;
+use def_parts::Site;
 use item_tree::{ItemNode, Name, RawVisibility};
 use std::alloc::AllocError;
 

@@ -6,7 +6,7 @@ ghost use Rattle.def_ids.specs.declared.ids.Def.TheVariants as def_kind;
 ghost use Rattle.def_interner.specs.declared.interner.Interner.{Interner};
 ghost use Rattle.def_interner.specs.Session as sessions;
 ghost use Rattle.def_modules.specs.declared.module_data.ModuleOrigin.TheVariants as origin_kind;
-ghost use Rattle.def_items.specs.Parts.{site_of};
+ghost use Rattle.def_parts.specs.Sites.{site_of};
 ghost use Rattle.def_collector.specs.Collector.{state_of};
 ghost use Rattle.def_collector.specs.Walk.{AreKnown, found_in, inner_of};
 ghost use Rattle.def_laws.specs.Performs.{IsDone, Updated};
@@ -19,11 +19,11 @@ use def_bindings::Visibility;
 use def_ids::{ItemContainerId, ModuleId};
 use def_interner::Interner;
 use def_items::{
-    ChildModule, ItemList, Site, disabled_by, hands_on, into_if, is_macro_use, push_child_module,
-    report, top_items,
+    ChildModule, ItemList, disabled_by, hands_on, into_if, is_macro_use, push_child_module, report,
+    top_items,
 };
 use def_map::{ModuleOrigin, SourceDatabase};
-use def_parts::ModDir;
+use def_parts::{ModDir, Site};
 use def_rules::DefDiagnosticKind;
 use item_tree::{FileId, HirFileId, ItemNode, ModContents, ModItemId, Name, Seq, Text, TreeId};
 use std::alloc::{AllocError, Global};

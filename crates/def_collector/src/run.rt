@@ -32,9 +32,9 @@ use def_calls::{MacroDirectiveKind, call_answer, report_left_call, report_left_d
 use def_crates::{MissingCrates, deps_by_name, is_proc_macro_crate, top_attrs};
 use def_ids::{ItemContainerId, MapId, ModuleId};
 use def_interner::Interner;
-use def_items::{ItemList, ModDirs, Site, disabled_by, report_disabled, top_items};
+use def_items::{ItemList, disabled_by, report_disabled, top_items};
 use def_map::{DefMap, LocalDefMap, SourceDatabase, Table};
-use def_parts::{Globs, ModDir};
+use def_parts::{Globs, ModDir, ModDirs, Site};
 use def_rounds::resolution_loop;
 use indexmap::IndexMap;
 use item_tree::{HirFileId, TreeId};

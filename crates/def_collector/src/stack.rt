@@ -5,7 +5,8 @@ ghost use Rattle.item_tree.specs.Trees.{item_at};
 ghost use Rattle.def_interner.specs.declared.interner.Interner.{Interner};
 ghost use Rattle.def_interner.specs.Session.{AddsLocations, session_of};
 ghost use Rattle.def_items.specs.Lists.{left_of};
-ghost use Rattle.def_items.specs.Parts.{list_site, site_of};
+ghost use Rattle.def_items.specs.Parts.{list_site};
+ghost use Rattle.def_parts.specs.Sites.{site_of};
 ghost use Rattle.def_collector.specs.Passes.{Awaits};
 ghost use Rattle.def_rules.specs.Attributes.{awaited_attr};
 ghost use Rattle.def_collector.specs.Collector.{state_of};
@@ -19,10 +20,9 @@ use crate::items::{collect_item, give_deferred};
 use def_attrs::awaited_attr;
 use def_calls::{MacroDirectiveKind, WrittenAttr, queue_macro};
 use def_interner::Interner;
-use def_items::{
-    Frame, ItemList, Site, bring_macros, push_list, push_opened, report_disabled_item,
-};
+use def_items::{Frame, ItemList, bring_macros, push_list, push_opened, report_disabled_item};
 use def_map::SourceDatabase;
+use def_parts::Site;
 use item_tree::{ItemNode, ItemTree, ModItemId};
 use std::alloc::AllocError;
 

@@ -1,24 +1,15 @@
 -- Where items stand, and what the parts of the state that they change stand for.
 use Rattle.std.specs.Prelude.{Option, option_map}
 use Rattle.item_tree.specs.declared.tree.ItemTree.{ItemTree}
-use Rattle.def_ids.specs.declared.ids.ModuleId.{ModuleId}
 use Rattle.def_interner.specs.declared.interner.Interner.{Interner}
-use Rattle.def_ids.specs.Ids.{is_same_module}
 use Rattle.def_interner.specs.Session.{session_of}
 use Rattle.def_items.specs.declared.lists.ItemList.{ItemList}
-use Rattle.def_items.specs.declared.lists.Site.{Site as SiteInCode}
-use Rattle.def_items.specs.declared.mod_dirs.ModDirs.{ModDirs}
 use Rattle.def_modules.specs.declared.map.MapData.{MapData}
 use Rattle.def_modules.specs.Maps.{map_state}
 use Rattle.def_modules.specs.MapView.{LocalView}
 use Rattle.def_modules.specs.Tables.{Table, bound_by}
-use Rattle.def_parts.specs.Directories.{Directory}
+use Rattle.def_parts.specs.Sites.{site_of}
 use Rattle.def_rules.specs.State.{Site, State}
-use Rattle.indexmap.specs.IndexMap.{get}
-
--- where items stand
-abbrev pub site_of : SiteInCode → Site
-site_of site = record { scope = site.module_id; container = site.container; tree = site.tree_id; depth = site.depth; directory = site.dir }
 
 -- where the items of a list stand
 abbrev pub list_site : ItemList → Site
@@ -27,10 +18,6 @@ list_site list = site_of list.site
 -- the tree that a list goes over, if there is one
 abbrev pub tree_in : ItemList → Option ItemTree
 tree_in list = option_map (λ t. t.now) list.tree
-
--- the directory that is stored for each module
-abbrev pub directories_of : ModDirs → ModuleId → Option Directory
-directories_of d = get is_same_module d.dirs
 
 -- a state whose map and table are these
 abbrev pub with_parts : State → MapData → Table → State

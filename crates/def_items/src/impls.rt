@@ -3,14 +3,15 @@ ghost use Rattle.std.specs.Prelude.{◌≡◌, [], OnOk};
 ghost use Rattle.item_tree.specs.declared.items.ModItemKind.TheVariants as kinds;
 ghost use Rattle.def_interner.specs.Session.{AddsLocations, session_of};
 ghost use Rattle.def_map.specs.Oracle.{Oracle};
-ghost use Rattle.def_items.specs.Parts.{site_of, with_session};
+ghost use Rattle.def_items.specs.Parts.{with_session};
+ghost use Rattle.def_parts.specs.Sites.{site_of};
 ghost use Rattle.def_laws.specs.Performs.{Handled};
 ghost use Rattle.def_rules.specs.State.{State};
 
-use crate::lists::Site;
 use def_interner::{Interner, Location};
 use def_locs::ImplLoc;
 use def_map::MapData;
+use def_parts::Site;
 use item_tree::ItemNode;
 use std::alloc::AllocError;
 

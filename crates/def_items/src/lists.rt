@@ -4,41 +4,15 @@ ghost use Rattle.item_tree.specs.Attrs.{cfg_in};
 ghost use Rattle.def_ids.specs.Ids.{is_same_module};
 ghost use Rattle.def_modules.specs.Updates.{set_where};
 ghost use Rattle.def_items.specs.Lists.{IsBegun, left_of, listed};
-ghost use Rattle.def_items.specs.Parts.{directories_of, site_of, tree_in};
-ghost use Rattle.def_rules.specs.Items.{ordered, position_of};
+ghost use Rattle.def_items.specs.Parts.{tree_in};
+ghost use Rattle.def_parts.specs.Sites.{directories_of};
+ghost use Rattle.def_rules.specs.Items.{ordered};
 
 use crate::item_order::{crates_first, is_crate_root};
-use crate::mod_dirs::ModDirs;
-use def_ids::{ItemContainerId, ModuleId};
-use def_parts::ModDir;
-use item_tree::{CfgExpr, FileAstId, InFile, ItemNode, ItemTree, ModItemId, TreeId};
+use def_ids::ModuleId;
+use def_parts::{ModDirs, Site};
+use item_tree::{CfgExpr, ItemTree, ModItemId};
 use std::alloc::{AllocError, Global};
-
-/// Where items stand.
-#[derive(Drop)]
-pub struct Site {
-    pub module_id: ModuleId,
-    /// The module, or an extern block in it.
-    pub container: ItemContainerId,
-    /// The tree that holds them.
-    pub tree_id: TreeId,
-    /// How deep in expansions of macros they lie.
-    pub depth: u32,
-    /// Where the files of the module's children lie.
-    pub dir: ModDir,
-}
-
-impl Site {
-    /// The position of one of its items.
-    pub fn position(&self, node: &ItemNode) -> InFile<FileAstId>
-        ensures { result ≡ position_of (site_of self.now) node.now }
-    {
-        InFile {
-            file: self.tree_id.file,
-            value: node.ast_id,
-        }
-    }
-}
 
 /// A list of items that is to be walked.
 #[derive(Drop)]

@@ -2,18 +2,18 @@
 ghost use Rattle.std.specs.Prelude.{◌≡◌, false, IfNone, IfOk, IfSome, OnOk};
 ghost use Rattle.def_interner.specs.Session.{AddsLocations, session_of};
 ghost use Rattle.def_items.specs.Numbered.{IsDeclared, is_declaring, is_type};
-ghost use Rattle.def_items.specs.Parts.{site_of};
+ghost use Rattle.def_parts.specs.Sites.{site_of};
 ghost use Rattle.def_rules.specs.Deferred.{IsAdt};
 ghost use Rattle.def_rules.specs.Derives.{derives_kind};
 ghost use Rattle.def_rules.specs.State.{State};
 
-use crate::lists::Site;
 use def_bindings::Namespace;
 use def_ids::{Adt, ConstId, Def};
 use def_interner::{Interner, Location};
 use def_locs::{
     ConstLoc, EnumLoc, FunctionLoc, StaticLoc, StructLoc, TraitLoc, TypeAliasLoc, UnionLoc,
 };
+use def_parts::Site;
 use item_tree::{ItemNode, ModItemKind, Name, RawVisibility};
 use std::alloc::AllocError;
 

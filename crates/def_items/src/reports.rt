@@ -2,14 +2,14 @@
 ghost use Rattle.std.specs.Prelude.{◌≡◌, ◌∷◌, ◌++◌, [], false, Some, is_some, IfOk, IfSome, OnOk};
 ghost use Rattle.item_tree.specs.Attrs.{disabled_by};
 ghost use Rattle.def_modules.specs.Maps.{map_state};
-ghost use Rattle.def_items.specs.Parts.{site_of};
+ghost use Rattle.def_parts.specs.Sites.{site_of};
 ghost use Rattle.def_rules.specs.declared.diagnostics.DefDiagnosticKind.TheVariants.{UnconfiguredCode};
 ghost use Rattle.def_rules.specs.Items.{diagnostic};
 ghost use Rattle.def_rules.specs.Start.{first_reports};
 
-use crate::lists::Site;
 use def_ids::ModuleId;
 use def_map::MapData;
+use def_parts::Site;
 use def_rules::{DefDiagnostic, DefDiagnosticKind};
 use item_tree::{CfgExpr, FileAstId, InFile, ItemNode, TreeId};
 use std::alloc::AllocError;

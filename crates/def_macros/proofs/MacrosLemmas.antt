@@ -22,7 +22,7 @@ use Rattle.def_interner.specs.MacroKinds.{kind_of_expander}
 use Rattle.def_interner.specs.Session.{AddsLocations, MacroLoc, Session}
 use Rattle.def_bindings.specs.declared.visibility.Visibility.{Visibility}
 use Rattle.def_bindings.specs.Content.{Content}
-use Rattle.def_items.specs.Parts.{site_of}
+use Rattle.def_parts.specs.Sites.{site_of}
 use Rattle.def_macros.specs.declared.numbered.MacroItem.{MacroItem}
 use Rattle.def_macros.specs.Numbered.{IsItem, IsRules}
 use Rattle.def_map.specs.Oracle.{Oracle}

@@ -5,7 +5,7 @@ use Rattle.tree_ids.specs.declared.name.Name.{Name}
 use Rattle.item_tree.specs.Attrs.{attrs_of}
 use Rattle.def_ids.specs.declared.ids.MacroId.TheVariants.{MacroRules, Macro2}
 use Rattle.def_interner.specs.Session.{Session}
-use Rattle.def_items.specs.Parts.{site_of}
+use Rattle.def_parts.specs.Sites.{site_of}
 use Rattle.def_macros.specs.declared.numbered.MacroItem.{MacroItem}
 use Rattle.def_modules.specs.MapState.{MapState}
 use Rattle.def_map.specs.Oracle.{Oracle}

@@ -2,13 +2,13 @@
 ghost use Rattle.std.specs.Prelude.{◌≡◌};
 ghost use Rattle.item_tree.specs.Attrs.{attrs_of};
 ghost use Rattle.def_interner.specs.Session.{session_of};
-ghost use Rattle.def_items.specs.Parts.{site_of};
+ghost use Rattle.def_parts.specs.Sites.{site_of};
 ghost use Rattle.def_rules.specs.Macros as macros;
 
 use def_interner::Interner;
-use def_items::Site;
 use def_locs::MacroExpander;
 use def_map::SourceDatabase;
+use def_parts::Site;
 use either::Either;
 use item_tree::{Crate, ItemNode, Name, TopSubtree, sym};
 

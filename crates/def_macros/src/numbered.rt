@@ -2,16 +2,16 @@
 ghost use Rattle.std.specs.Prelude.{IfOk};
 ghost use Rattle.def_interner.specs.Session.{AddsLocations, session_of};
 ghost use Rattle.def_modules.specs.Maps.{map_state};
-ghost use Rattle.def_items.specs.Parts.{site_of};
+ghost use Rattle.def_parts.specs.Sites.{site_of};
 ghost use Rattle.def_macros.specs.Numbered.{IsItem, IsRules};
 
 use crate::expanders::{builtin_name, item_expander, rules_expander};
 use crate::flags::{item_flags, rules_flags};
 use def_ids::MacroId;
 use def_interner::{Interner, Location};
-use def_items::Site;
 use def_locs::{Macro2Loc, MacroExpander, MacroRulesLoc};
 use def_map::{MapData, SourceDatabase};
+use def_parts::Site;
 use item_tree::{ItemNode, Name};
 use std::alloc::AllocError;
 

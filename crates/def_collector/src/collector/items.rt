@@ -3,14 +3,14 @@ ghost use Rattle.std.specs.Prelude.{◌≡◌, [], OnOk};
 ghost use Rattle.item_tree.specs.declared.items.ModItemKind.TheVariants as kinds;
 ghost use Rattle.def_interner.specs.Session.{AddsLocations, session_of};
 ghost use Rattle.def_map.specs.Oracle.{Oracle};
-ghost use Rattle.def_items.specs.Parts.{site_of};
+ghost use Rattle.def_parts.specs.Sites.{site_of};
 ghost use Rattle.def_collector.specs.Collector.{state_of};
 ghost use Rattle.def_laws.specs.Performs.{Handled};
 
 use super::DefCollector;
 use def_interner::{Interner, Location};
-use def_items::Site;
 use def_locs::UseLoc;
+use def_parts::Site;
 use def_steps::{WrittenUse, is_prelude_import, queue_imports};
 use item_tree::{ItemNode, RawVisibility, Seq, UseImport};
 use std::alloc::AllocError;

@@ -3,7 +3,7 @@ use Rattle.def_calls.specs.Shown.{written_of}
 use Rattle.def_collector.specs.Collector.{state_of}
 use Rattle.def_collector.specs.Walk.{inner_of}
 use Rattle.def_laws.proofs.ResultLaws.{if_ok}
-use Rattle.def_items.specs.Parts.{site_of}
+use Rattle.def_parts.specs.Sites.{site_of}
 use Rattle.def_laws.specs.Performs.{IsDone}
 use Rattle.def_laws.proofs.CallsLaws.{left_done}
 use Rattle.def_map.specs.Queries.{plain_call}

@@ -2,7 +2,7 @@ use Rattle.std.proofs.Common.{subst, sym}
 use Rattle.def_items.proofs.ItemsLemmas.{handled_module}
 use Rattle.def_laws.proofs.CallsLaws.{handled_call}
 use Rattle.def_laws.specs.Performs.{Handled}
-use Rattle.def_items.specs.Parts.{site_of}
+use Rattle.def_parts.specs.Sites.{site_of}
 use Rattle.def_collector.specs.Collector.{state_of}
 use Rattle.def_collector.specs.Walk.{inner_of}
 use Rattle.def_rules.specs.State.{State}

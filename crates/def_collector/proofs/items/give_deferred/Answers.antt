@@ -2,7 +2,7 @@ use Rattle.std.proofs.Common.{[], refl, sym, ap, subst, ◌∙◌}
 use Rattle.std.specs.Prelude.{IfSome, unwrap_or}
 use Rattle.def_interner.specs.Session.{session_of}
 use Rattle.def_interner.specs.SessionLaws.{adds_refl}
-use Rattle.def_items.specs.Parts.{site_of}
+use Rattle.def_parts.specs.Sites.{site_of}
 use Rattle.def_modules.specs.Maps.{map_state}
 use Rattle.def_attrs.specs.Shown.{deferrals_of}
 use Rattle.def_collector.specs.Collector.{state_of}

@@ -2,7 +2,7 @@ use Rattle.std.proofs.Common.{[], ◌∷◌, ap, subst}
 use Rattle.def_attrs.specs.Shown.{derives_in}
 use Rattle.def_calls.specs.Shown.{macro_directive_of, macros_in, written_attr_of}
 use Rattle.def_collector.specs.Collector.{state_of}
-use Rattle.def_items.specs.Parts.{directories_of}
+use Rattle.def_parts.specs.Sites.{directories_of}
 use Rattle.def_laws.proofs.RecordLaws.{on_ok}
 use Rattle.def_laws.specs.Performs.{Tried}
 use Rattle.def_laws.specs.Runs.{Leads}

@@ -1,5 +1,5 @@
 use Rattle.def_interner.specs.Session.{session_of}
-use Rattle.def_items.specs.Parts.{site_of}
+use Rattle.def_parts.specs.Sites.{site_of}
 use Rattle.def_collector.specs.Collector.{state_of}
 use Rattle.def_rules.specs.State.{State}
 use Rattle.def_macros.proofs.MacrosLemmas.{handled_rules}

@@ -2,7 +2,7 @@ use Rattle.std.proofs.Common.{ap, subst, sym, ◌∙◌}
 use Rattle.def_parts.specs.Directories.{descend, text_in}
 use Rattle.def_modules.specs.declared.module_data.ModuleOrigin.TheVariants as origin
 use Rattle.def_interner.specs.Session.{session_of}
-use Rattle.def_items.specs.Parts.{site_of}
+use Rattle.def_parts.specs.Sites.{site_of}
 use Rattle.def_collector.specs.Collector.{state_of}
 use Rattle.item_tree.specs.Attrs.{attrs_of}
 use Rattle.def_items.specs.Lists.{behind}

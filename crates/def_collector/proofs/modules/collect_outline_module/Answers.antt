@@ -2,7 +2,7 @@ use Rattle.std.proofs.Common.{ap, map, subst, sym, ◌∙◌, Err}
 use Rattle.std.specs.Prelude.{string_bytes}
 use Rattle.def_parts.specs.Directories.{files_of, resolve_declaration}
 use Rattle.def_interner.specs.Session.{session_of}
-use Rattle.def_items.specs.Parts.{site_of}
+use Rattle.def_parts.specs.Sites.{site_of}
 use Rattle.def_collector.specs.Collector.{state_of}
 use Rattle.def_rules.specs.Modules.{name_text}
 use Rattle.def_rules.specs.State.{State}

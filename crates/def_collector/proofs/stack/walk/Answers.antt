@@ -1,7 +1,7 @@
 use Rattle.std.proofs.Common.{ap, subst, sym, ◌∙◌}
 use Rattle.def_interner.specs.Session.{session_of}
 use Rattle.def_interner.specs.SessionLaws.{adds_trans}
-use Rattle.def_items.specs.Parts.{directories_of}
+use Rattle.def_parts.specs.Sites.{directories_of}
 use Rattle.def_collector.specs.Collector.{state_of}
 use Rattle.def_collector.specs.Walk.{agenda_of, is_frame_known, list_tasks}
 use Rattle.def_rules.specs.State.{State, with_map}

@@ -1,6 +1,7 @@
 use Rattle.std.proofs.Common.{ap}
 use Rattle.def_interner.specs.Session.{session_of}
-use Rattle.def_items.specs.Parts.{site_of, with_session}
+use Rattle.def_items.specs.Parts.{with_session}
+use Rattle.def_parts.specs.Sites.{site_of}
 use Rattle.def_items.proofs.ItemsLemmas.{handled_impl}
 use Rattle.def_items.proofs.impls.define_impl.Goals as goal
 use Rattle.def_rules.specs.State.{State, with_map}

@@ -2,7 +2,7 @@ use Rattle.std.proofs.Common.{Some, ap, refl, sym, subst, ◌∙◌}
 use Rattle.def_ids.specs.declared.ids.Adt.TheVariants as adt_of
 use Rattle.def_ids.specs.declared.ids.ItemContainerId.TheVariants as contained
 use Rattle.def_interner.specs.Session.{in_container, session_of}
-use Rattle.def_items.specs.Parts.{site_of}
+use Rattle.def_parts.specs.Sites.{site_of}
 use Rattle.def_rules.specs.Deferred.{IsAdt}
 use Rattle.def_items.proofs.numbered.number_adt.Goals as goal
 

@@ -4,7 +4,8 @@ use Rattle.item_tree.specs.KnownNames.{macro_export_name}
 use Rattle.def_bindings.specs.declared.bindings.Namespace.TheVariants.{Macros}
 use Rattle.def_bindings.specs.declared.visibility.Visibility.TheVariants.{Public}
 use Rattle.def_ids.specs.declared.ids.Def.TheVariants.{Macro}
-use Rattle.def_items.specs.Parts.{site_of, with_parts}
+use Rattle.def_items.specs.Parts.{with_parts}
+use Rattle.def_parts.specs.Sites.{site_of}
 use Rattle.def_laws.specs.Performs.{Performs}
 use Rattle.def_laws.proofs.StepsLaws.{performs_none}
 use Rattle.def_rules.specs.Items.{declared_effect}

@@ -1,5 +1,5 @@
 use Rattle.std.proofs.Common.{Some, ap, refl, ◌∙◌}
-use Rattle.def_items.specs.Parts.{site_of}
+use Rattle.def_parts.specs.Sites.{site_of}
 use Rattle.def_macros.proofs.MacrosLemmas.{placed}
 use Rattle.def_macros.proofs.numbered.number_macro.Goals as goal
 

@@ -1,7 +1,7 @@
 use Rattle.std.proofs.Common.{ap, ◌∙◌}
 use Rattle.def_interner.specs.Session.{session_of}
 use Rattle.def_modules.specs.Maps.{map_state}
-use Rattle.def_items.specs.Parts.{site_of}
+use Rattle.def_parts.specs.Sites.{site_of}
 use Rattle.def_collector.specs.Collector.{state_of}
 use Rattle.def_rules.specs.State.{State, with_map}
 use Rattle.def_items.proofs.ItemsLemmas.{handled_extern_crate}

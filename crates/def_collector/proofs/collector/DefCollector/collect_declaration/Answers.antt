@@ -1,7 +1,7 @@
 use Rattle.std.proofs.Common.{◌≡◌, ◌∙◌, ap, false, subst, sym, true}
 use Rattle.def_interner.specs.Session.{session_of}
 use Rattle.def_items.specs.Numbered.{IsDeclared, is_declaring}
-use Rattle.def_items.specs.Parts.{site_of}
+use Rattle.def_parts.specs.Sites.{site_of}
 use Rattle.def_collector.specs.Collector.{state_of}
 use Rattle.def_rules.specs.State.{State, with_map}
 use Rattle.def_items.proofs.NumberedLemmas.{handled_name, handled_unnamed, name_declares, unnamed_declares}

@@ -1,6 +1,6 @@
 use Rattle.std.proofs.Common.{◌++◌, IsPermutation, List, ap, refl, subst, sym, ◌∙◌}
 use Rattle.def_interner.specs.Session.{session_of}
-use Rattle.def_items.specs.Parts.{site_of}
+use Rattle.def_parts.specs.Sites.{site_of}
 use Rattle.def_collector.specs.Collector.{state_of}
 use Rattle.def_rules.specs.State.{ImportDirective, State}
 use Rattle.def_items.proofs.ItemsLemmas.{handled_use, imports_at}

@@ -2,10 +2,10 @@
 ghost use Rattle.std.specs.Prelude.{◌≡◌, None, Some, option_map, OnOk};
 ghost use Rattle.def_ids.specs.Ids.{is_same_module};
 ghost use Rattle.def_modules.specs.Updates.{set_where};
-ghost use Rattle.def_items.specs.Parts.{directories_of};
+ghost use Rattle.def_parts.specs.Sites.{directories_of};
 
+use crate::mod_resolution::ModDir;
 use def_ids::ModuleId;
-use def_parts::ModDir;
 use indexmap::IndexMap;
 use std::alloc::{AllocError, Global};
 
@@ -33,7 +33,7 @@ impl ModDirs {
     }
 
     /// Stores the directory of a module, in the place of an earlier one.
-    pub(crate) fn insert(&mut self, module_id: ModuleId, dir: ModDir) -> Result<(), AllocError>
+    pub fn insert(&mut self, module_id: ModuleId, dir: ModDir) -> Result<(), AllocError>
         ensures { OnOk result (directories_of self.new
             ≡ set_where (is_same_module module_id) (Some dir) (directories_of self.old)) }
     {
