@@ -1,6 +1,6 @@
 -- What the words of a command line ask for.
 use Rattle.std.specs.Prelude.{Bool, false, ◌&&◌, ℕ, List, [], ◌∷◌, codes, bytes_eq}
-use Rattle.def_workspace.specs.Vectors.{is_vector}
+use Rattle.def_scripted.specs.Vectors.{is_vector}
 
 -- the word that asks for the names
 unfoldable pub is_list : List ℕ → Bool

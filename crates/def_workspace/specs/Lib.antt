@@ -1,3 +1,2 @@
 pub mod Command
-pub mod Vectors
 pub mod Workspace

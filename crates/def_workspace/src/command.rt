@@ -3,15 +3,14 @@
 ghost use Rattle.std.specs.Prelude.{◌≡◌, ◌<◌, ◌∷◌, [], true, false, map, OnOk, OnErr};
 ghost use Rattle.def_workspace.specs.Command.{is_answerable, is_list, is_show};
 
-use crate::vectors::{all, find};
 use crate::workspace::Workspace;
-use def_scripted::{CrateText, Fault, Vector, print};
-use std::alloc::Global;
+use def_scripted::{CrateText, Fault, Vector, find, print, vectors};
+use std::alloc::{AllocError, Global};
 use std::io;
 
 /// Prints the names of the vectors.
 fn list<W: io::Write>(out: &mut W) -> Result<(), Fault> {
-    for vector in all() {
+    for vector in vectors() {
         let name = vector.name;
         writeln!(out, "{name}")?;
     }
@@ -41,7 +40,7 @@ fn show_last<W: io::Write>(
 }
 
 /// Says that memory was refused, and answers the status.
-pub fn out_of_memory<E: io::Write>(err: &mut E) -> u8
+fn out_of_memory<E: io::Write>(err: &mut E) -> u8
     ensures { result ≡ 1 }
 {
     let _ = writeln!(err, "out of memory");
@@ -149,5 +148,34 @@ pub fn run<O: io::Write, E: io::Write>(
         [word] => run_word(word, out, err),
         [word, name] => run_words(alloc, word, name, out, err),
         [_, _, _, ..] => usage(err),
+    }
+}
+
+/// The words of a command line, without the program's own name.
+fn words(alloc: Global, args: &[String]) -> Result<Vec<&str>, AllocError> {
+    let mut words = Vec::new(alloc);
+    for word in args.iter().skip(1) {
+        words.push(word.as_str())?;
+    }
+    Ok(words)
+}
+
+/// Runs the program over the arguments of the process, its own name first, and answers its exit
+/// status. Where one is no text, they ask for nothing.
+pub fn run_args<O: io::Write, E: io::Write>(
+    alloc: Global,
+    args: io::Result<Vec<String>>,
+    out: &mut O,
+    err: &mut E,
+) -> u8 {
+    match args {
+        Ok(args) => match words(alloc, args.as_slice()) {
+            Ok(words) => run(alloc, words.as_slice(), out, err),
+            Err(AllocError) => out_of_memory(err),
+        },
+        Err(error) => match error.kind() {
+            io::ErrorKind::OutOfMemory => out_of_memory(err),
+            _ => run(alloc, &[], out, err),
+        },
     }
 }

@@ -2,11 +2,11 @@
 
 ghost use Rattle.std.specs.Prelude.{◌≡◌, map, is_some, bytes_eq};
 ghost use Rattle.std.specs.List.{list_any};
-ghost use Rattle.def_workspace.specs.Vectors.{is_vector, vector_names};
+ghost use Rattle.def_scripted.specs.Vectors.{is_vector, vector_names};
 
 use crate::chain::CHAIN;
+use crate::script::{ALONE, CALL, CallText, ChainText, Vector};
 use def_ids::{Macro2Id, MacroId};
-use def_scripted::{ALONE, CALL, CallText, ChainText, Vector};
 use item_tree::{HirFileId, MacroCallId};
 
 /// A call of the first `macro` item.
@@ -176,7 +176,7 @@ static VECTORS: [Vector; 19] = [
 ];
 
 /// All vectors, in byte order of their names.
-pub fn all() -> &'static [Vector]
+pub fn vectors() -> &'static [Vector]
     ensures { map (λ v. v.name.now) result.now ≡ vector_names }
 {
     VECTORS.as_slice()
@@ -198,5 +198,5 @@ fn first_named(vectors: &'static [Vector], name: &str) -> Option<&'static Vector
 pub fn find(name: &str) -> Option<&'static Vector>
     ensures { is_some result ≡ is_vector name.now }
 {
-    first_named(all(), name)
+    first_named(vectors(), name)
 }

@@ -1,6 +1,6 @@
 use Rattle.std.proofs.Common.{◌≡◌, bytes_eq, drop}
 use Rattle.std.specs.List.{list_any}
-use Rattle.def_workspace.proofs.vectors.first_named.Given as goal
+use Rattle.def_scripted.proofs.named.first_named.Given as goal
 
 -- those that are left decide
 abbrev pub invariant-loop-vector : goal.invariant-loop-vector

@@ -1,8 +1,7 @@
 //! The program's runs.
 #![tactic(auto)]
 
-use crate::run_args;
-use def_workspace::run;
+use def_workspace::{run, run_args};
 use std::alloc::Global;
 use std::io;
 

@@ -1,4 +1,0 @@
-//! What no contract says: what the program prints, and the examples of use.
-
-mod examples;
-mod program;
