@@ -104,7 +104,11 @@ impl<V: Copy> BoundName<V> {
     pub fn all(&self) -> NameBindings<V>
         ensures { bound_in result ≡ stands_for self.now }
     {
-        all_beside(&self.others).with(self.ns, Some(self.binding))
+        // Most names stand in one namespace alone, and then nothing else is copied.
+        match &self.others {
+            Some(others) => others.with(self.ns, Some(self.binding)),
+            None => NameBindings::of(self.ns, self.binding),
+        }
     }
 
     /// Binds the name in a namespace.

@@ -24,6 +24,30 @@ impl<V: Copy> NameBindings<V> {
         }
     }
 
+    /// One binding.
+    pub fn of(ns: Namespace, binding: Binding<V>) -> Self
+        ensures { result ≡ with_bound unbound ns (Some binding) }
+    {
+        let binding = Some(binding);
+        match ns {
+            Namespace::Types => NameBindings {
+                types: binding,
+                values: None,
+                macros: None,
+            },
+            Namespace::Values => NameBindings {
+                types: None,
+                values: binding,
+                macros: None,
+            },
+            Namespace::Macros => NameBindings {
+                types: None,
+                values: None,
+                macros: binding,
+            },
+        }
+    }
+
     /// The binding in a namespace.
     pub fn get(&self, ns: Namespace) -> Option<&Binding<V>>
         ensures { option_copied result ≡ bound_in self.now ns }

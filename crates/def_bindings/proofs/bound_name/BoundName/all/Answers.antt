@@ -1,11 +1,17 @@
-use Rattle.std.proofs.Common.{Some, ap, ◌∙◌}
-use Rattle.def_bindings.specs.NameBindings.{bound_in}
-use Rattle.def_bindings.specs.BoundName.{with_namespace}
-use Rattle.def_bindings.proofs.BoundNameLemmas.{bound_in-with}
+use Rattle.std.proofs.Common.{Some, ap, sym, ◌∙◌}
+use Rattle.def_bindings.specs.NameBindings.{bound_in, unbound, with_bound}
+use Rattle.def_bindings.specs.BoundName.{beside, with_namespace}
+use Rattle.def_bindings.proofs.BoundNameLemmas.{bound_in-unbound, bound_in-with}
 use Rattle.def_bindings.proofs.bound_name.BoundName.all.Goals as goal
 
-pub returns : goal.returns
-returns g c =
+pub returns-in-Some : goal.returns-in-Some
+returns-in-Some g c =
     let s = c.args.self.now in
     let b = Some s.binding in
-    ap bound_in c.with.ensures ∙ bound_in-with c.all_beside.result s.ns b ∙ ap (λ f. with_namespace f s.ns b) c.all_beside.ensures
+    ap bound_in (c.with.ensures ∙ ap (λ o. with_bound o s.ns b) c.deref.ensures) ∙ bound_in-with _ s.ns b ∙ ap (λ f. with_namespace f s.ns b) (ap beside (sym c.in-Some.is))
+
+pub returns-in-None : goal.returns-in-None
+returns-in-None g c =
+    let s = c.args.self.now in
+    let b = Some s.binding in
+    ap bound_in c.of.ensures ∙ bound_in-with unbound s.ns b ∙ ap (λ f. with_namespace f s.ns b) (bound_in-unbound ∙ ap beside (sym c.in-None.is))
