@@ -16,6 +16,8 @@ use std::alloc::AllocError;
 pub struct Run<'a, D> {
     pub collector: DefCollector<'a>,
     pub db: &'a D,
+    /// How many imports were unresolved before the last pass over all of them.
+    pub waited: usize,
 }
 
 impl<'a, D> Drop for Run<'a, D> {
@@ -23,6 +25,7 @@ impl<'a, D> Drop for Run<'a, D> {
         let Run {
             collector: _,
             db: _,
+            waited: _,
         } = self;
     }
 }
@@ -32,7 +35,11 @@ impl<'a, D> Run<'a, D> {
     pub fn into_collector(self) -> DefCollector<'a>
         ensures { result ≡ self.entry.collector }
     {
-        let Run { collector, db: _ } = self;
+        let Run {
+            collector,
+            db: _,
+            waited: _,
+        } = self;
         collector
     }
 }
@@ -43,7 +50,13 @@ impl<'a, D: SourceDatabase> Passes for Run<'a, D> {
     ghost state = { λ run session. state_of run.collector session };
 
     fn resolve_imports(&mut self, session: &Interner) -> Result<bool, AllocError> {
+        self.waited = self.collector.unresolved_imports.len();
         resolve_imports(&mut self.collector, self.db, session)
+    }
+
+    fn is_slow(&self) -> bool {
+        let waits = self.collector.unresolved_imports.len();
+        self.waited / 2 < waits && self.collector.indeterminate_imports.len() / 4 < waits
     }
 
     fn record_woken(&mut self, session: &Interner) -> Result<(), AllocError> {

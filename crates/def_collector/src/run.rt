@@ -69,7 +69,11 @@ pub fn collect_defs<D: SourceDatabase>(
 {
     let collector = begin(alloc, db, def_map, tree_id, crate_local)?;
     make_room_for_items(db, collector.def_map.tree.map, tree_id, session)?;
-    let mut run = Run { collector, db };
+    let mut run = Run {
+        collector,
+        db,
+        waited: 0,
+    };
     let limit_met = collect(&mut run, session, tree_id)?;
     let mut collector = run.into_collector();
     report_macros(&mut collector, db, session)?;

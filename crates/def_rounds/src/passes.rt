@@ -34,6 +34,10 @@ pub trait Passes {
             NoneReady (oracle self.old) (state self.new session.now)) }
         ensures fewer { IfOk result (λ moved. moved ≡ true → turns_left (state self.new session.now) < turns_left (state self.old session.now)) };
 
+    /// Whether the last pass over all imports left most of those waiting that had waited. What it answers
+    /// decides only how soon those that wait watch the names that they read.
+    fn is_slow(&self) -> bool;
+
     /// Records imports until none wakes: each is tried once, and again where a name changed that its
     /// path reads.
     fn record_woken(&mut self, session: &Interner) -> Result<(), AllocError>

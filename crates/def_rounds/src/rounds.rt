@@ -14,8 +14,8 @@ use std::alloc::AllocError;
 /// How many rounds a run may make: passes over the macros in which one leaves.
 const FIXED_POINT_LIMIT: u32 = 8192;
 
-/// How many passes over all imports record some before those that wait watch the names that they read.
-/// In most crates nothing moves after these.
+/// How many passes over all imports record some before those that wait watch the names that they read,
+/// where none of these passes is slow. In most crates nothing moves after these.
 const PASSES_WITHOUT_WATCHES: u32 = 2;
 
 /// Records imports and expands macros in turns, and gives up attributes whose macros are not found, until
@@ -62,8 +62,8 @@ fn import_passes<P: Passes>(passes: &mut P, session: &Interner) -> Result<(), Al
     Ok(())
 }
 
-/// Records each import that is ready, in a pass over all of them; in one that is not among the first,
-/// also those that become ready by what it recorded. Answers whether one was recorded. On `Err` nothing
+/// Records each import that is ready, in a pass over all of them; in one that is slow or not among the
+/// first, also those that become ready by what it recorded. Answers whether one was recorded. On `Err` nothing
 /// but safety is promised.
 fn import_pass<P: Passes>(passes: &mut P, session: &Interner, made: u32) -> Result<bool, AllocError>
     ensures asks { OnOk result (P.oracle passes.new ≡ P.oracle passes.old) }
@@ -76,7 +76,7 @@ fn import_pass<P: Passes>(passes: &mut P, session: &Interner, made: u32) -> Resu
     if !passes.resolve_imports(session)? {
         return Ok(false);
     }
-    if made < PASSES_WITHOUT_WATCHES {
+    if made < PASSES_WITHOUT_WATCHES && !passes.is_slow() {
         return Ok(true);
     }
     passes.record_woken(session)?;
