@@ -15,7 +15,7 @@ use def_items::put;
 use def_map::{
     Asked, MapData, ResolvePathResult, SourceDatabase, Table, World, resolve_path_fp_with_macro,
 };
-use def_steps::{Import, named_entries};
+use def_steps::{Import, lone_entry, named_entries};
 use std::alloc::{AllocError, Global};
 
 /// What the path of an import gives in this world.
@@ -45,6 +45,10 @@ pub fn record_named(
         Updated import.scope (named_entries (order before) import vis answer.now (bound_name import.written))
         before (with_parts s def_map.now table.new)) }
 {
+    if let Some(entry) = lone_entry(&def_map.tree, import, vis, answer) {
+        put(def_map, table, import.module_id, &[entry])?;
+        return Ok(());
+    }
     let entries = named_entries(alloc, &def_map.tree, import, vis, answer)?;
     put(def_map, table, import.module_id, entries.as_slice())?;
     Ok(())

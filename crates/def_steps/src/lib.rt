@@ -17,5 +17,5 @@ pub use directive::{
 pub use glob_scope::{GlobScope, variants_entries};
 pub use import_lists::{ImportList, WrittenUse, drop_left, next_tried, queue_imports, retire};
 pub use left_imports::report_left_imports;
-pub use named::named_entries;
+pub use named::{lone_entry, named_entries};
 pub use targets::{add_target, edges_of, targets_of};

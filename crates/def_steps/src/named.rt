@@ -1,5 +1,5 @@
 //! What a named import brings.
-ghost use Rattle.std.specs.Prelude.{◌≡◌, ◌++◌, IfOk, OnOk};
+ghost use Rattle.std.specs.Prelude.{◌≡◌, ◌++◌, ◌∷◌, [], IfOk, IfSome, OnOk, option_to_list};
 ghost use Rattle.def_bindings.specs.ModuleTree.{chain_in};
 ghost use Rattle.def_bindings.specs.Visibility.{order_over};
 ghost use Rattle.def_steps.specs.Shown.{import_of};
@@ -17,6 +17,43 @@ struct Brought<'a> {
     import: Import<'a>,
     name: Option<Name>,
     vis: Visibility,
+}
+
+/// What an import gives at its name, where that comes from types or from values alone, as it mostly
+/// does: one entry, which needs no list.
+pub fn lone_entry(
+    order: &ModuleTree,
+    import: &Import,
+    vis: Visibility,
+    answer: &ResolvePathResult,
+) -> Option<Entry<Visibility>>
+    ensures { IfSome result (λ entry. named_entries (order_over (chain_in order.now)) (import_of import.now) vis answer.now (bound_name import.now.written.now)
+        ≡ entry ∷ []) }
+{
+    let name = import_name(import.written)?;
+    let brought = Brought {
+        import: *import,
+        name,
+        vis,
+    };
+    let found = &answer.resolved_def;
+    let None = found.macros else {
+        return None;
+    };
+    match found.types {
+        Some(_) => {
+            let None = found.values else {
+                return None;
+            };
+            let types = kept_item(answer, found.types);
+            let types = reexported(&import.written.path, vis, types);
+            entry(order, brought, Namespace::Types, types)
+        }
+        None => {
+            let values = kept_item(answer, found.values);
+            entry(order, brought, Namespace::Values, values)
+        }
+    }
 }
 
 /// What an import gives at its name, one entry in each namespace.
@@ -49,6 +86,30 @@ pub fn named_entries(
     Ok(entries)
 }
 
+/// The entry of what an import gives in a namespace, if it gives something there.
+fn entry(
+    order: &ModuleTree,
+    brought: Brought,
+    ns: Namespace,
+    item: Option<Item>,
+) -> Option<Entry<Visibility>>
+    ensures { option_to_list result
+        ≡ entry_of (order_over (chain_in order.now)) (import_of brought.entry.import)
+        brought.entry.vis brought.entry.name ns item }
+{
+    let item = item?;
+    if !keeps_ns(brought.import.written.kind, ns) {
+        return None;
+    }
+    Some(Entry {
+        name: brought.name,
+        ns,
+        def: item.def,
+        vis: lesser_or_import(order, item.vis, brought.vis),
+        origin: Some(brought.import.origin()),
+    })
+}
+
 /// Appends the entry of what an import gives in a namespace, if it gives something there.
 fn push_entry(
     entries: &mut Vec<Entry<Visibility>>,
@@ -61,18 +122,8 @@ fn push_entry(
         ++ entry_of (order_over (chain_in order.now)) (import_of brought.entry.import)
         brought.entry.vis brought.entry.name ns item) }
 {
-    let Some(item) = item else {
-        return Ok(());
-    };
-    if !keeps_ns(brought.import.written.kind, ns) {
-        return Ok(());
+    if let Some(entry) = entry(order, brought, ns, item) {
+        entries.push(entry)?;
     }
-    entries.push(Entry {
-        name: brought.name,
-        ns,
-        def: item.def,
-        vis: lesser_or_import(order, item.vis, brought.vis),
-        origin: Some(brought.import.origin()),
-    })?;
     Ok(())
 }
