@@ -10,7 +10,6 @@ ghost use Rattle.def_map.specs.DefMaps as whole;
 ghost use Rattle.def_map.specs.Fresh.{IsFresh};
 ghost use Rattle.def_modules.specs.Locals.{local_view};
 ghost use Rattle.def_modules.specs.Maps.{map_state};
-ghost use Rattle.def_modules.specs.Tables.{bound_by};
 ghost use Rattle.def_answer.specs.Shown.{shown};
 ghost use Rattle.def_collector.specs.Collector.{state_of};
 ghost use Rattle.def_collector.specs.Setting.{setting_of};
@@ -31,9 +30,10 @@ use def_attrs::{DeferredDerives, ItemAttrs};
 use def_calls::{MacroDirectiveKind, call_answer, report_left_call, report_left_derive};
 use def_crates::{MissingCrates, deps_by_name, is_proc_macro_crate, top_attrs};
 use def_ids::{ItemContainerId, MapId, ModuleId};
+use def_imports::Room;
 use def_interner::Interner;
 use def_items::{ItemList, disabled_by, report_disabled, top_items};
-use def_map::{DefMap, LocalDefMap, SourceDatabase, Table};
+use def_map::{DefMap, LocalDefMap, SourceDatabase};
 use def_parts::{Globs, ModDir, ModDirs, Site};
 use def_rounds::resolution_loop;
 use indexmap::IndexMap;
@@ -97,7 +97,10 @@ fn begin<'a, D: SourceDatabase>(
 {
     let (data, table) = def_map.into_parts();
     let mut table = table;
-    make_room(db, data.tree.map, tree_id, &mut table)?;
+    let room = room_for(db, data.tree.map, tree_id);
+    table.reserve(room.names)?;
+    let unresolved_imports = Vec::with_capacity(alloc, room.imports)?;
+    let indeterminate_imports = Vec::with_capacity(alloc, room.imports)?;
     let is_proc_macro = is_proc_macro_crate(db, data.tree.map.krate);
     let deps = deps_by_name(alloc, db, data.tree.map.krate)?;
     Ok(DefCollector {
@@ -111,8 +114,8 @@ fn begin<'a, D: SourceDatabase>(
         deps,
         missing_crates: MissingCrates::new(alloc),
         mod_dirs: ModDirs::new(alloc),
-        unresolved_imports: Vec::new(alloc),
-        indeterminate_imports: Vec::new(alloc),
+        unresolved_imports,
+        indeterminate_imports,
         item_attrs: ItemAttrs::new(alloc),
         deferred_builtin_derives: DeferredDerives::new(alloc),
         unresolved_macros: VecDeque::new(alloc),
@@ -121,18 +124,14 @@ fn begin<'a, D: SourceDatabase>(
     })
 }
 
-/// Makes room in the table for the names of the first tree, one for each of its items.
-fn make_room<D: SourceDatabase>(
-    db: &D,
-    map: MapId,
-    tree_id: TreeId,
-    table: &mut Table,
-) -> Result<(), AllocError>
-    ensures { bound_by table.new ≡ bound_by table.old }
-{
+/// The room that a run begins with, by its first tree.
+fn room_for<D: SourceDatabase>(db: &D, map: MapId, tree_id: TreeId) -> Room {
     match db.item_tree(first_tree(db, map, tree_id)) {
-        Some(tree) => table.reserve(tree.items.len()),
-        None => Ok(()),
+        Some(tree) => Room::of_tree(tree),
+        None => Room {
+            names: 0,
+            imports: 0,
+        },
     }
 }
 

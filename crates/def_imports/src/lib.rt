@@ -5,10 +5,12 @@
 mod globs;
 mod imports;
 mod reads;
+mod room;
 mod turns;
 mod watchers;
 
 pub use globs::{glob_entries, put_glob};
 pub use imports::{record_named, resolve_import};
+pub use room::Room;
 pub use turns::{ImportAt, Turns};
 pub use watchers::Watchers;

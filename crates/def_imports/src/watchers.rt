@@ -7,8 +7,10 @@ use def_ids::ModuleId;
 use def_map::{SourceDatabase, Table, World};
 use def_steps::Import;
 use indexmap::IndexMap;
+use indexmap::map::Entry;
 use item_tree::Name;
 use std::alloc::{AllocError, Global};
+use std::mem;
 
 /// One import that watches a name, and the number of the name's watch before it, or 0.
 #[derive(Clone, Copy)]
@@ -36,14 +38,10 @@ fn add(
     import: ImportAt,
 ) -> Result<(), AllocError> {
     let number = watches.len().saturating_add(1);
-    let before = match last.get_mut(&name) {
-        Some(last) => {
-            let before = *last;
-            *last = number;
-            before
-        }
-        None => {
-            last.insert(name, number)?;
+    let before = match last.entry(name)? {
+        Entry::Occupied(there) => mem::replace(there.into_mut(), number),
+        Entry::Vacant(free) => {
+            free.insert(number);
             0
         }
     };
@@ -72,13 +70,15 @@ fn earlier(number: usize, before: usize) -> usize
 }
 
 impl Watchers {
-    /// Nothing is watched.
-    pub fn new(alloc: Global) -> Self {
-        Watchers {
-            last: IndexMap::new(alloc),
-            watches: Vec::new(alloc),
+    /// Nothing is watched. There is room for so many imports, each of which reads two names or so.
+    pub fn new(alloc: Global, imports: usize) -> Result<Self, AllocError> {
+        let mut last = IndexMap::new(alloc);
+        last.reserve(imports)?;
+        Ok(Watchers {
+            last,
+            watches: Vec::with_capacity(alloc, imports.saturating_mul(2))?,
             read: Vec::new(alloc),
-        }
+        })
     }
 
     /// Notes what the path of an import reads, before the import is tried.

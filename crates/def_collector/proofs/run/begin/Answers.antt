@@ -14,7 +14,7 @@ returns-clause-seeded g c = λ tree session.
     let oracle = g.D.SourceDatabase.oracle c.args.db.now in
     let map = c.into_parts-data.ensures.state in
     begins (setting_of oracle c.args.def_map tree (option_map (λ l. local_view l.now) c.args.crate_local)) (session_of session) _ _ _ _ _ _ _ _ _ _ _ _ _ _ _
-    map (ap bound_by c.new.ensures ∙ c.make_room.ensures ∙ c.into_parts-data.ensures.content ∙ c.requires.bindings) (no_targets c.new-2.result c.new-2.ensures.empty) c.new-3.ensures
+    map (ap bound_by c.new.ensures ∙ c.reserve.ensures ∙ c.into_parts-data.ensures.content ∙ c.requires.bindings) (no_targets c.new-2.result c.new-2.ensures.empty) c.new-3.ensures
     (c.is_proc_macro_crate-is_proc_macro.ensures ∙ ap (λ m. is_proc_macro_crate oracle m.id.krate) map) (c.in_ok-deps.ensures ∙ ap (λ m. deps_by_name oracle m.id.krate) map) c.new-4.ensures c.new-5.ensures
-    (no_imports c.new-6.result.items c.new-7.result.items c.new-6.ensures.items c.new-7.ensures.items) c.new-8.ensures.skipped c.new-8.ensures.active
-    c.new-9.ensures (ap macros_in c.new-10.ensures.items) (ap (map_of expansion_shown) c.new-11.ensures.items) c.new-12.ensures.items
+    (no_imports _ _ c.in_ok-unresolved_imports.ensures.items c.in_ok-indeterminate_imports.ensures.items) c.new-6.ensures.skipped c.new-6.ensures.active
+    c.new-7.ensures (ap macros_in c.new-8.ensures.items) (ap (map_of expansion_shown) c.new-9.ensures.items) c.new-10.ensures.items
