@@ -1,6 +1,6 @@
 -- Answers of paths: what a prefix gives in types, or where it is missing, and answers joined one after the other.
-use Rattle.std.proofs.Common.{◌≡◌, ◌∙◌, ap, sym, refl, arith, ◌+◌, ◌<◌, ◌≤◌, ℕ, suc, Bool, true, false, not, ◌&&◌, ◌||◌, cond, if◌then◌else◌, List, [], ◌∷◌, ◌++◌, length, take, drop, get_or, drop-cons, add-one, Option, Some, None, is_none}
-use Rattle.std.proofs.lemmas.List.{take_more}
+use Rattle.std.proofs.Common.{◌≡◌, ◌∙◌, ap, sym, refl, arith, ◌+◌, ◌<◌, ◌≤◌, ℕ, suc, Bool, true, false, not, ◌&&◌, ◌||◌, cond, if◌then◌else◌, List, [], ◌∷◌, ◌++◌, length, take, drop, get_or, drop-cons, length-drop, add-one, Option, Some, None, is_none}
+use Rattle.std.proofs.lemmas.List.{take_more, drop_all}
 use Rattle.std.specs.List.{list_any, find, cons_option}
 use Rattle.std.specs.Option.{option_map, option_or, unwrap_or}
 use Rattle.item_tree.specs.declared.mod_path.ModPath.{ModPath}
@@ -13,13 +13,14 @@ use Rattle.def_paths.specs.declared.path_result.ReachedFixedPoint.TheVariants.{Y
 use Rattle.def_paths.specs.declared.path_result.ResolvePathResult.{ResolvePathResult}
 use Rattle.def_sources.specs.declared.per_ns.MacroSubNs.{MacroSubNs}
 use Rattle.def_sources.specs.declared.per_ns.PerNs.{PerNs}
-use Rattle.def_paths.specs.Answers.{ended_at, missing, walk, step, is_elsewhere, answer_after, answer_from, leading, is_reached, joined, first_resolved}
+use Rattle.def_paths.specs.Answers.{ended_at, missing, reached, walk, step, is_elsewhere, answer_after, answer_from, leading, is_reached, joined, first_resolved}
 use Rattle.def_modules.specs.MapView.{MapView}
-use Rattle.def_sources.specs.Items.{is_fitting}
+use Rattle.def_ids.specs.declared.ids.Def.TheVariants.{Module}
+use Rattle.def_sources.specs.Items.{is_fitting, module_item}
 use Rattle.def_paths.specs.OuterMaps.{is_alone, answer_outside, answers_outside}
-use Rattle.def_sources.specs.PerNs.{Item, in_types, otherwise, is_nothing}
+use Rattle.def_sources.specs.PerNs.{Item, in_types, otherwise, per_namespace, is_nothing}
 use Rattle.def_bindings.specs.declared.bindings.Namespace.TheVariants.{Types}
-use Rattle.def_sources.specs.Sources.{Question, first_found, found_in, by_sources, relative_sources}
+use Rattle.def_sources.specs.Sources.{Question, scope_source, first_found, found_in, by_sources, relative_sources}
 use Rattle.def_sources.proofs.SourcesLemmas.{option_or-none, option_or-or, per_namespace-equal}
 
 -- what later segments mean depends on types alone
@@ -27,6 +28,52 @@ walk-types : (q : Question) (own : MapView) (crossed : Bool) (a b : PerNs) (i : 
     → 0 < length names → a.types ≡ b.types → walk q own crossed a i names ≡ walk q own crossed b i names
 walk-types q own crossed a b i [] l e = let none : ⊥ = omega arith in absurd none
 walk-types q own crossed a b i (name ∷ names) l e = rw e
+
+-- what later segments mean in a module does not depend on the item that the module stands in
+of-module : (q : Question) (own : MapView) (a b : PerNs) (x y : Item) (m : ModuleId) (i : ℕ) (names : List Name) → 0 < length names
+    → a.types ≡ Some x → b.types ≡ Some y → x.def ≡ Module m → y.def ≡ Module m → walk q own false a i names ≡ walk q own false b i names
+of-module q own a b x y m i [] l p r s t = let none : ⊥ = omega arith in absurd none
+of-module q own a b x y m i (name ∷ names) l p r s t = rw (p, r, s, t)
+
+pub module-begin : (q : Question) (own : MapView) (names : List Name) → 0 < length names → (item from : Item) (m : ModuleId) (k : ℕ)
+    → item.def ≡ Module m → from.def ≡ Module m → walk q own false (in_types item) k names ≡ walk q own false (in_types from) (k + 0) names
+module-begin q own names l item from m k p r =
+    let number : k ≡ k + 0 = omega arith in
+    of-module q own (in_types item) (in_types from) item from m k names l refl refl p r
+    ∙ ap (λ j. walk q own false (in_types from) j names) number
+
+-- a segment in a module of this crate
+module _ (q : Question) (own : MapView) (m : ModuleId) (here : is_elsewhere own (Module m) ≡ false) (item : Item) (is : item.def ≡ Module m) (i : ℕ) (name : Name) where
+  module-step : (rest : List Name) → walk q own false (in_types item) i (name ∷ rest) ≡ walk q own false (per_namespace (scope_source q own m name)) (suc i) rest
+  module-step rest = rw (is, here)
+
+-- the segments of a path that leads from module to module
+module _ (q : Question) (own : MapView) (whole : ResolvePathResult) (segments : List Name) (i : ℕ) (d : Name) (inside : i < length segments)
+    (k : ℕ) (m : ModuleId) (here : is_elsewhere own (Module m) ≡ false)
+    (w : (from : Item) → from.def ≡ Module m → whole ≡ walk q own false (in_types from) (k + i) (drop i segments)) where
+  split : drop i segments ≡ get_or segments i d ∷ drop (i + 1) segments
+  split = drop-cons segments i d inside ∙ ap (λ j. get_or segments i d ∷ drop j segments) (sym (add-one i))
+
+  -- the last
+  pub module-last : length segments ≡ i + 1 → whole ≡ reached (per_namespace (scope_source q own m (get_or segments i d))) None false
+  module-last last =
+      let end : drop (i + 1) segments ≡ [] = drop_all (i + 1) segments (omega (arith, last)) in
+      w (module_item m) refl
+      ∙ ap (walk q own false (in_types (module_item m)) (k + i)) (split ∙ ap (λ r. get_or segments i d ∷ r) end)
+      ∙ module-step q own m here (module_item m) refl (k + i) (get_or segments i d) []
+
+  -- one with others behind it
+  pub module-next : i + 1 < length segments → (found : Item) (next : ModuleId) → scope_source q own m (get_or segments i d) Types ≡ Some found → found.def ≡ Module next
+      → (from : Item) → from.def ≡ Module next → whole ≡ walk q own false (in_types from) (k + (i + 1)) (drop (i + 1) segments)
+  module-next more found next there is from stands =
+      let rest = drop (i + 1) segments in
+      let left : 0 < length rest = simp length-drop (omega (arith, more)) in
+      let number : suc (k + i) ≡ k + (i + 1) = omega arith in
+      w (module_item m) refl
+      ∙ ap (walk q own false (in_types (module_item m)) (k + i)) split
+      ∙ module-step q own m here (module_item m) refl (k + i) (get_or segments i d) rest
+      ∙ of-module q own (per_namespace (scope_source q own m (get_or segments i d))) (in_types from) found from next (suc (k + i)) rest left there refl is stands
+      ∙ ap (λ j. walk q own false (in_types from) j rest) number
 
 -- a segment with others behind it, by what the definition before it has of it in types
 module _ (q : Question) (own : MapView) (crossed : Bool) (item : Item) (i : ℕ) (names rest : List Name) (name : Name) (stepped : Option (Option Item)) (whole : ResolvePathResult)

@@ -1,6 +1,6 @@
 //! What paths answer: a step for each segment after the first, and the answers of several maps as
 //! one.
-ghost use Rattle.std.specs.Prelude.{◌≡◌, ◌≤◌, ◌<◌, ◌||◌, ◌∷◌, ◌++◌, [], None, false, length, drop, option_map, if◌then◌else◌};
+ghost use Rattle.std.specs.Prelude.{IfSome, ◌≡◌, ◌≤◌, ◌<◌, ◌||◌, ◌∷◌, ◌++◌, [], None, false, length, drop, option_map, if◌then◌else◌};
 ghost use Rattle.std.specs.List.{list_any};
 ghost use Rattle.def_ids.specs.Ids.{is_same_map};
 ghost use Rattle.def_paths.specs.Answers.{missing as missing_after, reached as reached_with};
@@ -13,8 +13,9 @@ ghost use Rattle.def_sources.specs.Items.{is_fitting};
 ghost use Rattle.def_paths.specs.OuterMaps.{is_alone as stands_alone, is_plain as has_no_word};
 ghost use Rattle.def_paths.specs.OuterMaps.{answer_in as answer_in_map, answer_outside as answer_outside_of};
 ghost use Rattle.def_paths.specs.OuterMaps.{answers_outside, answer_of};
-ghost use Rattle.def_sources.specs.PerNs.{in_types, is_nothing};
-ghost use Rattle.def_sources.specs.Sources.{at_module, by_sources, absolute_sources, relative_sources};
+ghost use Rattle.def_sources.specs.PerNs.{Item, in_types, is_nothing, per_namespace};
+ghost use Rattle.def_ids.specs.declared.ids.Def.TheVariants.{Module};
+ghost use Rattle.def_sources.specs.Sources.{scope_source, at_module, by_sources, absolute_sources, relative_sources};
 
 use crate::path_result::{PrefixInfo, ReachedFixedPoint, ResolvePathResult};
 use def_bindings::{BindingTable, Visibility};
@@ -233,9 +234,45 @@ fn last_step<D: PathDatabase, T: BindingTable<Vis = Visibility>>(
     }
 }
 
+/// Where the last of these segments is looked up, which begin in a module: the module, and that
+/// segment. `None` unless the others lead there through modules of this crate alone, as they mostly
+/// do: then nothing but a module is kept on the way.
+fn scope_reached<D: PathDatabase, T: BindingTable<Vis = Visibility>>(
+    asking: &Asking<'_, D, T>,
+    first: ModuleId,
+    segments: &[Name],
+) -> Option<(ModuleId, Name)>
+    ensures { let q = question_in D.oracle asking.now in
+        let own = map_in T.content asking.now in
+        IfSome result (λ there. (item : Item) (i : _) → item.def ≡ Module first →
+        walk_of q own false (in_types item) i segments.now
+        ≡ reached_with (per_namespace (scope_source q own there.0 there.1)) None false) }
+{
+    let len = segments.len();
+    if len == 0 {
+        return None;
+    }
+    let last = len - 1;
+    let mut place = first;
+    'segments: for i in 0..last {
+        if is_elsewhere(asking.world.map, Def::Module(place)) {
+            return None;
+        }
+        let item = scope_type(asking, place, segments[i])?;
+        let Def::Module(next) = item.def else {
+            return None;
+        };
+        place = next;
+    }
+    if is_elsewhere(asking.world.map, Def::Module(place)) {
+        return None;
+    }
+    Some((place, segments[last]))
+}
+
 /// The segments from `begin` on, after a definition. One with others behind it is looked up in types
 /// alone.
-fn walk<D: PathDatabase, T: BindingTable<Vis = Visibility>>(
+fn walk_on<D: PathDatabase, T: BindingTable<Vis = Visibility>>(
     asking: &Asking<'_, D, T>,
     first: Item,
     begin: usize,
@@ -263,6 +300,26 @@ fn walk<D: PathDatabase, T: BindingTable<Vis = Visibility>>(
         }
     }
     reached(PerNs::of_type(item), None, crossed)
+}
+
+/// The segments from `begin` on, after a definition.
+fn walk<D: PathDatabase, T: BindingTable<Vis = Visibility>>(
+    asking: &Asking<'_, D, T>,
+    first: Item,
+    begin: usize,
+    segments: &[Name],
+) -> ResolvePathResult
+    requires { begin ≤ length segments.now }
+    ensures { let q = question_in D.oracle asking.now in
+        let own = map_in T.content asking.now in
+        result ≡ walk_of q own false (in_types first) begin (drop begin segments.now) }
+{
+    if let Def::Module(place) = first.def {
+        if let Some((scope_of, name)) = scope_reached(asking, place, &segments[begin..]) {
+            return reached(scope(asking, scope_of, name), None, false);
+        }
+    }
+    walk_on(asking, first, begin, segments)
 }
 
 /// A path from a module on, if that is there.
@@ -475,15 +532,9 @@ pub(crate) fn resolve<D: PathDatabase, T: BindingTable<Vis = Visibility>>(
         let own = map_in T.content asking.now in
         result ≡ answer_of q own place path.now }
 {
-    let answer = answer_in(asking, place, path);
-    if is_plain(path.kind) && place.is_block_root() {
-        with_outside(
-            asking,
-            path,
-            answer,
-            asking.world.map.tree.containing.as_slice(),
-        )
-    } else {
-        answer
+    if !is_plain(path.kind) || !place.is_block_root() {
+        return answer_in(asking, place, path);
     }
+    let containing = asking.world.map.tree.containing.as_slice();
+    with_outside(asking, path, answer_in(asking, place, path), containing)
 }

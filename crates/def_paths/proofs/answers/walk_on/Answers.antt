@@ -4,8 +4,8 @@ use Rattle.def_paths.specs.Answers.{is_elsewhere, missing, walk}
 use Rattle.def_sources.specs.Asking.{question_in, map_in}
 use Rattle.def_sources.specs.PerNs.{in_types}
 use Rattle.def_paths.proofs.AnswersLemmas.{walk-found, walk-lost}
-use Rattle.def_paths.proofs.answers.walk.Goals as goal
-use Rattle.def_paths.proofs.answers.walk.Goals.{then-crossed, else-crossed}
+use Rattle.def_paths.proofs.answers.walk_on.Goals as goal
+use Rattle.def_paths.proofs.answers.walk_on.Goals.{then-crossed, else-crossed}
 
 pub returns-in-None : goal.returns-in-None
 returns-in-None g c =
