@@ -6,7 +6,7 @@ ghost use Rattle.def_calls.specs.Shown.{macro_directive_of, written_attr_of};
 ghost use Rattle.def_parts.specs.Sites.{site_of};
 ghost use Rattle.def_map.specs.Asking.{world_lent};
 ghost use Rattle.def_modules.specs.Maps.{helper_state, map_state};
-ghost use Rattle.def_modules.specs.Tables.{bound_by};
+ghost use Rattle.def_sources.specs.Tables.{bound_by};
 ghost use Rattle.def_rules.specs.Attributes as rules;
 ghost use Rattle.def_rules.specs.Attributes.{with_active};
 ghost use Rattle.def_rules.specs.State.{State};

@@ -7,7 +7,7 @@ ghost use Rattle.def_calls.specs.Shown.{macro_directive_of, written_attr_of, wri
 ghost use Rattle.def_map.specs.Asking.{world_lent};
 ghost use Rattle.def_map.specs.DefMaps.{view_of};
 ghost use Rattle.def_modules.specs.Maps.{helper_state, map_state};
-ghost use Rattle.def_modules.specs.Tables.{bound_by};
+ghost use Rattle.def_sources.specs.Tables.{bound_by};
 ghost use Rattle.def_rules.specs.Calls.{each_helped, helped, with_helpers};
 ghost use Rattle.def_rules.specs.Derives as rules;
 ghost use Rattle.def_rules.specs.Items.{top_items};

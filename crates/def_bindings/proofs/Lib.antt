@@ -1,14 +1,5 @@
-pub mod BoundNameLemmas
 pub mod SearchLemmas
-pub mod ByModuleLemmas
-pub mod ResultLemmas
-pub mod LinkLemmas
-pub mod NumbersLemmas
-pub mod NumberedTableLemmas
 pub mod TreeLemmas
 pub mod PutsFacts
 pub mod VisibilityFacts
 pub mod ContentFacts
-pub mod EmptyLemmas
-pub mod BoundNameFacts
-pub mod NumbersFacts

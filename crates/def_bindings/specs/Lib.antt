@@ -1,6 +1,5 @@
 pub mod Content
 pub mod Order
-pub mod BoundName
 pub mod Chains
 pub mod Tree
 pub mod IdLaws
@@ -13,12 +12,6 @@ pub mod ModuleTree
 pub mod Puts
 pub mod Closure
 pub mod NameBindings
-pub mod Link
-pub mod Lists
-pub mod Numbers
-pub mod Places
-pub mod NumberedTable
-pub mod NumberedTableLaws
 pub mod Slots
 pub mod DefLaws
 pub mod HeldLaws

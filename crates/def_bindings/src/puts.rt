@@ -77,7 +77,7 @@ pub fn settle<O: VisOrder>(
 }
 
 /// An unnamed trait as a binding: by a glob, so that its visibility can rise.
-pub(crate) fn as_binding<V: Copy>(item: TraitId, vis: V) -> Binding<V>
+pub fn as_binding<V: Copy>(item: TraitId, vis: V) -> Binding<V>
     ensures { result ≡ unnamed_binding item vis }
 {
     Binding {

@@ -4,7 +4,7 @@ ghost use Rattle.std.specs.Option.{option_or};
 ghost use Rattle.def_bindings.specs.declared.bindings.Namespace.TheVariants.{Macros};
 ghost use Rattle.def_sources.specs.Items.{macro_of_def};
 ghost use Rattle.def_map.specs.Asking.{world_lent};
-ghost use Rattle.def_modules.specs.Tables.{bound_by};
+ghost use Rattle.def_sources.specs.Tables.{bound_by};
 ghost use Rattle.def_map.specs.OuterMaps.{first_of_each_map};
 ghost use Rattle.def_map.specs.Paths.{macro_named, scope};
 ghost use Rattle.def_rules.specs.Calls as calls;

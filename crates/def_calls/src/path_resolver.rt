@@ -1,6 +1,6 @@
 //! The macro that a path names once imports are resolved.
 ghost use Rattle.def_map.specs.Asking.{world_lent};
-ghost use Rattle.def_modules.specs.Tables.{bound_by};
+ghost use Rattle.def_sources.specs.Tables.{bound_by};
 ghost use Rattle.def_map.specs.Paths.{resolver};
 ghost use Rattle.def_sources.specs.declared.asked.BuiltinShadowMode.TheVariants as shadow;
 

@@ -5,7 +5,7 @@ ghost use Rattle.def_parts.specs.Sites.{directories_of};
 ghost use Rattle.def_map.specs.Asking.{world_lent};
 ghost use Rattle.def_map.specs.Queries.{plain_call};
 ghost use Rattle.def_modules.specs.Maps.{map_state};
-ghost use Rattle.def_modules.specs.Tables.{bound_by};
+ghost use Rattle.def_sources.specs.Tables.{bound_by};
 ghost use Rattle.def_rules.specs.Calls as calls;
 ghost use Rattle.def_rules.specs.Directives.{answer_in};
 

@@ -1,7 +1,7 @@
 -- A watch leaves the state.
 use Rattle.std.proofs.Common.{◌≡◌, ap}
 use Rattle.def_interner.specs.declared.interner.Interner.{Interner}
-use Rattle.def_modules.specs.Tables.{Table}
+use Rattle.def_sources.specs.Tables.{Table}
 use Rattle.def_collector.specs.declared.collector.DefCollector.{DefCollector}
 use Rattle.def_collector.specs.Collector.{state_of}
 

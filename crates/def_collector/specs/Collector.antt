@@ -10,7 +10,7 @@ use Rattle.def_crates.specs.Missing.{missing_in}
 use Rattle.def_parts.specs.Sites.{directories_of}
 use Rattle.def_modules.specs.Locals.{local_view}
 use Rattle.def_modules.specs.Maps.{map_state}
-use Rattle.def_modules.specs.Tables.{bound_by}
+use Rattle.def_sources.specs.Tables.{bound_by}
 use Rattle.def_collector.specs.declared.collector.DefCollector.{DefCollector}
 use Rattle.def_steps.specs.ImportLists.{directives_in}
 use Rattle.indexmap.specs.IndexMap.{get}

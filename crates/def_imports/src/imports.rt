@@ -5,7 +5,7 @@ ghost use Rattle.def_items.specs.Parts.{with_parts};
 ghost use Rattle.def_laws.specs.Performs.{Updated};
 ghost use Rattle.def_map.specs.Asking.{world_lent};
 ghost use Rattle.def_map.specs.Paths.{for_import, resolve};
-ghost use Rattle.def_modules.specs.Tables.{bound_by};
+ghost use Rattle.def_sources.specs.Tables.{bound_by};
 ghost use Rattle.def_rules.specs.Imports.{bound_name, named_entries};
 ghost use Rattle.def_rules.specs.State.{State, order};
 

@@ -7,7 +7,7 @@ use Rattle.def_items.specs.declared.lists.ItemList.{ItemList}
 use Rattle.def_modules.specs.declared.map.MapData.{MapData}
 use Rattle.def_modules.specs.Maps.{map_state}
 use Rattle.def_modules.specs.MapView.{LocalView}
-use Rattle.def_modules.specs.Tables.{Table, bound_by}
+use Rattle.def_sources.specs.Tables.{Table, bound_by}
 use Rattle.def_parts.specs.Sites.{site_of}
 use Rattle.def_rules.specs.State.{Site, State}
 

@@ -4,7 +4,7 @@ ghost use Rattle.std.specs.List.{flat_map, list_any};
 ghost use Rattle.item_tree.specs.Attrs.{attrs_of};
 ghost use Rattle.def_map.specs.Asking.{world_lent};
 ghost use Rattle.def_modules.specs.Maps.{map_state};
-ghost use Rattle.def_modules.specs.Tables.{bound_by};
+ghost use Rattle.def_sources.specs.Tables.{bound_by};
 ghost use Rattle.def_rules.specs.Macros as macros;
 ghost use Rattle.def_rules.specs.State.{State, with_map};
 

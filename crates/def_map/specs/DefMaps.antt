@@ -12,7 +12,7 @@ use Rattle.def_seed.specs.Seeds.{block_id, block_state, crate_map_id}
 use Rattle.def_modules.specs.MapState.{MapState}
 use Rattle.def_modules.specs.MapView.{MapView}
 use Rattle.def_modules.specs.Maps.{map_state, facts_of}
-use Rattle.def_modules.specs.Tables.{bound_by}
+use Rattle.def_sources.specs.Tables.{bound_by}
 
 -- what a map shows beside its bindings
 abbrev pub state_of : DefMap → MapState

@@ -13,7 +13,7 @@ use Rattle.def_map.specs.DefMaps.{state_of, content_of}
 use Rattle.def_modules.specs.MapState.{ModuleState}
 use Rattle.def_sources.specs.PerNs.{per_namespace}
 use Rattle.def_modules.specs.Scopes.{module_state}
-use Rattle.def_modules.specs.Tables.{bound_by}
+use Rattle.def_sources.specs.Tables.{bound_by}
 
 -- the module of a scope
 abbrev pub place_of : ItemScope → ModuleId

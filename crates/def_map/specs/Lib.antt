@@ -8,7 +8,7 @@ pub use Rattle.def_modules.specs.Equality
 pub use Rattle.def_modules.specs.ScopeMaps
 pub use Rattle.def_modules.specs.Scopes
 pub use Rattle.def_modules.specs.Maps
-pub use Rattle.def_modules.specs.Tables
+pub use Rattle.def_sources.specs.Tables
 pub use Rattle.def_modules.specs.Locals
 pub use Rattle.def_seed.specs.Fresh
 pub use Rattle.def_seed.specs.Seeds

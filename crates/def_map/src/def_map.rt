@@ -2,7 +2,7 @@
 ghost use Rattle.std.specs.Prelude.{◌≡◌, IfOk, IsTrue, ◌↔◌};
 ghost use Rattle.def_bindings.specs.Content.{empty as none_bound};
 ghost use Rattle.def_modules.specs.Maps.{map_state};
-ghost use Rattle.def_modules.specs.Tables.{bound_by};
+ghost use Rattle.def_sources.specs.Tables.{bound_by};
 ghost use Rattle.def_map.specs.DefMaps.{state_of, content_of};
 ghost use Rattle.def_seed.specs.Fresh.{IsFresh};
 

@@ -6,7 +6,7 @@ ghost use Rattle.def_bindings.specs.Tree.{module_of, parent_of};
 ghost use Rattle.def_map.specs.DefMaps.{state_of, content_of, view_of};
 ghost use Rattle.def_modules.specs.Maps.{exported_of, features_of, helper_state, limit_of};
 ghost use Rattle.def_modules.specs.Scopes.{module_state};
-ghost use Rattle.def_modules.specs.Tables.{bound_by};
+ghost use Rattle.def_sources.specs.Tables.{bound_by};
 
 use crate::def_map::DefMap;
 use crate::item_scope::ItemScope;

@@ -36,7 +36,7 @@ pub use def_paths::{
 // The ids, visibilities and bindings that maps are made of.
 pub use def_bindings::{
     Binding, BindingTable, EdgeTo, Entry, ImportOrExternCrate, ModuleTree, NameBindings, Namespace,
-    NumberedTable, Slot, VisOrder, Visibility,
+    Slot, VisOrder, Visibility,
 };
 pub use def_ids::{
     Adt, BuiltinDeriveImplId, ConstId, Def, Edition, EnumId, ExternBlockId, ExternCrateId,
@@ -49,4 +49,5 @@ pub use def_locs::{
     ExternCrateLoc, FunctionLoc, ImplLoc, Macro2Loc, MacroExpander, MacroRulesLoc, ProcMacroLoc,
     ProcMacroUse, StaticLoc, StructLoc, TraitLoc, TypeAliasLoc, UnionLoc, UseLoc,
 };
+pub use numbered_table::NumberedTable;
 pub use scope_table::ScopeTable;

@@ -6,6 +6,5 @@ pub mod Equality
 pub mod ScopeMaps
 pub mod Scopes
 pub mod Maps
-pub mod Tables
 pub mod Locals
 pub mod EqualityLaws

@@ -3,3 +3,4 @@ pub mod Items
 pub mod Sources
 pub mod Asking
 pub mod Modes
+pub mod Tables

@@ -12,7 +12,7 @@ use item_tree::Name;
 /// The answers that paths ask for. Each is a function of its arguments.
 pub trait PathDatabase {
     ghost use Rattle.def_interner.specs.Session.{in_module};
-    ghost use Rattle.def_modules.specs.Tables.{bound_by};
+    ghost use Rattle.def_sources.specs.Tables.{bound_by};
     ghost use Rattle.def_oracle.specs.Oracle.{Oracle};
     ghost use Rattle.def_sources.specs.Asking.{map_with};
     ghost use Rattle.def_sources.specs.Sources.{finished_map as finished_map_of};

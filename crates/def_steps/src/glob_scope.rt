@@ -5,7 +5,7 @@ ghost use Rattle.def_bindings.specs.ModuleTree.{chain_in};
 ghost use Rattle.def_bindings.specs.Visibility.{order_over};
 ghost use Rattle.def_map.specs.Answers.{variant_found};
 ghost use Rattle.def_map.specs.PerNs.{kept};
-ghost use Rattle.def_modules.specs.Tables.{bound_by};
+ghost use Rattle.def_sources.specs.Tables.{bound_by};
 ghost use Rattle.def_rules.specs.Globs.{brought, glob_sees, name_entries, scope_entries, unnamed_entry, variant_entries};
 
 use crate::directive::is_public;

@@ -1,12 +1,11 @@
 //! How long a late name takes to travel along the edges of globs.
 
 use crate::report::{Entry as Shown, print_report};
-use def_bindings::{
-    BindingTable, Entry, ModuleTree, Namespace, NumberedTable, VisOrder, Visibility,
-};
+use def_bindings::{BindingTable, Entry, ModuleTree, Namespace, VisOrder, Visibility};
 use def_ids::{Def, GlobId, MapId, ModuleId, StructId, UseId};
 use def_parts::Globs;
 use item_tree::{Crate, Name, Seq};
+use numbered_table::NumberedTable;
 use std::alloc::{AllocError, Global};
 use std::io;
 use std::rt::Clock;

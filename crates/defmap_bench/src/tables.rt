@@ -1,9 +1,10 @@
 //! How long tables of bindings take to be filled and read.
 
 use crate::report::{Entry, print_report};
-use def_bindings::{Binding, BindingTable, Namespace, NumberedTable, Visibility};
+use def_bindings::{Binding, BindingTable, Namespace, Visibility};
 use def_ids::{Def, MapId, ModuleId, StructId};
 use item_tree::{Crate, Name};
+use numbered_table::NumberedTable;
 use scope_table::ScopeTable;
 use std::alloc::{AllocError, Global};
 use std::io;

@@ -14,7 +14,7 @@ use Rattle.def_bindings.specs.Content.{is_name, is_namespace, with_name, without
 use Rattle.def_bindings.specs.NameBindings.{bound_in, with_bound, is_unbound}
 use Rattle.scope_table.specs.RowEntries.{or_unbound, bindings_at, binding_in, bindings_left, are_bound}
 use Rattle.def_bindings.specs.IdLaws.{both, name-eq, name-sym, name-laws, cases_name}
-use Rattle.def_bindings.proofs.BoundNameLemmas.{bound_in-unbound}
+use Rattle.numbered_table.proofs.BoundNameLemmas.{bound_in-unbound}
 use Rattle.std.proofs.lemmas.Map.{lookup-set_value, lookup-remove_entry, keys-set_value}
 
 -- what equals x stands for x

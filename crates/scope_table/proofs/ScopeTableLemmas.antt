@@ -17,13 +17,13 @@ use Rattle.def_ids.specs.Ids.{is_same_module}
 use Rattle.def_bindings.specs.Content.{is_name, is_trait, is_namespace, bound_as, is_bound, with_name, without_name, with_binding, without_binding, with_unnamed, with_edge, replaced}
 use Rattle.def_bindings.specs.NameBindings.{bound_in, with_bound}
 use Rattle.scope_table.specs.Row.{row_binding, row_names, row_unnamed, row_edges, SameBindings, SameUnnamed, SameEdges, IsNew}
-use Rattle.def_bindings.specs.Link.{link_of}
+use Rattle.numbered_table.specs.Link.{link_of}
 use Rattle.scope_table.specs.RowEntries.{bindings_at, bindings_left}
 use Rattle.scope_table.specs.ScopeTable.{content_by}
 use Rattle.def_bindings.specs.IdLaws.{cases_module, module-refl, name-refl}
 use Rattle.scope_table.proofs.ContentLemmas.{content_ext}
-use Rattle.def_bindings.proofs.ByModuleLemmas.{ChangesRow, shown, kept, listed}
-use Rattle.def_bindings.proofs.LinkLemmas.{edges-insert_entry}
+use Rattle.numbered_table.proofs.ByModuleLemmas.{ChangesRow, shown, kept, listed}
+use Rattle.numbered_table.proofs.LinkLemmas.{edges-insert_entry}
 use Rattle.scope_table.proofs.RowEntriesLemmas.{keys-insert_entry, binding_in-insert_entry, binding_in-bindings_left, keys-bindings_left, left_here, bound_or_empty}
 
 module _ {V : Type 0} (old new : ModuleId → Option (Row V)) (at : ModuleId) (was : Option (Row V)) (row : Row V) (before : old at ≡ was) (after : ChangesRow old new at row) where

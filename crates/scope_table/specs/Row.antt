@@ -7,7 +7,7 @@ use Rattle.def_bindings.specs.declared.bindings.Namespace.{Namespace}
 use Rattle.def_bindings.specs.declared.bindings.Binding.{Binding}
 use Rattle.def_bindings.specs.declared.bindings.EdgeTo.{EdgeTo}
 use Rattle.scope_table.specs.declared.row.Row.{Row}
-use Rattle.def_bindings.specs.Link.{edge_of}
+use Rattle.numbered_table.specs.Link.{edge_of}
 use Rattle.scope_table.specs.RowEntries.{binding_in}
 
 module _ {V : Type 0} where

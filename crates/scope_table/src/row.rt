@@ -4,14 +4,15 @@ ghost use Rattle.std.specs.List.{IsDistinct};
 ghost use Rattle.indexmap.specs.IndexMap.{insert_entry, keys};
 ghost use Rattle.def_ids.specs.Ids.{is_same_module};
 ghost use Rattle.def_bindings.specs.Content.{is_name, is_trait, vis_of};
-ghost use Rattle.def_bindings.specs.Link.{link_of};
+ghost use Rattle.numbered_table.specs.Link.{link_of};
 ghost use Rattle.def_bindings.specs.NameBindings.{with_bound};
 ghost use Rattle.def_bindings.specs.Puts.{edge_to};
 ghost use Rattle.scope_table.specs.RowEntries.{bindings_at, bindings_left, are_bound};
 
-use def_bindings::{Binding, EdgeTo, Link, NameBindings, Namespace};
+use def_bindings::{Binding, EdgeTo, NameBindings, Namespace};
 use def_ids::{ModuleId, TraitId};
 use indexmap::IndexMap;
+use numbered_table::Link;
 use std::alloc::{AllocError, Global};
 use tree_ids::Name;
 

@@ -8,7 +8,7 @@ ghost use Rattle.def_collector.specs.Collector.{state_of};
 ghost use Rattle.def_answer.specs.Shown.{shown};
 ghost use Rattle.def_laws.specs.Finished.{IsFinished};
 ghost use Rattle.def_map.specs.DefMaps as whole;
-ghost use Rattle.def_modules.specs.Tables.{bound_by};
+ghost use Rattle.def_sources.specs.Tables.{bound_by};
 ghost use Rattle.def_rules.specs.Report.{import_report, left_import};
 ghost use Rattle.def_steps.specs.ImportLists.{marked_each, unresolved_in};
 

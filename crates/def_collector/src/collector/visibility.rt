@@ -3,7 +3,7 @@ ghost use Rattle.std.specs.Prelude.{◌≡◌, map};
 ghost use Rattle.def_collector.specs.Collector.{state_of};
 ghost use Rattle.def_rules.specs.Items.{ctor_vis, least_in, least_of, written_vis};
 ghost use Rattle.def_rules.specs.State.{order, world};
-ghost use Rattle.def_modules.specs.Tables.{bound_by};
+ghost use Rattle.def_sources.specs.Tables.{bound_by};
 ghost use Rattle.def_map.specs.Asking.{world_lent};
 
 use super::DefCollector;

@@ -4,13 +4,12 @@ mod calls;
 mod far;
 mod levels;
 
-use def_bindings::{
-    Binding, BindingTable, Entry, ImportOrExternCrate, ModuleTree, Namespace, NumberedTable,
-};
+use def_bindings::{Binding, BindingTable, Entry, ImportOrExternCrate, ModuleTree, Namespace};
 use def_ids::{Def, GlobId, MapId, ModuleId, StructId, UseId};
 use def_parts::Globs;
 use item_tree::{Crate, Name, Seq};
 use levels::{Level, Levels};
+use numbered_table::NumberedTable;
 use scope_table::ScopeTable;
 use std::alloc::{AllocError, Global};
 use std::process::Abort;

@@ -2,9 +2,10 @@
 #![tactic(auto)]
 
 use super::plain_table::PlainTable;
-use def_bindings::{Binding, BindingTable, EdgeTo, ImportOrExternCrate, Namespace, NumberedTable};
+use def_bindings::{Binding, BindingTable, EdgeTo, ImportOrExternCrate, Namespace};
 use def_ids::{Def, GlobId, ModuleId, StructId, TraitId, UseId};
 use item_tree::{Crate, Name};
+use numbered_table::NumberedTable;
 use scope_table::ScopeTable;
 use std::alloc::{AllocError, Global};
 use std::process::Abort;

@@ -1,7 +1,7 @@
 use Rattle.std.proofs.Common.{sym, ◌∙◌}
 use Rattle.def_map.specs.Asking.{world_lent}
 use Rattle.def_map.specs.DefMaps.{view_of}
-use Rattle.def_modules.specs.Tables.{bound_by}
+use Rattle.def_sources.specs.Tables.{bound_by}
 use Rattle.def_calls.proofs.CallsLemmas.{bound_elsewhere}
 use Rattle.def_calls.proofs.early_resolver.bound_macro.Goals as goal
 

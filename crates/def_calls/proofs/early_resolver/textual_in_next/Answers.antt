@@ -1,6 +1,6 @@
 use Rattle.std.proofs.Common.{sym, ◌∙◌}
 use Rattle.def_map.specs.Asking.{world_lent}
-use Rattle.def_modules.specs.Tables.{bound_by}
+use Rattle.def_sources.specs.Tables.{bound_by}
 use Rattle.def_calls.proofs.CallsLemmas.{next-seen}
 use Rattle.def_calls.proofs.early_resolver.textual_in_next.Goals as goal
 

@@ -6,7 +6,7 @@ use Rattle.def_attrs.specs.Shown.{attr_use_of, derives_in}
 use Rattle.def_calls.specs.Shown.{macro_directive_of, macros_in, written_attr_of}
 use Rattle.def_collector.specs.Collector.{state_of}
 use Rattle.def_map.specs.Asking.{world_lent}
-use Rattle.def_modules.specs.Tables.{bound_by}
+use Rattle.def_sources.specs.Tables.{bound_by}
 use Rattle.def_rules.specs.Attributes.{PassesOver, ReadsDerives, ReplacesItem}
 use Rattle.def_rules.specs.Directives.{Told, attr_told, item_told, use_told}
 use Rattle.def_rules.specs.State.{State}

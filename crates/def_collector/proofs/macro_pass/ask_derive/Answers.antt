@@ -3,7 +3,7 @@ use Rattle.std.proofs.lemmas.List.{map-append}
 use Rattle.def_calls.specs.Shown.{expansion_shown, macro_directive_of, macros_in, written_derive_of}
 use Rattle.def_collector.specs.Collector.{state_of}
 use Rattle.def_map.specs.Asking.{world_lent}
-use Rattle.def_modules.specs.Tables.{bound_by}
+use Rattle.def_sources.specs.Tables.{bound_by}
 use Rattle.def_rules.specs.Derives.{derived}
 use Rattle.def_rules.specs.Directives.{expanding, expansion_of}
 use Rattle.def_rules.specs.State.{State}

@@ -1,4 +1,4 @@
-use Rattle.std.proofs.Common.{[], ap, ◌∙◌}
+use Rattle.std.proofs.Common.{[], Some, ap, ◌∙◌}
 use Rattle.def_collector.specs.Collector.{state_of}
 use Rattle.def_collector.specs.Walk.{inner_of}
 use Rattle.def_laws.proofs.StepsLaws.{leads_refl}
@@ -13,4 +13,14 @@ returns-in-None-clause-walked g c =
       begun = begun;
       opened = c.in_ok-list.ensures.opened c.args.session.now ∙ ap (λ o. followed_by begun (inner_of (g.D.SourceDatabase.oracle c.args.db.now) o)) c.in-None.is;
       leads = leads_refl [] begun;
+    }
+
+pub returns-in_ok-walk-in-Some-clause-walked : goal.returns-in_ok-walk-in-Some-clause-walked
+returns-in_ok-walk-in-Some-clause-walked g c =
+    let begun : State = state_of c.open_expansion.new.collector c.args.session.now in
+    record {
+      inner = inner_of (g.D.SourceDatabase.oracle c.args.db.now) (Some c.in-Some.list);
+      begun = begun;
+      opened = c.in_ok-list.ensures.opened c.args.session.now ∙ ap (λ o. followed_by begun (inner_of (g.D.SourceDatabase.oracle c.args.db.now) o)) c.in-Some.is;
+      leads = c.in_ok-walk-in-Some.ensures.run;
     }

@@ -2,7 +2,7 @@ use Rattle.std.proofs.Common.{ap, map as map_of, option_map, ◌∙◌}
 use Rattle.def_calls.specs.Shown.{expansion_shown, macros_in}
 use Rattle.def_interner.specs.Session.{session_of}
 use Rattle.def_modules.specs.Locals.{local_view}
-use Rattle.def_modules.specs.Tables.{bound_by}
+use Rattle.def_sources.specs.Tables.{bound_by}
 use Rattle.def_collector.specs.Setting.{setting_of}
 use Rattle.def_rules.specs.Crates.{deps_by_name, is_proc_macro_crate}
 use Rattle.def_collector.proofs.CollectLemmas.{begins, no_imports}

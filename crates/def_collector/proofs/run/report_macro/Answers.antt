@@ -3,7 +3,7 @@ use Rattle.def_calls.specs.Shown.{kind_of, macro_directive_of, written_of}
 use Rattle.def_collector.specs.Collector.{state_of}
 use Rattle.def_laws.proofs.RecordLaws.{on_ok}
 use Rattle.def_map.specs.Asking.{world_lent}
-use Rattle.def_modules.specs.Tables.{bound_by}
+use Rattle.def_sources.specs.Tables.{bound_by}
 use Rattle.def_rules.specs.Report.{kind_report, macro_report}
 use Rattle.def_rules.specs.State.{State}
 use Rattle.def_calls.proofs.WaitingLemmas.{read_at}

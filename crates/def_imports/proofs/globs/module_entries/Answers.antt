@@ -2,7 +2,7 @@ use Rattle.std.proofs.Common.{refl, sym, ◌∙◌}
 use Rattle.def_map.specs.Asking.{world_lent}
 use Rattle.def_map.specs.DefMaps.{view_of}
 use Rattle.def_map.specs.Sources.{World}
-use Rattle.def_modules.specs.Tables.{bound_by}
+use Rattle.def_sources.specs.Tables.{bound_by}
 use Rattle.def_laws.proofs.ResultLaws.{if_ok}
 use Rattle.def_imports.proofs.GlobLemmas.{entries_elsewhere, entries_here}
 use Rattle.def_imports.proofs.globs.module_entries.Goals as goal

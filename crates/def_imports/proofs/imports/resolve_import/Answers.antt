@@ -1,7 +1,7 @@
 use Rattle.std.proofs.Common.{ap, ◌∙◌}
 use Rattle.def_map.specs.Asking.{world_lent}
 use Rattle.def_map.specs.Paths.{resolve}
-use Rattle.def_modules.specs.Tables.{bound_by}
+use Rattle.def_sources.specs.Tables.{bound_by}
 use Rattle.def_imports.proofs.imports.resolve_import.Goals as goal
 
 pub returns : goal.returns

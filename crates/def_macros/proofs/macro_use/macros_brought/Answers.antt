@@ -2,7 +2,7 @@ use Rattle.std.proofs.Common.{sym, ◌∙◌}
 use Rattle.def_map.specs.Asking.{world_lent}
 use Rattle.def_map.specs.DefMaps.{view_of}
 use Rattle.def_map.specs.Sources.{World}
-use Rattle.def_modules.specs.Tables.{bound_by}
+use Rattle.def_sources.specs.Tables.{bound_by}
 use Rattle.def_macros.proofs.MacrosLemmas.{if_ok, taken_elsewhere}
 use Rattle.def_macros.proofs.macro_use.macros_brought.Goals as goal
 

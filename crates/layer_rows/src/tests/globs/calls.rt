@@ -3,12 +3,11 @@
 use super::far::assert_far;
 use super::{glob, module, module_tree};
 use crate::tests::tables::{are_alike, namespace};
-use def_bindings::{
-    BindingTable, Entry, ImportOrExternCrate, ModuleTree, NumberedTable, Visibility,
-};
+use def_bindings::{BindingTable, Entry, ImportOrExternCrate, ModuleTree, Visibility};
 use def_ids::{Def, ImportId, StructId, TraitId, UseId};
 use def_parts::Globs;
 use item_tree::Name;
+use numbered_table::NumberedTable;
 use scope_table::ScopeTable;
 use std::alloc::{AllocError, Global};
 use std::process::Abort;

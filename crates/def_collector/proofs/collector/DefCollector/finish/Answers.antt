@@ -3,7 +3,7 @@ use Rattle.std.specs.HashMap.{IsUnique}
 use Rattle.def_calls.specs.Shown.{macros_in}
 use Rattle.def_ids.specs.Equality.{glob_eq}
 use Rattle.def_modules.specs.Maps.{map_state}
-use Rattle.def_modules.specs.Tables.{bound_by}
+use Rattle.def_sources.specs.Tables.{bound_by}
 use Rattle.def_answer.specs.Shown.{shown}
 use Rattle.def_collector.specs.Collector.{state_of}
 use Rattle.def_rules.specs.Report.{Answer, AreEdges, AreTargets, left_import, left_macro, shown_targets}

@@ -1,5 +1,5 @@
 use Rattle.std.proofs.Common.{ap, ◌∙◌}
-use Rattle.def_modules.specs.Tables.{bound_by}
+use Rattle.def_sources.specs.Tables.{bound_by}
 use Rattle.def_collector.proofs.collector.DefCollector.into_collected.Goals as goal
 
 pub returns-clause-map : goal.returns-clause-map

@@ -1,6 +1,6 @@
 use Rattle.std.proofs.Common.{ap, ◌∙◌}
 use Rattle.def_modules.specs.Maps.{facts_of}
-use Rattle.def_modules.specs.Tables.{bound_by}
+use Rattle.def_sources.specs.Tables.{bound_by}
 use Rattle.def_collector.specs.Collector.{state_of}
 use Rattle.def_rules.specs.State.{world}
 use Rattle.def_modules.specs.Locals.{local_view}

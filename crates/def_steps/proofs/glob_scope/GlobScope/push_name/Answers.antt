@@ -3,7 +3,7 @@ use Rattle.def_bindings.specs.declared.bindings.Namespace.TheVariants.{Types, Va
 use Rattle.def_bindings.specs.ModuleTree.{chain_in}
 use Rattle.def_bindings.specs.Visibility.{order_over}
 use Rattle.def_map.specs.PerNs.{kept}
-use Rattle.def_modules.specs.Tables.{bound_by}
+use Rattle.def_sources.specs.Tables.{bound_by}
 use Rattle.def_rules.specs.Globs.{brought, glob_sees}
 use Rattle.def_steps.proofs.GatherLemmas.{gathered_thrice}
 use Rattle.def_steps.proofs.glob_scope.GlobScope.push_name.Goals as goal

@@ -1,7 +1,7 @@
 use Rattle.std.proofs.Common.{◌<◌, ◌^◌, arith, refl, length}
 use Rattle.def_bindings.specs.ModuleTree.{chain_in}
 use Rattle.def_bindings.specs.Visibility.{order_over}
-use Rattle.def_modules.specs.Tables.{bound_by}
+use Rattle.def_sources.specs.Tables.{bound_by}
 use Rattle.def_rules.specs.Globs.{name_entries}
 use Rattle.def_steps.proofs.GatherLemmas.{gathered_all, gathered_more, within_index}
 use Rattle.def_steps.proofs.glob_scope.GlobScope.push_names.Goals as goal

@@ -2,7 +2,7 @@ use Rattle.std.proofs.Common.{◌≡◌, ◌++◌, ◌-◌, drop, length}
 use Rattle.std.specs.List.{flat_map}
 use Rattle.def_bindings.specs.ModuleTree.{chain_in}
 use Rattle.def_bindings.specs.Visibility.{order_over}
-use Rattle.def_modules.specs.Tables.{bound_by}
+use Rattle.def_sources.specs.Tables.{bound_by}
 use Rattle.def_rules.specs.Globs.{unnamed_entry}
 use Rattle.def_steps.proofs.glob_scope.GlobScope.push_unnamed_traits.Given as goal
 

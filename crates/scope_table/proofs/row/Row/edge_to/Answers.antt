@@ -1,5 +1,5 @@
 use Rattle.std.proofs.Common.{Some, None}
-use Rattle.def_bindings.proofs.LinkLemmas.{edge_to-found}
+use Rattle.numbered_table.proofs.LinkLemmas.{edge_to-found}
 use Rattle.scope_table.proofs.row.Row.edge_to.Goals as goal
 
 pub returns-in-Some : goal.returns-in-Some

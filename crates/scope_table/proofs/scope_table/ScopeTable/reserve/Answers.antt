@@ -2,7 +2,7 @@ use Rattle.std.proofs.Common.{sym, ◌∙◌}
 use Rattle.indexmap.specs.IndexMap.{get}
 use Rattle.def_ids.specs.Ids.{is_same_module}
 use Rattle.scope_table.proofs.ScopeTableLemmas.{content-reserve}
-use Rattle.def_bindings.proofs.ResultLemmas.{none_there}
+use Rattle.numbered_table.proofs.ResultLemmas.{none_there}
 use Rattle.scope_table.proofs.scope_table.ScopeTable.reserve.Goals as goal
 
 pub returns-in_ok-insert-clause-same : goal.returns-in_ok-insert-clause-same

@@ -2,7 +2,7 @@ use Rattle.std.proofs.Common.{ap, ◌∙◌}
 use Rattle.std.specs.Prelude.{option_and_then}
 use Rattle.def_bindings.specs.NameBindings.{bound_in}
 use Rattle.scope_table.specs.Row.{row_binding}
-use Rattle.def_bindings.proofs.BoundNameLemmas.{bound_in-unbound}
+use Rattle.numbered_table.proofs.BoundNameLemmas.{bound_in-unbound}
 use Rattle.scope_table.proofs.RowEntriesLemmas.{bound_in-or_unbound}
 use Rattle.scope_table.proofs.scope_table.ScopeTableBindingTable.bindings.Goals as goal
 

@@ -3,7 +3,7 @@ use Rattle.indexmap.specs.IndexMap.{get}
 use Rattle.def_ids.specs.Ids.{is_same_module}
 use Rattle.scope_table.specs.ScopeTable.{content_by}
 use Rattle.scope_table.proofs.ScopeTableLemmas.{content-remove, content-absent}
-use Rattle.def_bindings.proofs.ResultLemmas.{some_there}
+use Rattle.numbered_table.proofs.ResultLemmas.{some_there}
 use Rattle.scope_table.proofs.scope_table.ScopeTableBindingTable.remove.Goals as goal
 
 pub returns-in-Some : goal.returns-in-Some

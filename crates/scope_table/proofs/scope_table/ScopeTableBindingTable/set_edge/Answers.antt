@@ -3,7 +3,7 @@ use Rattle.indexmap.specs.IndexMap.{get}
 use Rattle.def_ids.specs.Ids.{is_same_module}
 use Rattle.def_bindings.specs.Content.{with_edge}
 use Rattle.scope_table.proofs.ScopeTableLemmas.{content-edge, content-same}
-use Rattle.def_bindings.proofs.ResultLemmas.{OnOk_then, OnErr_then, some_there}
+use Rattle.numbered_table.proofs.ResultLemmas.{OnOk_then, OnErr_then, some_there}
 use Rattle.scope_table.proofs.scope_table.ScopeTableBindingTable.set_edge.Goals as goal
 
 pub returns-in-Some-clause-done : goal.returns-in-Some-clause-done

@@ -1,9 +1,0 @@
-use Rattle.std.proofs.Common.{Some, None}
-use Rattle.def_bindings.proofs.NumberedTableLemmas.{edge_numbered}
-use Rattle.def_bindings.proofs.numbered_table.NumberedTable.numbered_edge.Goals as goal
-
-pub returns-in-Some-clause-edge : goal.returns-in-Some-clause-edge
-returns-in-Some-clause-edge g c = edge_numbered c.args.self.now.edges.entries.entries c.args.number (Some (c.in-Some.source, c.in-Some.importer, c.in-Some.link)) c.in-Some.ensures.entry
-
-pub returns-in-None-clause-edge : goal.returns-in-None-clause-edge
-returns-in-None-clause-edge g c = edge_numbered c.args.self.now.edges.entries.entries c.args.number None c.in-None.ensures.entry

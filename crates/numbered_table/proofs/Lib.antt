@@ -1,0 +1,10 @@
+pub mod BoundNameLemmas
+pub mod ByModuleLemmas
+pub mod ResultLemmas
+pub mod LinkLemmas
+pub mod ListsLemmas
+pub mod NumbersLemmas
+pub mod NumberedTableLemmas
+pub mod EmptyLemmas
+pub mod BoundNameFacts
+pub mod NumbersFacts

@@ -1,0 +1,24 @@
+use Rattle.std.proofs.Common.{ap, length, rules}
+use Rattle.std.specs.Prelude.{IsTrue}
+use Rattle.std.proofs.lemmas.List.{nil_from_length}
+use Rattle.numbered_table.proofs.EmptyLemmas.{empty_parts, empty_whole}
+use Rattle.numbered_table.proofs.numbered_table.NumberedTable.is_empty.Goals as goal
+
+pub returns-then-not-is_empty : goal.returns-then-not-is_empty
+returns-then-not-is_empty g c =
+    let t = c.args.self.now in
+    (search rules, λ h. let there = c.is_empty.ensures.1 (ap length (empty_parts t h).0) in cc)
+
+pub returns-then-not-is_empty-2 : goal.returns-then-not-is_empty-2
+returns-then-not-is_empty-2 g c =
+    let t = c.args.self.now in
+    (search rules, λ h. let there = c.is_empty-2.ensures.1 (empty_parts t h).1 in cc)
+
+pub returns : goal.returns
+returns g c =
+    let t = c.args.self.now in
+    let places : IsTrue c.is_empty.result = cc in
+    let unnamed : IsTrue c.is_empty-2.result = cc in (
+      λ h. empty_whole t (nil_from_length t.bound.entries (c.is_empty.ensures.0 places)) (c.is_empty-2.ensures.0 unnamed) (c.is_empty-3.ensures.0 h),
+      λ h. c.is_empty-3.ensures.1 (empty_parts t h).2,
+    )

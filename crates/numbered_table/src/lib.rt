@@ -1,0 +1,13 @@
+//! The table of bindings that maps have: the names of all modules in one index, and so the unnamed
+//! traits and the glob edges.
+#![tactic(auto)]
+
+mod bound_name;
+mod keyed;
+mod link;
+mod lists;
+mod numbered_table;
+mod place;
+
+pub use link::Link;
+pub use numbered_table::NumberedTable;

@@ -1,0 +1,319 @@
+//! A table that keeps the names of all modules in one index.
+ghost use Rattle.std.specs.Prelude.{◌≡◌, ◌↔◌, IsTrue, None, OnOk, OnErr, IfOk};
+ghost use Rattle.numbered_table.specs.BoundName.{stands_for, written_in};
+ghost use Rattle.def_bindings.specs.Content.{AreTied, bound_as, is_bound};
+ghost use Rattle.numbered_table.specs.Lists.{lists_of};
+ghost use Rattle.numbered_table.specs.Places.{bindings_of};
+ghost use Rattle.def_bindings.specs.Puts.{if_vacant};
+
+use crate::bound_name::BoundName;
+use crate::keyed::Keyed;
+use crate::link::Link;
+use crate::lists::Lists;
+use crate::place::Placed;
+use def_bindings::{
+    Binding, BindingTable, EdgeTo, ImportOrExternCrate, NameBindings, Namespace, Slot, as_binding,
+};
+use def_ids::{Def, ModuleId, TraitId};
+use indexmap::IndexMap;
+use indexmap::map::Entry;
+use std::alloc::{AllocError, Global};
+use tree_ids::Name;
+
+/// What all names stand for in one index over modules and names, and so the unnamed traits and the
+/// edges; and the names of each module in first-bound order.
+pub struct NumberedTable<V> {
+    alloc: Global,
+    bound: IndexMap<Placed<Name>, BoundName<V>>,
+    names: Lists<Name>,
+    unnamed: Keyed<TraitId, V>,
+    edges: Keyed<ModuleId, Link<V>>,
+    ghost tied: { AreTied (bindings_of bound) (lists_of names) },
+}
+
+impl<V: Drop> Drop for NumberedTable<V> {
+    fn drop(self) {
+        let NumberedTable {
+            alloc: _,
+            bound: _,
+            names: _,
+            unnamed: _,
+            edges: _,
+        } = self;
+    }
+}
+
+/// Takes a binding out, and answers whether its name has another.
+fn take_out<V: Copy>(
+    names: &mut IndexMap<Placed<Name>, BoundName<V>>,
+    module: ModuleId,
+    name: Name,
+    ns: Namespace,
+) -> bool
+    ensures bindings { bindings_of names.new
+        ≡ bound_as (bindings_of names.old) «module» name ns None }
+    ensures stays { result ≡ is_bound (bindings_of names.new) «module» name }
+{
+    let placed = Placed {
+        at: module,
+        key: name,
+    };
+    let Some(bound) = names.get_mut(&placed) else {
+        return false;
+    };
+    if bound.take(ns) {
+        return true;
+    }
+    let _ = names.swap_remove(&placed);
+    false
+}
+
+/// Binds a name beside its other bindings where nothing is bound, and answers what is bound there. A
+/// refused call changes nothing.
+fn bind_beside<V: Copy>(
+    alloc: Global,
+    bound: &mut BoundName<V>,
+    ns: Namespace,
+    binding: Binding<V>,
+) -> Result<Option<Binding<V>>, AllocError>
+    ensures there { IfOk result (λ there. there ≡ stands_for bound.old ns) }
+    ensures done { IfOk result (λ there. stands_for bound.new
+        ≡ written_in (stands_for bound.old) ns (if_vacant there binding)) }
+    ensures refused { OnErr result (bound.new ≡ bound.old) }
+{
+    let there = bound.get(ns).copied();
+    if there.is_none() {
+        bound.set(alloc, ns, binding)?;
+    }
+    Ok(there)
+}
+
+impl<V: Copy> NumberedTable<V> {
+    ghost use Rattle.std.specs.Prelude.{◌<◌, ◌^◌, length, slice_get};
+    ghost use Rattle.def_bindings.specs.declared.bindings.Slot.TheVariants.{Named};
+    ghost use Rattle.def_bindings.specs.Content.{empty};
+    ghost use Rattle.numbered_table.specs.NumberedTable.{all_edges, content_of};
+    ghost use Rattle.def_bindings.specs.Puts.{written};
+
+    /// A table with nothing in it.
+    pub fn new(alloc: Global) -> Result<Self, AllocError>
+        ensures { IfOk result (λ table. content_of table ≡ empty) }
+    {
+        Ok(NumberedTable {
+            alloc,
+            bound: IndexMap::new(alloc),
+            names: Lists::new(alloc),
+            unnamed: Keyed::new(alloc),
+            edges: Keyed::new(alloc),
+        })
+    }
+
+    /// Makes room for more names, so that as many are bound with no copy of what is there.
+    pub fn reserve(&mut self, names: usize) -> Result<(), AllocError>
+        ensures { content_of self.new ≡ content_of self.old }
+    {
+        self.bound.reserve(names)
+    }
+
+    /// Binds a name where nothing is bound, and answers what is bound there. A refused call changes
+    /// nothing.
+    fn bind_name(
+        &mut self,
+        module: ModuleId,
+        name: Name,
+        ns: Namespace,
+        binding: Binding<V>,
+    ) -> Result<Option<Binding<V>>, AllocError>
+        ensures done { IfOk result (λ there.
+            (there ≡ (content_of self.old).binding «module» name ns)
+            × (content_of self.new
+            ≡ written (content_of self.old) «module» (Named name ns) (if_vacant there binding))) }
+        ensures refused { OnErr result (content_of self.new ≡ content_of self.old) }
+    {
+        let alloc = self.alloc;
+        let placed = Placed {
+            at: module,
+            key: name,
+        };
+        match self.bound.entry(placed)? {
+            Entry::Occupied(there) => bind_beside(alloc, there.into_mut(), ns, binding),
+            Entry::Vacant(free) => {
+                self.names.push(module, name)?;
+                free.insert(BoundName::of(ns, binding));
+                Ok(None)
+            }
+        }
+    }
+
+    /// Whether the table has nothing in it.
+    pub fn is_empty(&self) -> bool
+        ensures { IsTrue result ↔ (content_of self.now ≡ empty) }
+    {
+        if !self.bound.is_empty() {
+            return false;
+        }
+        if !self.unnamed.is_empty() {
+            return false;
+        }
+        self.edges.is_empty()
+    }
+
+    /// The edge with this number among all in order of recording, and its source.
+    pub fn numbered_edge(&self, number: usize) -> Option<(ModuleId, EdgeTo<V>)>
+        ensures edge { result ≡ slice_get (all_edges self.now) number }
+        ensures few { length (all_edges self.now) < 2 ^ 64 }
+    {
+        match self.edges.numbered(number) {
+            Some((source, importer, link)) => Some((
+                source,
+                EdgeTo {
+                    importer,
+                    vis: link.vis,
+                    glob: link.glob,
+                },
+            )),
+            None => None,
+        }
+    }
+}
+
+impl<V: Copy> BindingTable for NumberedTable<V> {
+    ghost use Rattle.def_bindings.specs.Content.{with_binding, with_unnamed, with_edge};
+    ghost use Rattle.numbered_table.specs.NumberedTable.{content_of};
+    ghost use Rattle.numbered_table.specs.NumberedTableLaws.{modules_of, are_sources};
+
+    type Vis = V;
+
+    ghost content = { content_of };
+
+    ghost sources = { λ t. modules_of t.edges.entries.entries };
+
+    fn binding(&self, module: ModuleId, name: Name, ns: Namespace) -> Option<Binding<V>> {
+        match self.bound.get(&Placed {
+            at: module,
+            key: name,
+        }) {
+            Some(bound) => bound.get(ns).copied(),
+            None => None,
+        }
+    }
+
+    fn bindings(&self, module: ModuleId, name: Name) -> NameBindings<V> {
+        match self.bound.get(&Placed {
+            at: module,
+            key: name,
+        }) {
+            Some(bound) => bound.all(),
+            None => NameBindings::unbound(),
+        }
+    }
+
+    fn name_at(&self, module: ModuleId, index: usize) -> Option<Name> {
+        self.names.at(module, index)
+    }
+
+    fn unnamed_at(&self, module: ModuleId, index: usize) -> Option<(TraitId, V)> {
+        self.unnamed.at(module, index)
+    }
+
+    fn unnamed_vis(&self, module: ModuleId, item: TraitId) -> Option<V> {
+        self.unnamed.get(module, item)
+    }
+
+    fn edge_at(&self, module: ModuleId, index: usize) -> Option<EdgeTo<V>> {
+        match self.edges.at(module, index) {
+            Some((importer, link)) => Some(EdgeTo {
+                importer,
+                vis: link.vis,
+                glob: link.glob,
+            }),
+            None => None,
+        }
+    }
+
+    fn edge_to(&self, module: ModuleId, importer: ModuleId) -> Option<EdgeTo<V>> {
+        match self.edges.get(module, importer) {
+            Some(link) => Some(EdgeTo {
+                importer,
+                vis: link.vis,
+                glob: link.glob,
+            }),
+            None => None,
+        }
+    }
+
+    fn set(
+        &mut self,
+        module: ModuleId,
+        name: Name,
+        ns: Namespace,
+        binding: Binding<V>,
+    ) -> Result<(), AllocError>
+        ensures done { OnOk result (content_of self.new
+            ≡ with_binding (content_of self.old) «module» name ns binding) }
+        ensures refused { OnErr result (content_of self.new ≡ content_of self.old) }
+    {
+        let alloc = self.alloc;
+        let placed = Placed {
+            at: module,
+            key: name,
+        };
+        if let Some(bound) = self.bound.get_mut(&placed) {
+            return bound.set(alloc, ns, binding);
+        }
+        self.bound.reserve(1)?;
+        self.names.push(module, name)?;
+        self.bound.insert(placed, BoundName::of(ns, binding))?;
+        Ok(())
+    }
+
+    fn bind(
+        &mut self,
+        module: ModuleId,
+        slot: Slot,
+        def: Def,
+        vis: V,
+        import: Option<ImportOrExternCrate>,
+    ) -> Result<Option<Binding<V>>, AllocError> {
+        match slot {
+            Slot::Named(name, ns) => self.bind_name(module, name, ns, Binding { def, vis, import }),
+            Slot::Unnamed(item) => match self.unnamed_vis(module, item) {
+                Some(there) => Ok(Some(as_binding(item, there))),
+                None => {
+                    self.set_unnamed(module, item, vis)?;
+                    Ok(None)
+                }
+            },
+        }
+    }
+
+    fn remove(&mut self, module: ModuleId, name: Name, ns: Namespace) {
+        if !take_out(&mut self.bound, module, name, ns) {
+            self.names.remove(module, name);
+        }
+    }
+
+    fn set_unnamed(&mut self, module: ModuleId, item: TraitId, vis: V) -> Result<(), AllocError>
+        ensures done { OnOk result (content_of self.new
+            ≡ with_unnamed (content_of self.old) «module» item vis) }
+        ensures refused { OnErr result (content_of self.new ≡ content_of self.old) }
+    {
+        self.unnamed.set(module, item, vis)
+    }
+
+    fn set_edge(&mut self, module: ModuleId, edge: EdgeTo<V>) -> Result<(), AllocError>
+        ensures done { OnOk result (content_of self.new
+            ≡ with_edge (content_of self.old) «module» edge) }
+        ensures refused { OnErr result (content_of self.new ≡ content_of self.old) }
+    {
+        let link = Link {
+            vis: edge.vis,
+            glob: edge.glob,
+        };
+        self.edges.set(module, edge.importer, link)
+    }
+
+    ghost finite = { are_sources };
+
+    ghost tied = { λ t. t.tied };
+}
