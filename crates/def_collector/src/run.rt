@@ -1,10 +1,12 @@
 //! A whole run: what is known of a crate is read, its items are walked, and passes over imports and
 //! macros are made until nothing moves.
-ghost use Rattle.std.specs.Prelude.{◌≡◌, ◌<◌, ◌++◌, [], Some, length, is_some, option_map, slice_get, IfOk, OnOk};
+ghost use Rattle.std.specs.Prelude.{◌≡◌, ◌≤◌, ◌<◌, ◌*◌, ◌++◌, [], Some, length, is_some, option_map, slice_get, IfOk, OnOk};
+ghost use Rattle.std.specs.Option.{option_map_or};
 ghost use Rattle.def_calls.specs.Shown.{macro_directive_of};
 ghost use Rattle.def_calls.specs.declared.directives.MacroDirective.{MacroDirective};
 ghost use Rattle.tree_ids.specs.declared.ids.TreeId.{TreeId};
 ghost use Rattle.def_interner.specs.declared.interner.Interner.{Interner};
+ghost use Rattle.def_imports.specs.Room.{imports_written};
 ghost use Rattle.def_interner.specs.Session.{AddsLocations, session_of};
 ghost use Rattle.def_map.specs.DefMaps as whole;
 ghost use Rattle.def_map.specs.Fresh.{IsFresh};
@@ -125,7 +127,12 @@ fn begin<'a, D: SourceDatabase>(
 }
 
 /// The room that a run begins with, by its first tree.
-fn room_for<D: SourceDatabase>(db: &D, map: MapId, tree_id: TreeId) -> Room {
+fn room_for<D: SourceDatabase>(db: &D, map: MapId, tree_id: TreeId) -> Room
+    ensures names { let tree = (D.oracle db.now).item_tree (first_tree (D.oracle db.now) map tree_id) in
+        result.names ≤ option_map_or (λ t. length t.items * 3) tree 0 }
+    ensures imports { let tree = (D.oracle db.now).item_tree (first_tree (D.oracle db.now) map tree_id) in
+        result.imports ≤ option_map_or (λ t. imports_written t.items) tree 0 }
+{
     match db.item_tree(first_tree(db, map, tree_id)) {
         Some(tree) => Room::of_tree(tree),
         None => Room {

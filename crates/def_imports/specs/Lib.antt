@@ -1,2 +1,3 @@
 pub mod GlobEntries
 pub mod Turns
+pub mod Room

@@ -1,15 +1,15 @@
 //! What the path of an import reads of the map in work.
 
-use def_bindings::{BindingTable, Namespace};
+use def_bindings::{BindingTable, ImportOrExternCrate, Namespace};
 use def_ids::{Def, Edition, ModuleId};
-use def_map::{SourceDatabase, Table, World};
+use def_map::{Item, SourceDatabase, Table, World};
 use def_steps::Import;
 use item_tree::{Name, PathKind};
 use std::alloc::AllocError;
 
 /// The names that the path of an import reads, each with the module of the map in work in which it
-/// looks the name up, whether or not it is bound there. While imports are recorded the path gives the
-/// same until one of these changes, or the prelude does.
+/// looks the name up, whether or not it is bound there. Those that cannot change are left out. While
+/// imports are recorded the path gives the same until one of these changes, or the prelude does.
 pub fn names_read<D: SourceDatabase>(
     world: &World<'_, D, Table>,
     import: &Import,
@@ -58,12 +58,13 @@ fn read_first<D>(
     let [first, rest @ ..] = segments else {
         return Ok(());
     };
-    let mut module = read(world, scope, *first, names)?;
+    let is_last = rest.is_empty();
+    let mut module = read(world, scope, *first, is_last, names)?;
     if module.is_none() {
         module = world.local.extern_entry(*first).map(|entry| entry.root);
     }
-    if module.is_none() || rest.is_empty() {
-        module = read(world, world.map.prelude, *first, names)?;
+    if module.is_none() || is_last {
+        module = read(world, world.map.prelude, *first, is_last, names)?;
     }
     read_on(world, module, rest, names)
 }
@@ -76,8 +77,9 @@ fn read_on<D>(
     names: &mut Vec<(ModuleId, Name)>,
 ) -> Result<(), AllocError> {
     let mut module = module;
-    for segment in segments {
-        module = read(world, module, *segment, names)?;
+    let len = segments.len();
+    for i in 0..len {
+        module = read(world, module, segments[i], i + 1 == len, names)?;
         if module.is_none() {
             return Ok(());
         }
@@ -85,11 +87,35 @@ fn read_on<D>(
     Ok(())
 }
 
-/// A name in a module, where that is one of the map in work, and the module that it leads to.
+/// Whether what a name binds in types stays, as what no glob brought does.
+fn stays(found: &Option<Item>) -> bool {
+    match found {
+        Some(binding) => match binding.import {
+            Some(ImportOrExternCrate::Glob(_)) => false,
+            _ => true,
+        },
+        None => false,
+    }
+}
+
+/// The module that was found, if it is one.
+fn module_in(found: &Option<Item>) -> Option<ModuleId> {
+    match found {
+        Some(binding) => match binding.def {
+            Def::Module(next) => Some(next),
+            _ => None,
+        },
+        None => None,
+    }
+}
+
+/// A name in a module, where that is one of the map in work, and the module that it leads to. One with
+/// others behind it is looked up in types alone, so what stays there is not noted.
 fn read<D>(
     world: &World<'_, D, Table>,
     module: Option<ModuleId>,
     name: Name,
+    is_last: bool,
     names: &mut Vec<(ModuleId, Name)>,
 ) -> Result<Option<ModuleId>, AllocError> {
     let Some(module) = module else {
@@ -98,12 +124,9 @@ fn read<D>(
     if module.map != world.map.tree.map {
         return Ok(None);
     }
-    names.push((module, name))?;
-    match world.table.binding(module, name, Namespace::Types) {
-        Some(binding) => match binding.def {
-            Def::Module(next) => Ok(Some(next)),
-            _ => Ok(None),
-        },
-        None => Ok(None),
+    let found = world.table.binding(module, name, Namespace::Types);
+    if is_last || !stays(&found) {
+        names.push((module, name))?;
     }
+    Ok(module_in(&found))
 }
