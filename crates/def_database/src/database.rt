@@ -18,15 +18,23 @@ use std::alloc::{AllocError, Global};
 
 /// Item trees, the file that each path leads to from a file, and how deep in expansions of macros a
 /// file lies.
-#[derive(Drop)]
 pub struct Files {
     pub trees: IndexMap<TreeId, ItemTree>,
     pub paths: IndexMap<FileId, IndexMap<String, FileId>>,
     pub depths: IndexMap<HirFileId, u32>,
 }
 
+impl Drop for Files {
+    fn drop(self) {
+        let Files {
+            trees: _,
+            paths: _,
+            depths: _,
+        } = self;
+    }
+}
+
 /// What is known of crates, and the maps that were collected earlier.
-#[derive(Drop)]
 pub struct Crates {
     pub known: IndexMap<Crate, CrateData>,
     pub maps: IndexMap<Crate, DefMap>,
@@ -35,18 +43,37 @@ pub struct Crates {
     pub flags: IndexSet<CfgFlag>,
 }
 
+impl Drop for Crates {
+    fn drop(self) {
+        let Crates {
+            known: _,
+            maps: _,
+            local_maps: _,
+            outer_maps: _,
+            flags: _,
+        } = self;
+    }
+}
+
 /// The variants of the enum at each position, and builtin types.
-#[derive(Drop)]
 pub struct Types {
     pub variants: IndexMap<InFile<FileAstId>, Vec<EnumVariant>>,
     pub builtin: IndexMap<Name, u32>,
+}
+
+impl Drop for Types {
+    fn drop(self) {
+        let Types {
+            variants: _,
+            builtin: _,
+        } = self;
+    }
 }
 
 /// The builtin macros, derives and attribute macros, by their names. Of the macros those on the left
 /// are expanded as they stand, those on the right are eager. Attributes that are no macros are inert;
 /// those that definitions are collected by are so without being listed. A derive that gives impls with
 /// no expansion has their traits, by its number.
-#[derive(Drop)]
 pub struct Builtins {
     pub macros: IndexMap<Name, Either<u32, u32>>,
     pub derives: IndexMap<Name, u32>,
@@ -54,6 +81,19 @@ pub struct Builtins {
     pub derive_fast_path: bool,
     pub attrs: IndexMap<Name, BuiltinAttr>,
     pub inert: IndexSet<Name>,
+}
+
+impl Drop for Builtins {
+    fn drop(self) {
+        let Builtins {
+            macros: _,
+            derives: _,
+            derive_traits: _,
+            derive_fast_path: _,
+            attrs: _,
+            inert: _,
+        } = self;
+    }
 }
 
 /// The call at a position, of the macro that is found for its path.
@@ -75,13 +115,24 @@ pub struct DeriveCallKey {
 
 /// What macro calls, attribute macros and derives give, which calls are calls of `include!`, and in
 /// which ways the macro at a position may be called.
-#[derive(Drop)]
 pub struct Calls {
     pub answers: IndexMap<CallKey, CallAnswer>,
     pub attrs: IndexMap<CallKey, MacroCallId>,
     pub derives: IndexMap<DeriveCallKey, MacroCallId>,
     pub includes: IndexSet<MacroCallId>,
     pub styles: IndexMap<InFile<FileAstId>, MacroCallStyles>,
+}
+
+impl Drop for Calls {
+    fn drop(self) {
+        let Calls {
+            answers: _,
+            attrs: _,
+            derives: _,
+            includes: _,
+            styles: _,
+        } = self;
+    }
 }
 
 /// A condition of one word under which a crate is compiled.

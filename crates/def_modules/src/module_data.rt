@@ -59,7 +59,6 @@ pub struct Invocation {
 }
 
 /// What a module's scope holds beside its bindings. Lists are in the order of recording.
-#[derive(Drop)]
 pub struct ScopeData {
     pub declarations: Seq<Def>,
     /// The textual macros of each name; the last one shadows the others.
@@ -74,6 +73,23 @@ pub struct ScopeData {
     pub invocations: IndexSet<Invocation>,
     /// The names that an import left over would have bound.
     pub failed: IndexSet<Name>,
+}
+
+impl Drop for ScopeData {
+    fn drop(self) {
+        let ScopeData {
+            declarations: _,
+            legacy_macros: _,
+            extern_crates: _,
+            extern_blocks: _,
+            unnamed_consts: _,
+            impls: _,
+            builtin_derive_impls: _,
+            derives: _,
+            invocations: _,
+            failed: _,
+        } = self;
+    }
 }
 
 /// A module of a map. Its parent stands in the map's tree alone.
