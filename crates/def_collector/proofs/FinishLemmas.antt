@@ -20,7 +20,7 @@ use Rattle.numbered_table.specs.declared.place.Placed.{Placed}
 use Rattle.def_bindings.specs.declared.visibility.Visibility.{Visibility}
 use Rattle.def_bindings.specs.IdLaws.{same_module_equal}
 use Rattle.numbered_table.specs.Link.{edge_of}
-use Rattle.numbered_table.specs.NumberedTable.{all_edges}
+use Rattle.numbered_table.specs.NumberedTable.{all_edges, content_of}
 use Rattle.numbered_table.specs.Numbers.{own_entries}
 use Rattle.def_sources.specs.Tables.{Table, bound_by}
 use Rattle.def_rules.specs.declared.outcome.Edge.{Edge}
@@ -148,6 +148,7 @@ edges_among (e ∷ es) source =
     ]
 
 edges_in : (table : Table) (edges : List Edge) → edges ≡ map shown_edge (all_edges table) → AreEdges (bound_by table) edges
+unfolding content_of
 edges_in table edges all source = ap (filter (leaves source)) all ∙ edges_among table.edges.entries.entries source
 
 -- all edges of a table are listed once

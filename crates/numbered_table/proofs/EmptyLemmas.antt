@@ -54,6 +54,7 @@ no_links (e ∷ es) h = cc
 module _ {V : Type 0} (t : NumberedTable V) where
   -- a table without content keeps nothing
   pub empty_parts : content_of t ≡ empty → (t.bound.entries ≡ []) × (own_entries t.unnamed.entries.entries ≡ (λ (m : ModuleId). [])) × (own_entries t.edges.entries.entries ≡ (λ (m : ModuleId). []))
+  unfolding content_of
   empty_parts h = (
     no_places t.bound.entries (λ m x n. λ i. (h i).binding m x n),
     λ i. (h i).unnamed,
@@ -62,6 +63,7 @@ module _ {V : Type 0} (t : NumberedTable V) where
 
   -- a table that keeps nothing has no content
   pub empty_whole : t.bound.entries ≡ [] → own_entries t.unnamed.entries.entries ≡ (λ (m : ModuleId). []) → own_entries t.edges.entries.entries ≡ (λ (m : ModuleId). []) → content_of t ≡ empty
+  unfolding content_of
   empty_whole places unnamed edges = λ i. record {
     binding = bindings i;
     names = λ m. no_names (lists_of t.names m) (λ x. unlisted m x) i;

@@ -9,7 +9,8 @@ use Rattle.numbered_table.specs.Lists.{lists_of}
 use Rattle.numbered_table.specs.Numbers.{own_entries}
 use Rattle.numbered_table.specs.Places.{bindings_of}
 
-abbrev pub content_of : {V : Type 0} → NumberedTable V → Content V
+-- a word of its own to those who use a table: only the proofs of this crate look into it
+unfoldable pub content_of : {V : Type 0} → NumberedTable V → Content V
 content_of t = record {
   binding = bindings_of t.bound;
   names = lists_of t.names;

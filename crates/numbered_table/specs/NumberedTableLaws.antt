@@ -8,7 +8,7 @@ use Rattle.numbered_table.specs.declared.link.Link.{Link}
 use Rattle.numbered_table.specs.declared.place.Placed.{Placed}
 use Rattle.numbered_table.specs.declared.numbered_table.NumberedTable.{NumberedTable}
 use Rattle.def_bindings.specs.IdLaws.{cases_module}
-use Rattle.def_bindings.specs.Content.{AreSources}
+use Rattle.def_bindings.specs.Content.{AreSources, AreTied}
 use Rattle.numbered_table.specs.Link.{edge_of}
 use Rattle.numbered_table.specs.Numbers.{own_entries}
 use Rattle.numbered_table.specs.NumberedTable.{content_of}
@@ -27,4 +27,10 @@ among (p ∷ es) m e h =
 
 -- every module with an edge is that of a key
 pub are_sources : {V : Type 0} (t : NumberedTable V) → AreSources (content_of t) (modules_of t.edges.entries.entries)
+unfolding content_of
 are_sources t m e h = among t.edges.entries.entries m e h
+
+-- names and bindings are tied
+pub are_tied : {V : Type 0} (t : NumberedTable V) → AreTied (content_of t).binding (content_of t).names
+unfolding content_of
+are_tied t = t.tied

@@ -1,4 +1,6 @@
 //! A table that keeps the names of all modules in one index.
+#![tactic(auto, unfolding(crate::specs::NumberedTable::content_of))]
+
 ghost use Rattle.std.specs.Prelude.{◌≡◌, ◌↔◌, IsTrue, None, OnOk, OnErr, IfOk};
 ghost use Rattle.numbered_table.specs.BoundName.{stands_for, written_in};
 ghost use Rattle.def_bindings.specs.Content.{AreTied, bound_as, is_bound};
@@ -180,7 +182,7 @@ impl<V: Copy> NumberedTable<V> {
 impl<V: Copy> BindingTable for NumberedTable<V> {
     ghost use Rattle.def_bindings.specs.Content.{with_binding, with_unnamed, with_edge};
     ghost use Rattle.numbered_table.specs.NumberedTable.{content_of};
-    ghost use Rattle.numbered_table.specs.NumberedTableLaws.{modules_of, are_sources};
+    ghost use Rattle.numbered_table.specs.NumberedTableLaws.{modules_of, are_sources, are_tied};
 
     type Vis = V;
 
@@ -315,5 +317,5 @@ impl<V: Copy> BindingTable for NumberedTable<V> {
 
     ghost finite = { are_sources };
 
-    ghost tied = { λ t. t.tied };
+    ghost tied = { are_tied };
 }

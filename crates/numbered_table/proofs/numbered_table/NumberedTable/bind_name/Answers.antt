@@ -11,6 +11,7 @@ use Rattle.numbered_table.proofs.ResultLemmas.{IfOk_both, OnErr_then}
 use Rattle.numbered_table.proofs.numbered_table.NumberedTable.bind_name.Goals as goal
 
 pub invariant_of-self-in-Occupied : goal.invariant_of-self-in-Occupied
+unfolding content_of
 invariant_of-self-in-Occupied g c =
     let t = c.args.self.now in
     let there = sym c.in_ok-there.ensures.value ∙ ap entry_value c.in-Occupied.is ∙ c.into_mut.ensures.value in
@@ -19,12 +20,13 @@ invariant_of-self-in-Occupied g c =
     record { tied = tied-same _ _ _ _ (bindings-same m (with_entries t.bound _) (search rules)) refl (tied-beside t.bound m (lists_of t.names) t.tied c.args.module c.args.name c.into_mut.result.now c.bind_beside.new.bound there after c.args.ns c.args.binding c.bind_beside.result c.bind_beside.ensures.done c.bind_beside.ensures.refused) }
 
 pub invariant_of-self-in-Break-branch-3 : goal.invariant_of-self-in-Break-branch-3
+unfolding content_of
 invariant_of-self-in-Break-branch-3 g c =
     let t = c.args.self.now in
     record { tied = tied-same _ _ _ _ (bindings-same t.bound (with_entries t.bound _) (search rules)) c.in_err-push-in-Vacant.ensures.refused t.tied }
 
 pub invariant_of-self-in-Vacant : goal.invariant_of-self-in-Vacant
-unfolding entry_value
+unfolding entry_value content_of
 invariant_of-self-in-Vacant g c =
     let t = c.args.self.now in
     let none = sym c.in_ok-there.ensures.value ∙ ap entry_value c.in-Vacant.is in
@@ -34,6 +36,7 @@ invariant_of-self-in-Vacant g c =
     record { tied = (numbered-new _ _ (lists_of t.names) t.tied c.args.module c.args.name c.args.ns c.args.binding (lists_of c.push.new.self) bindings (bound-nowhere t.bound c.args.module c.args.name none) c.in_ok-push-in-Vacant.ensures.done).1 }
 
 pub returns-in-Occupied-clause-done : goal.returns-in-Occupied-clause-done
+unfolding content_of
 returns-in-Occupied-clause-done g c =
     let t = c.args.self.now in
     let there = sym c.in_ok-there.ensures.value ∙ ap entry_value c.in-Occupied.is ∙ c.into_mut.ensures.value in
@@ -44,6 +47,7 @@ returns-in-Occupied-clause-done g c =
     (put.0, content-parts (content_of t) _ _ _ _ (bindings-same m (with_entries t.bound _) (search rules)) refl ∙ put.1))
 
 pub returns-in-Occupied-clause-refused : goal.returns-in-Occupied-clause-refused
+unfolding content_of
 returns-in-Occupied-clause-refused g c =
     let t = c.args.self.now in
     let there = sym c.in_ok-there.ensures.value ∙ ap entry_value c.in-Occupied.is ∙ c.into_mut.ensures.value in
@@ -53,7 +57,7 @@ returns-in-Occupied-clause-refused g c =
     content-parts (content_of t) _ _ _ _ (bindings-same m (with_entries t.bound _) (search rules) ∙ bindings-kept t.bound m c.args.module c.args.name c.into_mut.result.now c.bind_beside.new.bound there after same) refl)
 
 pub returns-in_ok-push-in-Vacant-clause-done : goal.returns-in_ok-push-in-Vacant-clause-done
-unfolding entry_value
+unfolding entry_value content_of
 returns-in_ok-push-in-Vacant-clause-done g c =
     let t = c.args.self.now in
     let none = sym c.in_ok-there.ensures.value ∙ ap entry_value c.in-Vacant.is in

@@ -2,19 +2,23 @@ use Rattle.std.proofs.Common.{ap, length, rules}
 use Rattle.std.specs.Prelude.{IsTrue}
 use Rattle.std.proofs.lemmas.List.{nil_from_length}
 use Rattle.numbered_table.proofs.EmptyLemmas.{empty_parts, empty_whole}
+use Rattle.numbered_table.specs.NumberedTable.{content_of}
 use Rattle.numbered_table.proofs.numbered_table.NumberedTable.is_empty.Goals as goal
 
 pub returns-then-not-is_empty : goal.returns-then-not-is_empty
+unfolding content_of
 returns-then-not-is_empty g c =
     let t = c.args.self.now in
     (search rules, λ h. let there = c.is_empty.ensures.1 (ap length (empty_parts t h).0) in cc)
 
 pub returns-then-not-is_empty-2 : goal.returns-then-not-is_empty-2
+unfolding content_of
 returns-then-not-is_empty-2 g c =
     let t = c.args.self.now in
     (search rules, λ h. let there = c.is_empty-2.ensures.1 (empty_parts t h).1 in cc)
 
 pub returns : goal.returns
+unfolding content_of
 returns g c =
     let t = c.args.self.now in
     let places : IsTrue c.is_empty.result = cc in

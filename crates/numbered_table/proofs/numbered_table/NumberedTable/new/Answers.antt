@@ -1,10 +1,13 @@
 use Rattle.std.proofs.Common.{refl, None, []}
 use Rattle.numbered_table.proofs.NumberedTableLemmas.{bindings-empty, tied-same, content-none}
+use Rattle.numbered_table.specs.NumberedTable.{content_of}
 use Rattle.numbered_table.proofs.numbered_table.NumberedTable.new.Goals as goal
 
 pub invariant_of-result : goal.invariant_of-result
+unfolding content_of
 invariant_of-result g c =
     record { tied = tied-same (λ m x n. None) _ (λ m. []) _ (bindings-empty c.new.result c.new.ensures.empty) c.new-2.ensures (λ m x. refl) }
 
 pub returns : goal.returns
+unfolding content_of
 returns g c = content-none _ _ _ _ (bindings-empty c.new.result c.new.ensures.empty) c.new-2.ensures c.new-3.ensures c.new-4.ensures

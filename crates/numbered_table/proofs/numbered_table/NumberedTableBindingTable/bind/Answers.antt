@@ -5,6 +5,7 @@ use Rattle.def_bindings.specs.Puts.{bound_to, held, if_vacant, unnamed_binding, 
 use Rattle.numbered_table.proofs.numbered_table.NumberedTableBindingTable.bind.Goals as goal
 
 pub returns-in-Named-clause-done : goal.returns-in-Named-clause-done
+unfolding content_of
 returns-in-Named-clause-done g c =
     let before = content_of c.args.self.now in
     let after = content_of c.bind_name.new.self in
@@ -13,6 +14,7 @@ returns-in-Named-clause-done g c =
     subst (λ slot. IfOk c.bind_name.result (λ there. (there ≡ held before m slot) × (after ≡ written before m slot (if_vacant there b)))) (sym c.in-Named.is) c.bind_name.ensures.done
 
 pub returns-in_ok-set_unnamed-in-None-clause-done : goal.returns-in_ok-set_unnamed-in-None-clause-done
+unfolding content_of
 returns-in_ok-set_unnamed-in-None-clause-done g c =
     let before = content_of c.args.self.now in
     let after = content_of c.set_unnamed.new.self in

@@ -7,6 +7,7 @@ use Rattle.numbered_table.proofs.ResultLemmas.{OnOk_then, OnErr_then, at_ok, som
 use Rattle.numbered_table.proofs.numbered_table.NumberedTableBindingTable.set.Goals as goal
 
 pub invariant_of-self : goal.invariant_of-self
+unfolding content_of
 invariant_of-self g c =
     let t = c.args.self.now in
     let there = sym c.in-Some.ensures.value in
@@ -14,6 +15,7 @@ invariant_of-self g c =
     record { tied = tied-written t.bound (c.get_mut.follows.lender c.set.new.self) (lists_of t.names) c.args.module c.args.name c.in-Some.bound.now c.set.new.self there after t.tied c.args.ns c.args.binding c.set.result c.set.ensures.done c.set.ensures.refused }
 
 pub returns-in-Some-clause-done : goal.returns-in-Some-clause-done
+unfolding content_of
 returns-in-Some-clause-done g c =
     let t = c.args.self.now in
     let there = sym c.in-Some.ensures.value in
@@ -24,6 +26,7 @@ returns-in-Some-clause-done g c =
     content-parts (content_of t) _ _ _ _ bindings names.0)
 
 pub returns-in-Some-clause-refused : goal.returns-in-Some-clause-refused
+unfolding content_of
 returns-in-Some-clause-refused g c =
     let t = c.args.self.now in
     let there = sym c.in-Some.ensures.value in
@@ -32,11 +35,13 @@ returns-in-Some-clause-refused g c =
     content-parts (content_of t) _ _ _ _ (bindings-kept t.bound (c.get_mut.follows.lender c.set.new.self) c.args.module c.args.name c.in-Some.bound.now c.set.new.self there after same) refl)
 
 pub invariant_of-self-in-Break-branch-2 : goal.invariant_of-self-in-Break-branch-2
+unfolding content_of
 invariant_of-self-in-Break-branch-2 g c =
     let same = c.in_ok-reserve.ensures.entries ∙ ap (λ r. r.entries) c.get_mut.follows.holds-at-none in
     record { tied = tied-same _ _ _ _ (bindings-same c.args.self.now.bound c.reserve.new.self same) c.in_err-push.ensures.refused c.args.self.now.tied }
 
 pub invariant_of-self-2 : goal.invariant_of-self-2
+unfolding content_of
 invariant_of-self-2 g c =
     let t = c.args.self.now in
     let same = c.in_ok-reserve.ensures.entries ∙ ap (λ r. r.entries) c.get_mut.follows.holds-at-none in
@@ -47,6 +52,7 @@ invariant_of-self-2 g c =
     record { tied = (numbered-new _ _ (lists_of t.names) t.tied c.args.module c.args.name c.args.ns c.args.binding (lists_of c.push.new.self) bindings (bound-nowhere t.bound c.args.module c.args.name none) c.in_ok-push.ensures.done).1 }
 
 pub returns-clause-done : goal.returns-clause-done
+unfolding content_of
 returns-clause-done g c =
     let t = c.args.self.now in
     let same = c.in_ok-reserve.ensures.entries ∙ ap (λ r. r.entries) c.get_mut.follows.holds-at-none in
@@ -56,4 +62,5 @@ returns-clause-done g c =
     content-parts (content_of t) _ _ _ _ bindings names.0
 
 pub returns-in_err-insert-clause-refused : goal.returns-in_err-insert-clause-refused
+unfolding content_of
 returns-in_err-insert-clause-refused g c = search rules
