@@ -14,7 +14,7 @@ use Rattle.def_bindings.specs.declared.bindings.Slot.TheVariants.{Named, Unnamed
 use Rattle.def_bindings.specs.Order.{Order}
 use Rattle.def_bindings.specs.Slots.{is_same_slot, is_same_place}
 use Rattle.def_bindings.specs.Content.{Content, empty, with_binding}
-use Rattle.def_bindings.specs.Puts.{Origin, settled, put_entry, puts, slot_of, is_put, held, lessened, copied, joined, edge_to, unnamed_binding}
+use Rattle.def_bindings.specs.Puts.{Origin, settled, put_entry, puts, slot_of, held, lessened, copied, joined, edge_to, unnamed_binding}
 
 -- two levels, the low one below the high one; only the high one is seen
 abbrev levels : Order Bool
@@ -145,10 +145,6 @@ second_yields = refl
 
 second_replaces : held (puts levels here (named two high (glob 1) ∷ named one low import ∷ []) empty) here (Named name Types) ≡ Some (bind one low import)
 second_replaces = refl
-
--- whether an offer changes its place
-second_is_put : (is_put levels here (Some (Named name Types)) (bind one high (glob 2)) (put_entry levels here (named one low (glob 1)) empty) ≡ true) × (is_put levels here (Some (Named name Types)) (bind two high (glob 2)) (put_entry levels here (named one low (glob 1)) empty) ≡ false)
-second_is_put = (refl, refl)
 
 -- slots are one by name and namespace, or by trait; places by module too
 same_slots : (is_same_slot (Named name Types) (Named name Types) ≡ true) × (is_same_slot (Unnamed tr) (Unnamed tr) ≡ true) × (is_same_place here (Unnamed tr) here (Unnamed tr) ≡ true)

@@ -1,5 +1,7 @@
 -- The bindings of one name.
-use Rattle.std.specs.Prelude.{Bool, ◌&&◌, Option, None, is_none}
+use Rattle.std.specs.Prelude.{Bool, ◌&&◌, Option, None, is_none, option_and_then}
+use Rattle.def_ids.specs.declared.ids.ModuleId.{ModuleId}
+use Rattle.def_ids.specs.Ids.{module_of_def}
 use Rattle.def_bindings.specs.declared.bindings.Namespace.{Namespace}
 use Rattle.def_bindings.specs.declared.bindings.Namespace.TheVariants.{Types, Values, Macros}
 use Rattle.def_bindings.specs.declared.bindings.Binding.{Binding}
@@ -24,3 +26,7 @@ with_bound s Macros b = record s { macros = b }
 -- whether there is no binding in any namespace
 abbrev pub is_unbound : {V : Type 0} → NameBindings V → Bool
 is_unbound s = is_none s.types && is_none s.values && is_none s.macros
+
+-- the module that is bound, if it is one
+abbrev pub module_bound : {V : Type 0} → Option (Binding V) → Option ModuleId
+module_bound found = option_and_then (λ b. module_of_def b.def) found

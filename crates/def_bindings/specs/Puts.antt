@@ -1,5 +1,5 @@
 -- What a place is bound to after something is put there, and copies along the edges of globs.
-use Rattle.std.specs.Prelude.{◌≡◌, Bool, false, cond, is_some, unwrap_or, option_map, Option, Some, None, List, [], ◌∷◌}
+use Rattle.std.specs.Prelude.{◌≡◌, cond, unwrap_or, option_map, Option, Some, None, List, [], ◌∷◌}
 use Rattle.tree_ids.specs.declared.name.Name.{Name}
 use Rattle.def_ids.specs.declared.ids.ModuleId.{ModuleId}
 use Rattle.def_ids.specs.declared.ids.TraitId.{TraitId}
@@ -113,11 +113,6 @@ offered e = record { def = e.def; vis = e.vis; import = e.origin }
 abbrev pub put_at : {V : Type 0} → Order V → ModuleId → Option Slot → Binding V → Content V → Content V
 put_at o m None offer c = c
 put_at o m (Some slot) offer c = put o c m slot offer
-
--- whether an offer changes its place
-abbrev pub is_put : {V : Type 0} → Order V → ModuleId → Option Slot → Binding V → Content V → Bool
-is_put o m None offer c = false
-is_put o m (Some slot) offer c = is_some (settled o (held c m slot) (fitted slot offer))
 
 -- an entry is put in a module
 abbrev pub put_entry : {V : Type 0} → Order V → ModuleId → Entry V → Content V → Content V

@@ -1,8 +1,9 @@
 //! Tables of bindings.
-ghost use Rattle.std.specs.Prelude.{◌≡◌, ◌<◌, ◌^◌, List, length, slice_get, IfOk, OnOk, OnErr};
+ghost use Rattle.std.specs.Prelude.{◌≡◌, ◌<◌, ◌^◌, List, Some, length, slice_get, IfOk, IfSome, OnOk, OnErr};
 ghost use Rattle.def_ids.specs.declared.ids.ModuleId.{ModuleId};
 ghost use Rattle.def_bindings.specs.Content.{Content, with_binding, without_binding, with_unnamed, with_edge, vis_of, AreSources, AreTied};
-ghost use Rattle.def_bindings.specs.NameBindings.{bound_in};
+ghost use Rattle.def_bindings.specs.NameBindings.{bound_in, module_bound, unbound, with_bound};
+ghost use Rattle.def_bindings.specs.declared.bindings.Namespace.TheVariants.{Types};
 ghost use Rattle.def_bindings.specs.Puts.{bound_to, edge_to, held, if_vacant, written};
 
 use crate::bindings::{Binding, EdgeTo, ImportOrExternCrate, Namespace, Slot};
@@ -14,8 +15,8 @@ use tree_ids::Name;
 
 /// Bindings, names, unnamed traits and glob edges by module, however they are kept. What is read is
 /// copied. A table that finds all bindings of a name, an unnamed trait or an edge by one look-up, or
-/// that binds where it has looked, has bodies of its own for `bindings`, `unnamed_vis`, `edge_to` and
-/// `bind`.
+/// that binds where it has looked, has bodies of its own for `bindings`, `lone`, `module_at`,
+/// `unnamed_vis`, `edge_to` and `bind`.
 pub trait BindingTable {
     type Vis: Copy;
 
@@ -35,6 +36,25 @@ pub trait BindingTable {
             types: self.binding(module, name, Namespace::Types),
             values: self.binding(module, name, Namespace::Values),
             macros: self.binding(module, name, Namespace::Macros),
+        }
+    }
+
+    /// The binding of a name that stands in one namespace alone, and that namespace. A table may answer
+    /// `None` for such a name too.
+    fn lone(&self, module: ModuleId, name: Name) -> Option<(Namespace, Binding<Self::Vis>)>
+        ensures { IfSome result (λ lone. (content self.now).binding «module» name
+            ≡ bound_in (with_bound unbound lone.0 (Some lone.1))) }
+    {
+        self.bindings(module, name).lone()
+    }
+
+    /// The module that a name is bound to in types, if it is bound to one.
+    fn module_at(&self, module: ModuleId, name: Name) -> Option<ModuleId>
+        ensures { result ≡ module_bound ((content self.now).binding «module» name Types) }
+    {
+        match self.binding(module, name, Namespace::Types) {
+            Some(binding) => binding.def.as_module(),
+            None => None,
         }
     }
 

@@ -1,4 +1,5 @@
 //! What modules bind.
+ghost use Rattle.std.specs.Prelude.{◌≡◌};
 
 use def_ids::{Def, ExternCrateId, GlobId, ImportId, ModuleId, TraitId};
 use tree_ids::Name;
@@ -9,6 +10,22 @@ pub enum Namespace {
     Types,
     Values,
     Macros,
+}
+
+impl Namespace {
+    ghost use Rattle.def_bindings.specs.Content.{is_namespace};
+
+    /// Whether two namespaces are one.
+    pub fn is_same(self, other: Namespace) -> bool
+        ensures { result ≡ is_namespace self other }
+    {
+        match (self, other) {
+            (Namespace::Types, Namespace::Types)
+            | (Namespace::Values, Namespace::Values)
+            | (Namespace::Macros, Namespace::Macros) => true,
+            _ => false,
+        }
+    }
 }
 
 /// What brought a binding, where that is no declaration.

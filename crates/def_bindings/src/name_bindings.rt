@@ -72,6 +72,18 @@ impl<V: Copy> NameBindings<V> {
         }
     }
 
+    /// The one binding, where there is no other, and its namespace.
+    pub fn lone(&self) -> Option<(Namespace, Binding<V>)>
+        ensures { IfSome result (λ lone. self.now ≡ with_bound unbound lone.0 (Some lone.1)) }
+    {
+        match (self.types, self.values, self.macros) {
+            (Some(types), None, None) => Some((Namespace::Types, types)),
+            (None, Some(values), None) => Some((Namespace::Values, values)),
+            (None, None, Some(macros)) => Some((Namespace::Macros, macros)),
+            _ => None,
+        }
+    }
+
     /// These, with another binding or none in one namespace.
     pub fn with(self, ns: Namespace, binding: Option<Binding<V>>) -> Self
         ensures { result ≡ with_bound self ns binding }

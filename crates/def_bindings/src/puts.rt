@@ -1,6 +1,6 @@
 //! Puts of bindings, and their copies along the edges of globs.
-ghost use Rattle.std.specs.Prelude.{◌≡◌, is_some, IfOk, OnErr};
-ghost use Rattle.def_bindings.specs.Puts.{held, fitted, settled, settled_over, settled_by_glob, written, put, put_entry as after_entry, is_put, slot_of, offered, answer, copied, glob_of, unnamed_binding};
+ghost use Rattle.std.specs.Prelude.{◌≡◌, Some, is_some, IfOk, OnErr};
+ghost use Rattle.def_bindings.specs.Puts.{held, fitted, settled, settled_over, settled_by_glob, written, put, slot_of, answer, copied, glob_of, unnamed_binding};
 
 use crate::binding_table::BindingTable;
 use crate::bindings::{Binding, EdgeTo, Entry, ImportOrExternCrate, Namespace, Slot};
@@ -58,21 +58,6 @@ fn glob(import: Option<ImportOrExternCrate>) -> Option<GlobId>
     match import {
         Some(ImportOrExternCrate::Glob(glob)) => Some(glob),
         _ => None,
-    }
-}
-
-/// What an offer makes of a place, or `None` where it changes nothing: an explicit binding stays,
-/// one by a glob yields to it, and of two by globs the same definition is raised.
-pub fn settle<O: VisOrder>(
-    order: &O,
-    there: Option<Binding<O::Vis>>,
-    offer: Binding<O::Vis>,
-) -> Option<Binding<O::Vis>>
-    ensures { result ≡ settled (O.order order.now) there offer }
-{
-    match there {
-        Some(there) => settle_over(order, there, offer),
-        None => Some(offer),
     }
 }
 
@@ -135,6 +120,26 @@ pub fn fit<V: Copy>(slot: Slot, binding: Binding<V>) -> Binding<V>
     }
 }
 
+/// Puts an offer where something is bound, and answers whether that changed it. A refused call changes
+/// nothing. It stands apart, since most places are vacant.
+#[inline(never)]
+fn put_over<T: BindingTable, O: VisOrder<Vis = T::Vis>>(
+    table: &mut T,
+    order: &O,
+    module: ModuleId,
+    slot: Slot,
+    there: &Binding<T::Vis>,
+    offer: &Binding<T::Vis>,
+) -> Result<bool, AllocError>
+    ensures done { IfOk result (λ changed. let c = T.content table.old in
+        let settled = settled (O.order order.now) (Some there.now) (fitted slot offer.now) in
+        (changed ≡ is_some settled) × (T.content table.new ≡ written c «module» slot settled)) }
+    ensures refused { OnErr result (T.content table.new ≡ T.content table.old) }
+{
+    let settled = settle_over(order, *there, fit(slot, *offer));
+    write(table, module, slot, settled)
+}
+
 /// Puts an offer at a place, and answers whether that changed it. A refused call changes nothing.
 pub fn put_at<T: BindingTable, O: VisOrder<Vis = T::Vis>>(
     table: &mut T,
@@ -149,9 +154,8 @@ pub fn put_at<T: BindingTable, O: VisOrder<Vis = T::Vis>>(
         × (T.content table.new ≡ put o c «module» slot offer)) }
     ensures refused { OnErr result (T.content table.new ≡ T.content table.old) }
 {
-    let offer = fit(slot, offer);
     match table.bind(module, slot, offer.def, offer.vis, offer.import)? {
-        Some(there) => write(table, module, slot, settle_over(order, there, offer)),
+        Some(there) => put_over(table, order, module, slot, &there, &offer),
         None => Ok(true),
     }
 }
@@ -166,30 +170,6 @@ pub fn slot_of_entry<V: Copy>(entry: &Entry<V>) -> Option<Slot>
         (None, Namespace::Types, Def::Trait(item)) => Some(Slot::Unnamed(item)),
         _ => None,
     }
-}
-
-/// Puts an entry in a module, and answers whether that changed it. A refused call changes nothing.
-pub fn put_entry<T: BindingTable, O: VisOrder<Vis = T::Vis>>(
-    table: &mut T,
-    order: &O,
-    module: ModuleId,
-    entry: &Entry<T::Vis>,
-) -> Result<bool, AllocError>
-    ensures done { IfOk result (λ changed. let c = T.content table.old in
-        let o = O.order order.now in
-        (changed ≡ is_put o «module» (slot_of entry.now) (offered entry.now) c)
-        × (T.content table.new ≡ after_entry o «module» entry.now c)) }
-    ensures refused { OnErr result (T.content table.new ≡ T.content table.old) }
-{
-    let Some(slot) = slot_of_entry(entry) else {
-        return Ok(false);
-    };
-    let offer = Binding {
-        def: entry.def,
-        vis: entry.vis,
-        import: entry.origin,
-    };
-    put_at(table, order, module, slot, offer)
 }
 
 /// Copies a slot along an edge, and answers whether that changed the importer. Only what the source

@@ -1,5 +1,6 @@
 //! Imports: each pass records those that are ready.
 ghost use Rattle.std.specs.Prelude.{◌≡◌, ◌<◌, [], ℕ, true, false, Some, None, length, slice_get, IfOk, OnOk};
+ghost use Rattle.def_map.specs.PathAnswer.{whole};
 ghost use Rattle.def_interner.specs.declared.interner.Interner.{Interner};
 ghost use Rattle.def_collector.specs.Collector.{state_of};
 ghost use Rattle.def_collector.specs.Passes.{IsUnready, entries_of};
@@ -14,7 +15,7 @@ use crate::collector::DefCollector;
 use crate::globs::record_glob;
 use def_imports::{record_named, resolve_import};
 use def_interner::Interner;
-use def_map::{ResolvePathResult, SourceDatabase};
+use def_map::{PathAnswer, SourceDatabase};
 use def_steps::{
     Import, ImportDirective, ImportList, drop_left, is_ready, new_prelude, next_tried, retire,
     still_indeterminate,
@@ -136,10 +137,10 @@ fn record_resolved_import<'a, D: SourceDatabase>(
     db: &D,
     session: &Interner,
     import: &Import,
-    answer: &ResolvePathResult,
+    answer: &PathAnswer,
 ) -> Result<(), AllocError>
     ensures performs { OnOk result (let s = state_of collector.old session.now in
-        let effect = record_effect (D.oracle db.now) s (import_of import.now) answer.now in
+        let effect = record_effect (D.oracle db.now) s (import_of import.now) (whole answer.now) in
         Performs (D.oracle db.now) effect.tasks effect.state (state_of collector.new session.now)) }
     ensures frame { collector.new ≡ record collector.old { def_map = collector.new.def_map; table = collector.new.table; targets = collector.new.targets } }
 {

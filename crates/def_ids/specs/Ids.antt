@@ -4,6 +4,8 @@ use Rattle.tree_ids.specs.declared.ids.BlockId.{BlockId}
 use Rattle.tree_ids.specs.declared.ids.Crate.{Crate}
 use Rattle.def_ids.specs.declared.ids.MapId.{MapId}
 use Rattle.def_ids.specs.declared.ids.ModuleId.{ModuleId}
+use Rattle.def_ids.specs.declared.ids.Def.{Def}
+use Rattle.def_ids.specs.declared.ids.Def.TheVariants.{Module}
 
 -- both are no block, or both are one block
 abbrev pub is_same_block : Option BlockId → Option BlockId → Bool
@@ -27,3 +29,8 @@ is_block_root m = (m.index == 0) && is_some m.map.block
 -- the root of a crate's map
 abbrev pub crate_root : Crate → ModuleId
 crate_root krate = record { map = record { krate = krate; block = None }; index = 0 }
+
+-- the module that a definition is
+abbrev pub module_of_def : Def → Option ModuleId
+module_of_def (Module m) = Some m
+module_of_def _ = None

@@ -130,6 +130,20 @@ pub enum Def {
     Macro(MacroId),
 }
 
+impl Def {
+    ghost use Rattle.def_ids.specs.Ids.{module_of_def};
+
+    /// The module that it is, if it is one.
+    pub fn as_module(&self) -> Option<ModuleId>
+        ensures { result ≡ module_of_def self.now }
+    {
+        match self {
+            Def::Module(module) => Some(*module),
+            _ => None,
+        }
+    }
+}
+
 /// What an item stands in.
 #[derive(Clone, Copy, PartialEq, Eq, Hash, Debug)]
 pub enum ItemContainerId {

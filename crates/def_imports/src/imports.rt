@@ -4,6 +4,7 @@ ghost use Rattle.def_steps.specs.Shown.{import_of};
 ghost use Rattle.def_items.specs.Parts.{with_parts};
 ghost use Rattle.def_laws.specs.Performs.{Updated};
 ghost use Rattle.def_map.specs.Asking.{world_lent};
+ghost use Rattle.def_map.specs.PathAnswer.{whole};
 ghost use Rattle.def_map.specs.Paths.{for_import, resolve};
 ghost use Rattle.def_sources.specs.Tables.{bound_by};
 ghost use Rattle.def_rules.specs.Imports.{bound_name, named_entries};
@@ -12,21 +13,16 @@ ghost use Rattle.def_rules.specs.State.{State, order};
 use def_bindings::Visibility;
 use def_globs::Globs;
 use def_items::put;
-use def_map::{
-    Asked, MapData, ResolvePathResult, SourceDatabase, Table, World, resolve_path_fp_with_macro,
-};
+use def_map::{Asked, MapData, PathAnswer, SourceDatabase, Table, World, resolve_path_in_short};
 use def_steps::{Import, lone_entry, named_entries};
 use std::alloc::{AllocError, Global};
 
 /// What the path of an import gives in this world.
-pub fn resolve_import<D: SourceDatabase>(
-    world: &World<'_, D, Table>,
-    import: &Import,
-) -> ResolvePathResult
-    ensures { result ≡ resolve (world_lent D.oracle bound_by world.now) for_import import.now.module_id import.now.written.now.path }
+pub fn resolve_import<D: SourceDatabase>(world: &World<'_, D, Table>, import: &Import) -> PathAnswer
+    ensures { whole result ≡ resolve (world_lent D.oracle bound_by world.now) for_import import.now.module_id import.now.written.now.path }
 {
     let path = &import.written.path;
-    resolve_path_fp_with_macro(world, Asked::for_import(), import.module_id, path)
+    resolve_path_in_short(world, Asked::for_import(), import.module_id, path)
 }
 
 /// Puts what a named import gives at its name, as visible as is said. On `Err` nothing but safety
@@ -37,12 +33,12 @@ pub fn record_named(
     table: &mut Globs<Table>,
     import: &Import,
     vis: Visibility,
-    answer: &ResolvePathResult,
+    answer: &PathAnswer,
 ) -> Result<(), AllocError>
     ensures { OnOk result ((s : State) →
         let before = with_parts s def_map.now table.old in
         let import = import_of import.now in
-        Updated import.scope (named_entries (order before) import vis answer.now (bound_name import.written))
+        Updated import.scope (named_entries (order before) import vis (whole answer.now) (bound_name import.written))
         before (with_parts s def_map.now table.new)) }
 {
     if let Some(entry) = lone_entry(&def_map.tree, import, vis, answer) {

@@ -1,7 +1,7 @@
 //! What the path of an import reads of the map in work.
 
 use def_bindings::{BindingTable, ImportOrExternCrate, Namespace};
-use def_ids::{Def, Edition, ModuleId};
+use def_ids::{Edition, ModuleId};
 use def_map::{Item, SourceDatabase, Table, World};
 use def_steps::Import;
 use item_tree::{Name, PathKind};
@@ -101,10 +101,7 @@ fn stays(found: &Option<Item>) -> bool {
 /// The module that was found, if it is one.
 fn module_in(found: &Option<Item>) -> Option<ModuleId> {
     match found {
-        Some(binding) => match binding.def {
-            Def::Module(next) => Some(next),
-            _ => None,
-        },
+        Some(binding) => binding.def.as_module(),
         None => None,
     }
 }

@@ -21,4 +21,5 @@ pub use Rattle.def_sources.specs.Asking
 pub use Rattle.def_paths.specs.Answers
 pub use Rattle.def_paths.specs.OuterMaps
 pub use Rattle.def_sources.specs.Modes
+pub use Rattle.def_paths.specs.PathAnswer
 pub use Rattle.def_paths.specs.Paths

@@ -19,7 +19,8 @@ pub use def_modules::{
 pub use item_scope::{ItemScope, Resolutions, UnnamedTraits};
 pub use macro_resolver::MacroResolver;
 pub use path_resolution::{
-    ResolvePaths, finished_map, resolve_module, resolve_path_fp_with_macro, resolve_visibility,
+    ResolvePaths, finished_map, resolve_module, resolve_path_fp_with_macro, resolve_path_in_short,
+    resolve_visibility,
 };
 pub use source_database::SourceDatabase;
 
@@ -29,8 +30,8 @@ pub use def_oracle::{
     CrateData, Dependency, DeriveCallQuery, EnumVariant, LangCrate, UnresolvedMacro,
 };
 pub use def_paths::{
-    Asked, BuiltinShadowMode, Item, MacroSubNs, PerNs, PrefixInfo, ReachedFixedPoint, ResolveMode,
-    ResolvePathResult, Table, World, is_map_among, public_item,
+    Asked, BuiltinShadowMode, Item, MacroSubNs, PathAnswer, PerNs, PrefixInfo, ReachedFixedPoint,
+    ResolveMode, ResolvePathResult, Table, World, is_map_among, public_item,
 };
 
 // The ids, visibilities and bindings that maps are made of.

@@ -6,6 +6,7 @@ ghost use Rattle.def_modules.specs.Locals.{local_view};
 ghost use Rattle.def_sources.specs.declared.asked.ResolveMode.TheVariants.{Other};
 ghost use Rattle.def_sources.specs.Asking.{map_with, world_lent};
 ghost use Rattle.def_sources.specs.Modes.{asked_by};
+ghost use Rattle.def_paths.specs.PathAnswer.{whole};
 ghost use Rattle.def_paths.specs.Paths.{for_module, module_found, resolve, resolve_visibility as visibility_of};
 ghost use Rattle.def_sources.specs.Sources.{world_of, finished_map as finished_map_of};
 
@@ -18,8 +19,8 @@ use def_locs::EnumLoc;
 use def_modules::{LocalDefMap, MapData};
 use def_oracle::EnumVariant;
 use def_paths::{
-    Asked, BuiltinShadowMode, MacroSubNs, PathDatabase, PerNs, ResolveMode, ResolvePathResult,
-    Table, World,
+    Asked, BuiltinShadowMode, MacroSubNs, PathAnswer, PathDatabase, PerNs, ResolveMode,
+    ResolvePathResult, Table, World,
 };
 use item_tree::{ModPath, Name, RawVisibility};
 
@@ -81,6 +82,26 @@ pub fn resolve_path_fp_with_macro<D: SourceDatabase, T: BindingTable<Vis = Visib
         session: world.session,
     };
     def_paths::resolve_path_fp_with_macro(&world, asked, original_module, path)
+}
+
+/// What a path means, asked from a module, in short where it can be.
+pub fn resolve_path_in_short<D: SourceDatabase, T: BindingTable<Vis = Visibility>>(
+    world: &World<'_, D, T>,
+    asked: Asked,
+    original_module: ModuleId,
+    path: &ModPath,
+) -> PathAnswer
+    ensures { whole result ≡ resolve (world_lent D.oracle T.content world.now) asked original_module path.now }
+{
+    let db = AskedByPaths { db: world.db };
+    let world = World {
+        map: world.map,
+        table: world.table,
+        local: world.local,
+        db: &db,
+        session: world.session,
+    };
+    def_paths::resolve_path_in_short(&world, asked, original_module, path)
 }
 
 /// The module that a path gives, with no segment left.

@@ -4,9 +4,13 @@ use Rattle.std.proofs.lemmas.List.{take_more, drop_all}
 use Rattle.std.specs.List.{list_any, find, cons_option}
 use Rattle.std.specs.Option.{option_map, option_or, unwrap_or}
 use Rattle.item_tree.specs.declared.mod_path.ModPath.{ModPath}
+use Rattle.item_tree.specs.declared.mod_path.PathKind.{PathKind}
+use Rattle.item_tree.specs.declared.mod_path.PathKind.TheVariants.{Plain}
 use Rattle.tree_ids.specs.declared.name.Name.{Name}
 use Rattle.def_ids.specs.declared.ids.ModuleId.{ModuleId}
-use Rattle.def_ids.specs.Ids.{is_same_map}
+use Rattle.def_ids.specs.Ids.{is_same_map, module_of_def}
+use Rattle.def_bindings.specs.NameBindings.{module_bound}
+use Rattle.std.proofs.lemmas.Option.{none-some, option_and_then_some, same_Some}
 use Rattle.def_paths.specs.declared.path_result.PrefixInfo.{PrefixInfo}
 use Rattle.def_paths.specs.declared.path_result.ReachedFixedPoint.{ReachedFixedPoint}
 use Rattle.def_paths.specs.declared.path_result.ReachedFixedPoint.TheVariants.{Yes, No}
@@ -15,13 +19,29 @@ use Rattle.def_sources.specs.declared.per_ns.MacroSubNs.{MacroSubNs}
 use Rattle.def_sources.specs.declared.per_ns.PerNs.{PerNs}
 use Rattle.def_paths.specs.Answers.{ended_at, missing, reached, walk, step, is_elsewhere, answer_after, answer_from, leading, is_reached, joined, first_resolved}
 use Rattle.def_modules.specs.MapView.{MapView}
-use Rattle.def_ids.specs.declared.ids.Def.TheVariants.{Module}
+use Rattle.def_ids.specs.declared.ids.Def.{Def}
+use Rattle.def_ids.specs.declared.ids.Def.TheVariants.{Module, Function, Struct, Union, Enum, Variant, Const, Static, Trait, TypeAlias, Builtin, Macro}
 use Rattle.def_sources.specs.Items.{is_fitting, module_item}
-use Rattle.def_paths.specs.OuterMaps.{is_alone, answer_outside, answers_outside}
+use Rattle.def_paths.specs.OuterMaps.{is_alone, is_plain, answer_in, answer_outside, answers_outside}
 use Rattle.def_sources.specs.PerNs.{Item, in_types, otherwise, per_namespace, is_nothing}
 use Rattle.def_bindings.specs.declared.bindings.Namespace.TheVariants.{Types}
-use Rattle.def_sources.specs.Sources.{Question, scope_source, first_found, found_in, by_sources, relative_sources}
+use Rattle.def_sources.specs.Sources.{Question, scope_source, beginning, first_found, found_in, by_sources, relative_sources}
 use Rattle.def_sources.proofs.SourcesLemmas.{option_or-none, option_or-or, per_namespace-equal}
+
+-- a definition that gives a module is that module
+pub is-module : (d : Def) (m : ModuleId) → module_of_def d ≡ Some m → d ≡ Module m
+is-module (Module n) m e = ap Module (same_Some n m e)
+is-module (Function f) m e = absurd (none-some m e)
+is-module (Struct f) m e = absurd (none-some m e)
+is-module (Union f) m e = absurd (none-some m e)
+is-module (Enum f) m e = absurd (none-some m e)
+is-module (Variant f) m e = absurd (none-some m e)
+is-module (Const f) m e = absurd (none-some m e)
+is-module (Static f) m e = absurd (none-some m e)
+is-module (Trait f) m e = absurd (none-some m e)
+is-module (TypeAlias f) m e = absurd (none-some m e)
+is-module (Builtin f) m e = absurd (none-some m e)
+is-module (Macro f) m e = absurd (none-some m e)
 
 -- what later segments mean depends on types alone
 walk-types : (q : Question) (own : MapView) (crossed : Bool) (a b : PerNs) (i : ℕ) (names : List Name)
@@ -63,17 +83,18 @@ module _ (q : Question) (own : MapView) (whole : ResolvePathResult) (segments : 
       ∙ module-step q own m here (module_item m) refl (k + i) (get_or segments i d) []
 
   -- one with others behind it
-  pub module-next : i + 1 < length segments → (found : Item) (next : ModuleId) → scope_source q own m (get_or segments i d) Types ≡ Some found → found.def ≡ Module next
+  pub module-next : i + 1 < length segments → (next : ModuleId) → module_bound (scope_source q own m (get_or segments i d) Types) ≡ Some next
       → (from : Item) → from.def ≡ Module next → whole ≡ walk q own false (in_types from) (k + (i + 1)) (drop (i + 1) segments)
-  module-next more found next there is from stands =
+  module-next more next bound from stands =
+      option_and_then_some (λ (b : Item). module_of_def b.def) (scope_source q own m (get_or segments i d) Types) next bound (λ found there is.
       let rest = drop (i + 1) segments in
       let left : 0 < length rest = simp length-drop (omega (arith, more)) in
       let number : suc (k + i) ≡ k + (i + 1) = omega arith in
       w (module_item m) refl
       ∙ ap (walk q own false (in_types (module_item m)) (k + i)) split
       ∙ module-step q own m here (module_item m) refl (k + i) (get_or segments i d) rest
-      ∙ of-module q own (per_namespace (scope_source q own m (get_or segments i d))) (in_types from) found from next (suc (k + i)) rest left there refl is stands
-      ∙ ap (λ j. walk q own false (in_types from) j rest) number
+      ∙ of-module q own (per_namespace (scope_source q own m (get_or segments i d))) (in_types from) found from next (suc (k + i)) rest left there refl (is-module found.def next is) stands
+      ∙ ap (λ j. walk q own false (in_types from) j rest) number)
 
 -- a segment with others behind it, by what the definition before it has of it in types
 module _ (q : Question) (own : MapView) (crossed : Bool) (item : Item) (i : ℕ) (names rest : List Name) (name : Name) (stepped : Option (Option Item)) (whole : ResolvePathResult)
@@ -154,6 +175,17 @@ plain-longer q own place asked [] names d types result same more first after = l
 plain-longer q own place asked (name ∷ []) names d types result same more first after = let none : ⊥ = omega arith in absurd none
 plain-longer q own place asked (name ∷ other ∷ rest) names d types result same more first after =
     rw (← same) (after (found_in (is_fitting q.kind_of None) (relative_sources q own place false) name) (sym first))
+
+-- what a path means in one map, by its word and its segments
+abbrev answer_by : Question → MapView → ModuleId → PathKind → List Name → ResolvePathResult
+answer_by q own place kind names =
+    answer_from q own (is_fitting q.kind_of (if is_plain kind then (if is_alone names then q.asked.sub else None) else None)) (beginning q own place (is_alone names) kind) names
+
+-- a plain path in one map, by its segments
+pub plain-in : (q : Question) (own : MapView) (place : ModuleId) (path : ModPath) (segments : List Name) (a : ResolvePathResult) → path.kind ≡ Plain → segments ≡ path.segments
+    → answer_from q own (is_fitting q.kind_of (if is_alone segments then q.asked.sub else None)) (by_sources (relative_sources q own place (is_alone segments))) segments ≡ a
+    → answer_in q place path own ≡ a
+plain-in q own place path segments a k e h = ap (λ kind. answer_by q own place kind path.segments) k ∙ ap (answer_by q own place Plain) (sym e) ∙ h
 
 abbrev pub answer_with : PerNs → Option ℕ → ReachedFixedPoint → PrefixInfo → ResolvePathResult
 answer_with found index fixed info = record { resolved_def = found; segment_index = index; reached_fixedpoint = fixed; prefix_info = info }

@@ -1,3 +1,4 @@
 pub mod Answers
 pub mod OuterMaps
+pub mod PathAnswer
 pub mod Paths

@@ -1,8 +1,8 @@
 //! What paths answer: a step for each segment after the first, and the answers of several maps as
 //! one.
-ghost use Rattle.std.specs.Prelude.{IfSome, ◌≡◌, ◌≤◌, ◌<◌, ◌||◌, ◌∷◌, ◌++◌, [], None, false, length, drop, option_map, if◌then◌else◌};
+ghost use Rattle.std.specs.Prelude.{IfSome, ◌≡◌, ◌≤◌, ◌<◌, ◌&&◌, ◌||◌, ◌∷◌, ◌++◌, [], None, false, length, drop, option_map, if◌then◌else◌};
 ghost use Rattle.std.specs.List.{list_any};
-ghost use Rattle.def_ids.specs.Ids.{is_same_map};
+ghost use Rattle.def_ids.specs.Ids.{is_block_root, is_same_map};
 ghost use Rattle.def_paths.specs.Answers.{missing as missing_after, reached as reached_with};
 ghost use Rattle.def_paths.specs.Answers.{variants_of, variant_named as first_named, variant_found as found_of};
 ghost use Rattle.def_paths.specs.Answers.{step as step_of, is_elsewhere as elsewhere, walk as walk_of};
@@ -13,11 +13,12 @@ ghost use Rattle.def_sources.specs.Items.{is_fitting};
 ghost use Rattle.def_paths.specs.OuterMaps.{is_alone as stands_alone, is_plain as has_no_word};
 ghost use Rattle.def_paths.specs.OuterMaps.{answer_in as answer_in_map, answer_outside as answer_outside_of};
 ghost use Rattle.def_paths.specs.OuterMaps.{answers_outside, answer_of};
+ghost use Rattle.def_paths.specs.PathAnswer.{whole};
 ghost use Rattle.def_sources.specs.PerNs.{Item, in_types, is_nothing, per_namespace};
 ghost use Rattle.def_ids.specs.declared.ids.Def.TheVariants.{Module};
 ghost use Rattle.def_sources.specs.Sources.{scope_source, at_module, by_sources, absolute_sources, relative_sources};
 
-use crate::path_result::{PrefixInfo, ReachedFixedPoint, ResolvePathResult};
+use crate::path_result::{PathAnswer, PrefixInfo, ReachedFixedPoint, ResolvePathResult};
 use def_bindings::{BindingTable, Visibility};
 use def_ids::{Def, EnumId, ModuleId};
 use def_interner::LocationId;
@@ -25,7 +26,7 @@ use def_modules::MapData;
 use def_oracle::EnumVariant;
 use def_sources::{
     Asking, Item, PathDatabase, PerNs, Segment, World, absolute, absolute_type, public_item,
-    relative, relative_type, scope, scope_type,
+    relative, relative_type, scope, scope_lone, scope_module, scope_type,
 };
 use item_tree::{ModPath, Name, PathKind};
 
@@ -258,11 +259,7 @@ fn scope_reached<D: PathDatabase, T: BindingTable<Vis = Visibility>>(
         if is_elsewhere(asking.world.map, Def::Module(place)) {
             return None;
         }
-        let item = scope_type(asking, place, segments[i])?;
-        let Def::Module(next) = item.def else {
-            return None;
-        };
-        place = next;
+        place = scope_module(asking, place, segments[i])?;
     }
     if is_elsewhere(asking.world.map, Def::Module(place)) {
         return None;
@@ -272,7 +269,7 @@ fn scope_reached<D: PathDatabase, T: BindingTable<Vis = Visibility>>(
 
 /// The segments from `begin` on, after a definition. One with others behind it is looked up in types
 /// alone.
-fn walk_on<D: PathDatabase, T: BindingTable<Vis = Visibility>>(
+fn walk<D: PathDatabase, T: BindingTable<Vis = Visibility>>(
     asking: &Asking<'_, D, T>,
     first: Item,
     begin: usize,
@@ -300,26 +297,6 @@ fn walk_on<D: PathDatabase, T: BindingTable<Vis = Visibility>>(
         }
     }
     reached(PerNs::of_type(item), None, crossed)
-}
-
-/// The segments from `begin` on, after a definition.
-fn walk<D: PathDatabase, T: BindingTable<Vis = Visibility>>(
-    asking: &Asking<'_, D, T>,
-    first: Item,
-    begin: usize,
-    segments: &[Name],
-) -> ResolvePathResult
-    requires { begin ≤ length segments.now }
-    ensures { let q = question_in D.oracle asking.now in
-        let own = map_in T.content asking.now in
-        result ≡ walk_of q own false (in_types first) begin (drop begin segments.now) }
-{
-    if let Def::Module(place) = first.def {
-        if let Some((scope_of, name)) = scope_reached(asking, place, &segments[begin..]) {
-            return reached(scope(asking, scope_of, name), None, false);
-        }
-    }
-    walk_on(asking, first, begin, segments)
 }
 
 /// A path from a module on, if that is there.
@@ -455,6 +432,89 @@ fn answer_in<D: PathDatabase, T: BindingTable<Vis = Visibility>>(
     }
 }
 
+/// Where the last segment of a plain path is looked up, and that segment, if the others lead there
+/// through modules of this crate.
+fn plain_scope<D: PathDatabase, T: BindingTable<Vis = Visibility>>(
+    asking: &Asking<'_, D, T>,
+    place: ModuleId,
+    segments: &[Name],
+) -> Option<(ModuleId, Name)>
+    ensures { let q = question_in D.oracle asking.now in
+        let own = map_in T.content asking.now in
+        let alone = stands_alone segments.now in
+        let keep = is_fitting q.kind_of (if alone then asking.now.asked.sub else None) in
+        IfSome result (λ there. answer_from q own keep (by_sources (relative_sources q own place alone)) segments.now
+        ≡ reached_with (per_namespace (scope_source q own there.0 there.1)) None false) }
+{
+    match segments {
+        [] | [_] => None,
+        [name, ..] => {
+            let item = relative_type(asking, place, *name)?;
+            let first = item.def.as_module()?;
+            scope_reached(asking, first, &segments[1..])
+        }
+    }
+}
+
+/// Where a path's last segment is looked up, and that segment, if the others lead there through
+/// modules of this crate.
+fn scope_of<D: PathDatabase, T: BindingTable<Vis = Visibility>>(
+    asking: &Asking<'_, D, T>,
+    place: ModuleId,
+    path: &ModPath,
+) -> Option<(ModuleId, Name)>
+    ensures { let q = question_in D.oracle asking.now in
+        let own = map_in T.content asking.now in
+        IfSome result (λ there. answer_in_map q place path.now own
+        ≡ reached_with (per_namespace (scope_source q own there.0 there.1)) None false) }
+{
+    let segments = path.segments.as_slice();
+    match path.kind {
+        PathKind::Crate => {
+            let first = ModuleId::crate_root(asking.world.map.tree.map.krate);
+            scope_reached(asking, first, segments)
+        }
+        PathKind::DollarCrate(krate) => {
+            scope_reached(asking, ModuleId::crate_root(krate), segments)
+        }
+        PathKind::Super(n) => match asking.world.map.tree.ancestor(place, n as usize) {
+            Some(ancestor) => scope_reached(asking, ancestor, segments),
+            None => None,
+        },
+        PathKind::Abs => None,
+        PathKind::Plain => plain_scope(asking, place, segments),
+    }
+}
+
+/// What a name of a module means that a path leads to.
+fn bound_answer<D: PathDatabase, T: BindingTable<Vis = Visibility>>(
+    asking: &Asking<'_, D, T>,
+    place: ModuleId,
+    name: Name,
+) -> ResolvePathResult
+    ensures { let q = question_in D.oracle asking.now in
+        let own = map_in T.content asking.now in
+        result ≡ reached_with (per_namespace (scope_source q own place name)) None false }
+{
+    reached(scope(asking, place, name), None, false)
+}
+
+/// What a path means in the map that is asked, which most paths of it do not leave.
+fn answer_here<D: PathDatabase, T: BindingTable<Vis = Visibility>>(
+    asking: &Asking<'_, D, T>,
+    place: ModuleId,
+    path: &ModPath,
+) -> ResolvePathResult
+    ensures { let q = question_in D.oracle asking.now in
+        let own = map_in T.content asking.now in
+        result ≡ answer_in_map q place path.now own }
+{
+    match scope_of(asking, place, path) {
+        Some((module, name)) => bound_answer(asking, module, name),
+        None => answer_in(asking, place, path),
+    }
+}
+
 /// What a path means in the map of a module, asked from there, if that map is there.
 fn answer_outside<D: PathDatabase, T>(
     asking: &Asking<'_, D, T>,
@@ -522,6 +582,13 @@ fn with_outside<D: PathDatabase, T>(
     answer
 }
 
+/// Whether a path is looked up in the maps around a block too.
+fn is_asked_outside(place: ModuleId, path: &ModPath) -> bool
+    ensures { result ≡ (has_no_word path.now.kind && is_block_root place) }
+{
+    is_plain(path.kind) && place.is_block_root()
+}
+
 /// What a path means: in the map that is asked, and from a block's root in those around it too.
 pub(crate) fn resolve<D: PathDatabase, T: BindingTable<Vis = Visibility>>(
     asking: &Asking<'_, D, T>,
@@ -532,9 +599,74 @@ pub(crate) fn resolve<D: PathDatabase, T: BindingTable<Vis = Visibility>>(
         let own = map_in T.content asking.now in
         result ≡ answer_of q own place path.now }
 {
-    if !is_plain(path.kind) || !place.is_block_root() {
-        return answer_in(asking, place, path);
+    let here = answer_here(asking, place, path);
+    if !is_asked_outside(place, path) {
+        return here;
     }
     let containing = asking.world.map.tree.containing.as_slice();
-    with_outside(asking, path, answer_in(asking, place, path), containing)
+    with_outside(asking, path, here, containing)
+}
+
+/// What a name of a module means that a path leads to, as a whole answer.
+#[inline(never)]
+fn whole_bound<D: PathDatabase, T: BindingTable<Vis = Visibility>>(
+    asking: &Asking<'_, D, T>,
+    place: ModuleId,
+    name: Name,
+) -> PathAnswer
+    ensures { let q = question_in D.oracle asking.now in
+        let own = map_in T.content asking.now in
+        whole result ≡ reached_with (per_namespace (scope_source q own place name)) None false }
+{
+    PathAnswer::Whole(bound_answer(asking, place, name))
+}
+
+/// What a path means, as a whole answer.
+#[inline(never)]
+fn whole_answer<D: PathDatabase, T: BindingTable<Vis = Visibility>>(
+    asking: &Asking<'_, D, T>,
+    place: ModuleId,
+    path: &ModPath,
+) -> PathAnswer
+    ensures { let q = question_in D.oracle asking.now in
+        let own = map_in T.content asking.now in
+        whole result ≡ answer_of q own place path.now }
+{
+    PathAnswer::Whole(resolve(asking, place, path))
+}
+
+/// What a path means in the map that is asked, as a whole answer.
+#[inline(never)]
+fn whole_answer_in<D: PathDatabase, T: BindingTable<Vis = Visibility>>(
+    asking: &Asking<'_, D, T>,
+    place: ModuleId,
+    path: &ModPath,
+) -> PathAnswer
+    ensures { let q = question_in D.oracle asking.now in
+        let own = map_in T.content asking.now in
+        whole result ≡ answer_in_map q place path.now own }
+{
+    PathAnswer::Whole(answer_in(asking, place, path))
+}
+
+/// What a path means, in short where it can be. Whole answers are made apart, since few are asked for.
+pub(crate) fn resolve_in_short<D: PathDatabase, T: BindingTable<Vis = Visibility>>(
+    asking: &Asking<'_, D, T>,
+    place: ModuleId,
+    path: &ModPath,
+) -> PathAnswer
+    ensures { let q = question_in D.oracle asking.now in
+        let own = map_in T.content asking.now in
+        whole result ≡ answer_of q own place path.now }
+{
+    if is_asked_outside(place, path) {
+        return whole_answer(asking, place, path);
+    }
+    let Some((module, name)) = scope_of(asking, place, path) else {
+        return whole_answer_in(asking, place, path);
+    };
+    match scope_lone(asking, module, name) {
+        Some((ns, item)) => PathAnswer::Lone(ns, item),
+        None => whole_bound(asking, module, name),
+    }
 }

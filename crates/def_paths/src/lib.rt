@@ -10,5 +10,7 @@ pub use def_sources::{
     Asked, BuiltinShadowMode, Item, MacroSubNs, PathDatabase, PerNs, ResolveMode, Table, World,
     bound, public_item,
 };
-pub use path_resolution::{resolve_module, resolve_path_fp_with_macro, resolve_visibility};
-pub use path_result::{PrefixInfo, ReachedFixedPoint, ResolvePathResult};
+pub use path_resolution::{
+    resolve_module, resolve_path_fp_with_macro, resolve_path_in_short, resolve_visibility,
+};
+pub use path_result::{PathAnswer, PrefixInfo, ReachedFixedPoint, ResolvePathResult};

@@ -2,10 +2,11 @@
 ghost use Rattle.std.specs.Prelude.{◌≡◌};
 ghost use Rattle.def_sources.specs.Asking.{world_lent};
 ghost use Rattle.def_paths.specs.Paths.{resolve as meaning_of, resolve_visibility as visibility_of};
+ghost use Rattle.def_paths.specs.PathAnswer.{whole};
 ghost use Rattle.def_paths.specs.Paths.{for_module, module_found, module_reached as module_reached_by};
 
-use crate::answers::resolve;
-use crate::path_result::ResolvePathResult;
+use crate::answers::{resolve, resolve_in_short};
+use crate::path_result::{PathAnswer, ResolvePathResult};
 use def_bindings::{BindingTable, Visibility};
 use def_ids::{Def, ModuleId};
 use def_sources::{Asked, Asking, PathDatabase, PerNs, World};
@@ -25,6 +26,22 @@ pub fn resolve_path_fp_with_macro<D: PathDatabase, T: BindingTable<Vis = Visibil
         asked,
     };
     resolve(&asking, original_module, path)
+}
+
+/// What a path means, asked from a module, in short where it can be.
+pub fn resolve_path_in_short<D: PathDatabase, T: BindingTable<Vis = Visibility>>(
+    world: &World<'_, D, T>,
+    asked: Asked,
+    original_module: ModuleId,
+    path: &ModPath,
+) -> PathAnswer
+    ensures { whole result ≡ meaning_of (world_lent D.oracle T.content world.now) asked original_module path.now }
+{
+    let asking = Asking {
+        world: *world,
+        asked,
+    };
+    resolve_in_short(&asking, original_module, path)
 }
 
 /// The module that a path gives, with no segment left.

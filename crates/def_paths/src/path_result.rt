@@ -1,6 +1,7 @@
 //! What a path means.
 
-use def_sources::PerNs;
+use def_bindings::Namespace;
+use def_sources::{Item, PerNs};
 
 /// Whether the beginning of a path, and each prefix that a later segment needs, was there.
 #[derive(Clone, Copy, PartialEq, Eq, Debug)]
@@ -24,4 +25,12 @@ pub struct ResolvePathResult {
     pub segment_index: Option<usize>,
     pub reached_fixedpoint: ReachedFixedPoint,
     pub prefix_info: PrefixInfo,
+}
+
+/// What a path means, in short where it can be: most paths lead through modules of their crate to one
+/// item in one namespace, and then nothing else is kept.
+#[derive(Clone, Copy)]
+pub enum PathAnswer {
+    Lone(Namespace, Item),
+    Whole(ResolvePathResult),
 }

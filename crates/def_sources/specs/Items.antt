@@ -18,6 +18,7 @@ use Rattle.def_sources.specs.declared.per_ns.MacroSubNs.{MacroSubNs}
 use Rattle.def_sources.specs.declared.per_ns.MacroSubNs.TheVariants as sub
 use Rattle.def_modules.specs.MapView.{ExternCrateEntry}
 use Rattle.def_sources.specs.PerNs.{Item}
+pub use Rattle.def_ids.specs.Ids.{module_of_def}
 
 -- a public declaration
 abbrev pub public_item : Def → Item
@@ -39,11 +40,6 @@ is_module_def _ = false
 -- whether an item is a module
 abbrev pub is_module_item : Item → Bool
 is_module_item item = is_module_def item.def
-
--- the module that a definition is
-abbrev pub module_of_def : Def → Option ModuleId
-module_of_def (Module m) = Some m
-module_of_def _ = None
 
 -- the macro that a definition is
 abbrev pub macro_of_def : Def → Option MacroId

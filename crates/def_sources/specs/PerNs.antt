@@ -23,6 +23,12 @@ nothing = record { types = None; values = None; macros = None }
 abbrev pub in_types : Item → PerNs
 in_types item = record { types = Some item; values = None; macros = None }
 
+-- one item in one namespace, and nothing in the others
+abbrev pub alone : Namespace → Item → PerNs
+alone Types item = record { types = Some item; values = None; macros = None }
+alone Values item = record { types = None; values = Some item; macros = None }
+alone Macros item = record { types = None; values = None; macros = Some item }
+
 -- in each namespace the first, and else the second
 abbrev pub otherwise : PerNs → PerNs → PerNs
 otherwise a b = record { types = option_or a.types b.types; values = option_or a.values b.values; macros = option_or a.macros b.macros }

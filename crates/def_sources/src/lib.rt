@@ -13,6 +13,8 @@ pub use asked::{Asked, BuiltinShadowMode, ResolveMode};
 pub use path_database::PathDatabase;
 pub use per_ns::{Item, MacroSubNs, PerNs, public_item};
 pub use prefixes::{absolute_type, relative_type};
-pub use sources::{Segment, absolute, bound, relative, scope, scope_type};
+pub use sources::{
+    Segment, absolute, bound, relative, scope, scope_lone, scope_module, scope_type,
+};
 pub use table::Table;
 pub use world::{Asking, World};

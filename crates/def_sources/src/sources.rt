@@ -1,10 +1,11 @@
 //! Where names come from, and what a path of one segment means. A source is asked only for what
 //! those before it have not.
-ghost use Rattle.std.specs.Prelude.{◌≡◌, ◌++◌, option_and_then, true};
+ghost use Rattle.std.specs.Prelude.{◌≡◌, ◌++◌, IfSome, option_and_then, true};
 ghost use Rattle.def_bindings.specs.declared.bindings.Namespace.TheVariants.{Types};
+ghost use Rattle.def_bindings.specs.NameBindings.{module_bound};
 ghost use Rattle.def_sources.specs.Items.{is_fitting, is_2015 as is_edition_2015};
 ghost use Rattle.def_sources.specs.Asking.{question_in, map_in};
-ghost use Rattle.def_sources.specs.PerNs.{per_namespace, kept_in};
+ghost use Rattle.def_sources.specs.PerNs.{alone, per_namespace, kept_in};
 ghost use Rattle.def_sources.specs.Sources.{map_of_id};
 ghost use Rattle.def_sources.specs.Sources.{found_in, with_source};
 ghost use Rattle.def_sources.specs.Sources.{scope_source, textual_source, builtin_source, extern_source};
@@ -68,6 +69,23 @@ pub fn scope<D: PathDatabase, T: BindingTable<Vis = Visibility>>(
     }
 }
 
+/// What a module's scope binds of a name that stands in one namespace alone, and that namespace. `None`
+/// for other names, in other maps, and where the table says so.
+pub fn scope_lone<D: PathDatabase, T: BindingTable<Vis = Visibility>>(
+    asking: &Asking<'_, D, T>,
+    place: ModuleId,
+    name: Name,
+) -> Option<(Namespace, Item)>
+    ensures { let q = question_in D.oracle asking.now in
+        let own = map_in T.content asking.now in
+        IfSome result (λ lone. per_namespace (scope_source q own place name) ≡ alone lone.0 lone.1) }
+{
+    if place.map != asking.world.map.tree.map {
+        return None;
+    }
+    asking.world.table.lone(place, name)
+}
+
 /// What a module's scope binds in types, also in another map.
 pub fn scope_type<D: PathDatabase, T: BindingTable<Vis = Visibility>>(
     asking: &Asking<'_, D, T>,
@@ -83,6 +101,25 @@ pub fn scope_type<D: PathDatabase, T: BindingTable<Vis = Visibility>>(
     }
     match asking.world.db.finished_map(place.map) {
         Some((_, table)) => table.binding(place, name, Namespace::Types),
+        None => None,
+    }
+}
+
+/// The module that a module's scope binds in types, also in another map.
+pub fn scope_module<D: PathDatabase, T: BindingTable<Vis = Visibility>>(
+    asking: &Asking<'_, D, T>,
+    place: ModuleId,
+    name: Name,
+) -> Option<ModuleId>
+    ensures { let q = question_in D.oracle asking.now in
+        let own = map_in T.content asking.now in
+        result ≡ module_bound (scope_source q own place name Types) }
+{
+    if place.map == asking.world.map.tree.map {
+        return asking.world.table.module_at(place, name);
+    }
+    match asking.world.db.finished_map(place.map) {
+        Some((_, table)) => table.module_at(place, name),
         None => None,
     }
 }

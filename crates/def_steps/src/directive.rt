@@ -1,15 +1,16 @@
 //! Imports, and the namespaces that they were recorded from.
-ghost use Rattle.std.specs.Prelude.{◌≡◌, ◌&&◌, true, length, nat_lt, option_map};
+ghost use Rattle.std.specs.Prelude.{◌≡◌, ◌&&◌, true, length, nat_lt, option_copied, option_map};
 ghost use Rattle.def_rules.specs.Imports as imports;
 ghost use Rattle.def_rules.specs.Recording as recording;
 ghost use Rattle.def_rules.specs.Items as items;
 ghost use Rattle.def_rules.specs.ExternCrates as crate_rules;
+ghost use Rattle.def_map.specs.PathAnswer.{whole};
 ghost use Rattle.def_steps.specs.Shown.{directives_kept, import_of, kept_of, ns_set};
-ghost use Rattle.def_rules.specs.Globs.{is_public};
 
+use crate::answer::{found_in, is_foreign, is_missing, kept_in};
 use def_bindings::{ImportOrExternCrate, Namespace, Visibility};
 use def_ids::{Def, GlobId, ImportId, ModuleId, UseId};
-use def_map::{Item, PerNs, ReachedFixedPoint, ResolvePathResult};
+use def_map::{Item, PathAnswer};
 use item_tree::{
     FileAstId, ImportAlias, ImportKind, InFile, ItemNode, ModPath, Name, PathKind, RawVisibility,
     UseImport, sym,
@@ -54,13 +55,13 @@ impl NamespaceSet {
     };
 
     /// The namespaces in which something was found.
-    pub fn given(found: &PerNs) -> NamespaceSet
-        ensures { ns_set result ≡ imports.given_set found.now }
+    pub fn given(answer: &PathAnswer) -> NamespaceSet
+        ensures { ns_set result ≡ imports.given_set (whole answer.now).resolved_def }
     {
         NamespaceSet {
-            types: found.types.is_some(),
-            values: found.values.is_some(),
-            macros: found.macros.is_some(),
+            types: found_in(answer, Namespace::Types).is_some(),
+            values: found_in(answer, Namespace::Values).is_some(),
+            macros: found_in(answer, Namespace::Macros).is_some(),
         }
     }
 
@@ -99,35 +100,25 @@ impl NamespaceSet {
     }
 }
 
-/// Whether a path gives nothing for an import: a prefix or everything is missing, or a segment is
-/// left.
-fn is_missing(answer: &ResolvePathResult) -> bool
-    ensures { result ≡ imports.is_missing answer.now }
-{
-    answer.reached_fixedpoint == ReachedFixedPoint::No
-        || answer.resolved_def.is_none()
-        || answer.segment_index.is_some()
-}
-
 /// What an import that is recorded stays indeterminate with, after what it had recorded. It is
 /// resolved where another crate was entered, or where it has all three namespaces.
-fn kept_after(recorded: NamespaceSet, answer: &ResolvePathResult) -> Option<NamespaceSet>
-    ensures { kept_of result ≡ imports.kept_after (ns_set recorded) answer.now }
+fn kept_after(recorded: NamespaceSet, answer: &PathAnswer) -> Option<NamespaceSet>
+    ensures { kept_of result ≡ imports.kept_after (ns_set recorded) (whole answer.now) }
 {
-    if answer.prefix_info.differing_crate {
+    if is_foreign(answer) {
         return None;
     }
-    let all = recorded.union(NamespaceSet::given(&answer.resolved_def));
+    let all = recorded.union(NamespaceSet::given(answer));
     if all.is_full() { None } else { Some(all) }
 }
 
 /// What stays of an import that is recorded with this answer, if it does not become resolved.
 pub fn still_indeterminate<'a>(
     directive: ImportDirective<'a>,
-    answer: &ResolvePathResult,
+    answer: &PathAnswer,
 ) -> Option<ImportDirective<'a>>
     ensures { directives_kept result
-        ≡ recording.kept_list (import_of directive.entry.import) (imports.kept_after (ns_set directive.entry.recorded) answer.now) }
+        ≡ recording.kept_list (import_of directive.entry.import) (imports.kept_after (ns_set directive.entry.recorded) (whole answer.now)) }
 {
     match kept_after(directive.recorded, answer) {
         Some(recorded) => Some(ImportDirective {
@@ -140,44 +131,22 @@ pub fn still_indeterminate<'a>(
 
 /// Whether an import that was recorded from these namespaces is to be recorded, for the first time
 /// or once more.
-pub fn is_ready(recorded: NamespaceSet, answer: &ResolvePathResult) -> bool
-    ensures { result ≡ imports.is_ready (ns_set recorded) answer.now }
+pub fn is_ready(recorded: NamespaceSet, answer: &PathAnswer) -> bool
+    ensures { result ≡ imports.is_ready (ns_set recorded) (whole answer.now) }
 {
     !is_missing(answer)
-        && (answer.prefix_info.differing_crate
-            || recorded.is_extended_by(NamespaceSet::given(&answer.resolved_def)))
+        && (is_foreign(answer) || recorded.is_extended_by(NamespaceSet::given(answer)))
 }
 
-/// What is kept of an answer in one namespace: of another crate what is public.
-pub fn kept_item(answer: &ResolvePathResult, item: Option<Item>) -> Option<Item>
-    ensures { result ≡ imports.kept_item answer.now item }
+/// How visible what is taken in types of an import's answer is, before the import lessens it. An
+/// extern crate that is imported by its name alone is as visible as the import.
+pub fn reexported_vis(path: &ModPath, vis: Visibility, item: &Item) -> Visibility
+    ensures { result ≡ (imports.reexported path.now vis item.now).vis }
 {
-    match item {
-        Some(found) => {
-            if !answer.prefix_info.differing_crate || is_public(found.vis) {
-                Some(found)
-            } else {
-                None
-            }
-        }
-        None => None,
-    }
-}
-
-/// What is taken in types of an import's answer, once what is not to be kept is left out. An extern
-/// crate that is imported by its name alone is as visible as the import.
-pub fn reexported(path: &ModPath, vis: Visibility, item: Option<Item>) -> Option<Item>
-    ensures { result ≡ option_map (imports.reexported path.now vis) item }
-{
-    match item {
-        Some(found) => {
-            if is_by_crate(found.import) && is_lone_name(path) {
-                Some(Item { vis, ..found })
-            } else {
-                Some(found)
-            }
-        }
-        None => None,
+    if is_by_crate(item.import) && is_lone_name(path) {
+        vis
+    } else {
+        item.vis
     }
 }
 
@@ -211,8 +180,8 @@ fn is_plain_or_self(kind: PathKind) -> bool
 
 /// The module that an import makes the prelude: that which the glob of an item with
 /// `#[prelude_import]` leads to.
-pub fn new_prelude(import: &Import, answer: &ResolvePathResult) -> Option<ModuleId>
-    ensures { result ≡ recording.new_prelude (import_of import.now) answer.now }
+pub fn new_prelude(import: &Import, answer: &PathAnswer) -> Option<ModuleId>
+    ensures { result ≡ recording.new_prelude (import_of import.now) (whole answer.now) }
 {
     match import.written.kind {
         ImportKind::Plain | ImportKind::TypeOnly => None,
@@ -220,22 +189,16 @@ pub fn new_prelude(import: &Import, answer: &ResolvePathResult) -> Option<Module
             if !import.is_prelude {
                 return None;
             }
-            module_of(kept_item(answer, answer.resolved_def.types))
+            module_of(kept_in(answer, Namespace::Types))
         }
     }
 }
 
 /// The module that was found, if it is one.
-fn module_of(item: Option<Item>) -> Option<ModuleId>
-    ensures { result ≡ recording.module_if true (option_map (λ i. i.def) item) }
+fn module_of(item: Option<&Item>) -> Option<ModuleId>
+    ensures { result ≡ recording.module_if true (option_map (λ i. i.def) (option_copied item.entry)) }
 {
-    match item {
-        Some(found) => match found.def {
-            Def::Module(source) => Some(source),
-            _ => None,
-        },
-        None => None,
-    }
+    item?.def.as_module()
 }
 
 /// Whether an item has `#[prelude_import]`.
@@ -245,16 +208,6 @@ pub fn is_prelude_import(node: &ItemNode) -> bool
     match &node.attrs {
         Some(attrs) => attrs.attrs().by_key(sym::PRELUDE_IMPORT).exists(),
         None => false,
-    }
-}
-
-/// Whether something is public.
-pub fn is_public(vis: Visibility) -> bool
-    ensures { result ≡ is_public vis }
-{
-    match vis {
-        Visibility::Public => true,
-        _ => false,
     }
 }
 

@@ -8,7 +8,7 @@ ghost use Rattle.def_map.specs.PerNs.{kept};
 ghost use Rattle.def_sources.specs.Tables.{bound_by};
 ghost use Rattle.def_rules.specs.Globs.{brought, glob_sees, name_entries, scope_entries, unnamed_entry, variant_entries};
 
-use crate::directive::is_public;
+use crate::answer::is_public;
 use def_bindings::{
     BindingTable, EdgeTo, Entry, ImportOrExternCrate, ModuleTree, Namespace, VisOrder, Visibility,
     lesser_or_import,

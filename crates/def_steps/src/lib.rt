@@ -3,6 +3,7 @@
 //! end.
 #![tactic(auto)]
 
+mod answer;
 mod directive;
 mod glob_scope;
 mod import_lists;
@@ -10,9 +11,10 @@ mod left_imports;
 mod named;
 mod targets;
 
+pub use answer::{is_public, kept_in};
 pub use directive::{
-    Import, ImportDirective, NamespaceSet, crate_name, is_prelude_import, is_public, is_ready,
-    kept_item, new_prelude, still_indeterminate,
+    Import, ImportDirective, NamespaceSet, crate_name, is_prelude_import, is_ready, new_prelude,
+    still_indeterminate,
 };
 pub use glob_scope::{GlobScope, variants_entries};
 pub use import_lists::{ImportList, WrittenUse, drop_left, next_tried, queue_imports, retire};

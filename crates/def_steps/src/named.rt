@@ -1,20 +1,25 @@
 //! What a named import brings.
-ghost use Rattle.std.specs.Prelude.{◌≡◌, ◌++◌, ◌∷◌, [], IfOk, IfSome, OnOk, option_to_list};
+ghost use Rattle.std.specs.Prelude.{◌≡◌, ◌++◌, ◌∷◌, [], Some, IfOk, IfSome, OnOk, option_to_list};
+ghost use Rattle.def_bindings.specs.declared.bindings.Namespace.TheVariants.{Types};
 ghost use Rattle.def_bindings.specs.ModuleTree.{chain_in};
 ghost use Rattle.def_bindings.specs.Visibility.{order_over};
+ghost use Rattle.def_map.specs.PathAnswer.{whole};
+ghost use Rattle.def_map.specs.PerNs.{Item, in_namespace};
 ghost use Rattle.def_steps.specs.Shown.{import_of};
-ghost use Rattle.def_rules.specs.Imports.{bound_name, entry_of, named_entries};
+ghost use Rattle.def_rules.specs.Imports.{bound_name, entry_of, kept_item, named_entries, taken_types};
 
-use crate::directive::{Import, import_name, keeps_ns, kept_item, reexported};
+use crate::answer::{found_in, kept_in};
+use crate::directive::{Import, import_name, keeps_ns, reexported_vis};
 use def_bindings::{Entry, ModuleTree, Namespace, Visibility, lesser_or_import};
-use def_map::{Item, ResolvePathResult};
+use def_ids::Def;
+use def_map::PathAnswer;
 use item_tree::Name;
 use std::alloc::{AllocError, Global};
 
 /// An import that is recorded, with the name that it binds and its visibility.
 #[derive(Clone, Copy)]
 struct Brought<'a> {
-    import: Import<'a>,
+    import: &'a Import<'a>,
     name: Option<Name>,
     vis: Visibility,
 }
@@ -25,34 +30,24 @@ pub fn lone_entry(
     order: &ModuleTree,
     import: &Import,
     vis: Visibility,
-    answer: &ResolvePathResult,
+    answer: &PathAnswer,
 ) -> Option<Entry<Visibility>>
-    ensures { IfSome result (λ entry. named_entries (order_over (chain_in order.now)) (import_of import.now) vis answer.now (bound_name import.now.written.now)
+    ensures { IfSome result (λ entry. named_entries (order_over (chain_in order.now)) (import_of import.now) vis (whole answer.now) (bound_name import.now.written.now)
         ≡ entry ∷ []) }
 {
     let name = import_name(import.written)?;
-    let brought = Brought {
-        import: *import,
-        name,
-        vis,
-    };
-    let found = &answer.resolved_def;
-    let None = found.macros else {
+    let brought = Brought { import, name, vis };
+    let None = found_in(answer, Namespace::Macros) else {
         return None;
     };
-    match found.types {
+    match found_in(answer, Namespace::Types) {
         Some(_) => {
-            let None = found.values else {
+            let None = found_in(answer, Namespace::Values) else {
                 return None;
             };
-            let types = kept_item(answer, found.types);
-            let types = reexported(&import.written.path, vis, types);
-            entry(order, brought, Namespace::Types, types)
+            types_entry(order, brought, answer)
         }
-        None => {
-            let values = kept_item(answer, found.values);
-            entry(order, brought, Namespace::Values, values)
-        }
+        None => entry_in(order, brought, Namespace::Values, answer),
     }
 }
 
@@ -62,67 +57,88 @@ pub fn named_entries(
     order: &ModuleTree,
     import: &Import,
     vis: Visibility,
-    answer: &ResolvePathResult,
+    answer: &PathAnswer,
 ) -> Result<Vec<Entry<Visibility>>, AllocError>
     ensures { IfOk result (λ entries. entries.items
-        ≡ named_entries (order_over (chain_in order.now)) (import_of import.now) vis answer.now (bound_name import.now.written.now)) }
+        ≡ named_entries (order_over (chain_in order.now)) (import_of import.now) vis (whole answer.now) (bound_name import.now.written.now)) }
 {
     let mut entries = Vec::new(alloc);
     let Some(name) = import_name(import.written) else {
         return Ok(entries);
     };
-    let brought = Brought {
-        import: *import,
-        name,
-        vis,
-    };
-    let found = &answer.resolved_def;
-    let types = reexported(&import.written.path, vis, kept_item(answer, found.types));
-    let values = kept_item(answer, found.values);
-    let macros = kept_item(answer, found.macros);
-    push_entry(&mut entries, order, brought, Namespace::Types, types)?;
-    push_entry(&mut entries, order, brought, Namespace::Values, values)?;
-    push_entry(&mut entries, order, brought, Namespace::Macros, macros)?;
+    let brought = Brought { import, name, vis };
+    push_entry(&mut entries, types_entry(order, brought, answer))?;
+    let values = entry_in(order, brought, Namespace::Values, answer);
+    push_entry(&mut entries, values)?;
+    let macros = entry_in(order, brought, Namespace::Macros, answer);
+    push_entry(&mut entries, macros)?;
     Ok(entries)
 }
 
-/// The entry of what an import gives in a namespace, if it gives something there.
+/// The entry of what an import gives in types, if it gives something there.
+fn types_entry(
+    order: &ModuleTree,
+    brought: Brought,
+    answer: &PathAnswer,
+) -> Option<Entry<Visibility>>
+    ensures { let import = import_of brought.entry.import.now in
+        let vis = brought.entry.vis in
+        option_to_list result ≡ entry_of (order_over (chain_in order.now)) import vis brought.entry.name
+        Types (taken_types import.written.path vis (whole answer.now)) }
+{
+    let item = kept_in(answer, Namespace::Types)?;
+    let vis = reexported_vis(&brought.import.written.path, brought.vis, item);
+    entry(order, brought, Namespace::Types, item.def, vis)
+}
+
+/// The entry of what an import gives in values or macros, if it gives something there.
+fn entry_in(
+    order: &ModuleTree,
+    brought: Brought,
+    ns: Namespace,
+    answer: &PathAnswer,
+) -> Option<Entry<Visibility>>
+    ensures { let import = import_of brought.entry.import.now in
+        let found = whole answer.now in
+        option_to_list result ≡ entry_of (order_over (chain_in order.now)) import brought.entry.vis brought.entry.name
+        ns (kept_item found (in_namespace found.resolved_def ns)) }
+{
+    let item = kept_in(answer, ns)?;
+    entry(order, brought, ns, item.def, item.vis)
+}
+
+/// The entry of a definition that an import gives in a namespace, if it keeps that namespace.
 fn entry(
     order: &ModuleTree,
     brought: Brought,
     ns: Namespace,
-    item: Option<Item>,
+    def: Def,
+    vis: Visibility,
 ) -> Option<Entry<Visibility>>
-    ensures { option_to_list result
-        ≡ entry_of (order_over (chain_in order.now)) (import_of brought.entry.import)
-        brought.entry.vis brought.entry.name ns item }
+    ensures { (item : Item) → item.def ≡ def → item.vis ≡ vis → option_to_list result
+        ≡ entry_of (order_over (chain_in order.now)) (import_of brought.entry.import.now)
+        brought.entry.vis brought.entry.name ns (Some item) }
 {
-    let item = item?;
     if !keeps_ns(brought.import.written.kind, ns) {
         return None;
     }
     Some(Entry {
         name: brought.name,
         ns,
-        def: item.def,
-        vis: lesser_or_import(order, item.vis, brought.vis),
+        def,
+        vis: lesser_or_import(order, vis, brought.vis),
         origin: Some(brought.import.origin()),
     })
 }
 
-/// Appends the entry of what an import gives in a namespace, if it gives something there.
+/// Appends an entry, if there is one.
 fn push_entry(
     entries: &mut Vec<Entry<Visibility>>,
-    order: &ModuleTree,
-    brought: Brought,
-    ns: Namespace,
-    item: Option<Item>,
+    entry: Option<Entry<Visibility>>,
 ) -> Result<(), AllocError>
-    ensures { OnOk result (entries.new.items ≡ entries.old.items
-        ++ entry_of (order_over (chain_in order.now)) (import_of brought.entry.import)
-        brought.entry.vis brought.entry.name ns item) }
+    ensures { OnOk result (entries.new.items ≡ entries.old.items ++ option_to_list entry) }
 {
-    if let Some(entry) = entry(order, brought, ns, item) {
+    if let Some(entry) = entry {
         entries.push(entry)?;
     }
     Ok(())

@@ -1,10 +1,11 @@
 //! What one name stands for, as a numbered table keeps it.
-ghost use Rattle.std.specs.Prelude.{◌≡◌, Some, None, IsTrue, IsFalse, OnOk, OnErr, option_copied};
-ghost use Rattle.def_bindings.specs.Content.{is_namespace};
-ghost use Rattle.def_bindings.specs.NameBindings.{bound_in};
+ghost use Rattle.std.specs.Prelude.{◌≡◌, Some, None, IfSome, IsTrue, IsFalse, OnOk, OnErr, option_copied};
+ghost use Rattle.def_bindings.specs.NameBindings.{bound_in, module_bound, unbound, with_bound};
+ghost use Rattle.def_bindings.specs.declared.bindings.Namespace.TheVariants.{Types};
 ghost use Rattle.numbered_table.specs.BoundName.{beside, stands_for, with_namespace};
 
 use def_bindings::{Binding, NameBindings, Namespace};
+use def_ids::ModuleId;
 use std::alloc::{AllocError, Global};
 
 /// What a name stands for: its binding in one namespace, and those beside it. Most names stand in
@@ -14,18 +15,6 @@ pub struct BoundName<V> {
     pub ns: Namespace,
     pub binding: Binding<V>,
     pub others: Option<Box<NameBindings<V>>>,
-}
-
-/// Whether two namespaces are one.
-fn is_same(a: Namespace, b: Namespace) -> bool
-    ensures { result ≡ is_namespace a b }
-{
-    match (a, b) {
-        (Namespace::Types, Namespace::Types)
-        | (Namespace::Values, Namespace::Values)
-        | (Namespace::Macros, Namespace::Macros) => true,
-        _ => false,
-    }
 }
 
 /// All that is kept beside.
@@ -90,7 +79,7 @@ impl<V: Copy> BoundName<V> {
     pub fn get(&self, ns: Namespace) -> Option<&Binding<V>>
         ensures { option_copied result ≡ stands_for self.now ns }
     {
-        if is_same(self.ns, ns) {
+        if self.ns.is_same(ns) {
             return Some(&self.binding);
         }
         match &self.others {
@@ -110,6 +99,27 @@ impl<V: Copy> BoundName<V> {
         }
     }
 
+    /// The one binding, where nothing is kept beside it, and its namespace.
+    pub fn lone(&self) -> Option<(Namespace, Binding<V>)>
+        ensures { IfSome result (λ lone. stands_for self.now
+            ≡ bound_in (with_bound unbound lone.0 (Some lone.1))) }
+    {
+        match self.others {
+            Some(_) => None,
+            None => Some((self.ns, self.binding)),
+        }
+    }
+
+    /// The module that it is bound to in types, if it is bound to one.
+    pub fn module(&self) -> Option<ModuleId>
+        ensures { result ≡ module_bound (stands_for self.now Types) }
+    {
+        match self.get(Namespace::Types) {
+            Some(binding) => binding.def.as_module(),
+            None => None,
+        }
+    }
+
     /// Binds the name in a namespace.
     pub fn set(
         &mut self,
@@ -121,7 +131,7 @@ impl<V: Copy> BoundName<V> {
             ≡ with_namespace (stands_for self.old) ns (Some binding)) }
         ensures refused { OnErr result (self.new ≡ self.old) }
     {
-        if is_same(self.ns, ns) {
+        if self.ns.is_same(ns) {
             self.binding = binding;
             return Ok(());
         }
@@ -137,7 +147,7 @@ impl<V: Copy> BoundName<V> {
         ensures none { IsFalse result → with_namespace (stands_for self.old) ns None ≡ (λ n. None) }
     {
         let left = take_beside(&mut self.others, ns);
-        if !is_same(self.ns, ns) {
+        if !self.ns.is_same(ns) {
             return true;
         }
         match left.first() {

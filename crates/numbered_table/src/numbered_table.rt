@@ -210,6 +210,26 @@ impl<V: Copy> BindingTable for NumberedTable<V> {
         }
     }
 
+    fn lone(&self, module: ModuleId, name: Name) -> Option<(Namespace, Binding<V>)> {
+        match self.bound.get(&Placed {
+            at: module,
+            key: name,
+        }) {
+            Some(bound) => bound.lone(),
+            None => None,
+        }
+    }
+
+    fn module_at(&self, module: ModuleId, name: Name) -> Option<ModuleId> {
+        match self.bound.get(&Placed {
+            at: module,
+            key: name,
+        }) {
+            Some(bound) => bound.module(),
+            None => None,
+        }
+    }
+
     fn name_at(&self, module: ModuleId, index: usize) -> Option<Name> {
         self.names.at(module, index)
     }

@@ -1,4 +1,5 @@
 use Rattle.std.proofs.Common.{ap, refl, sym, ◌∙◌}
+use Rattle.def_map.specs.PathAnswer.{whole}
 use Rattle.def_steps.specs.Shown.{import_of}
 use Rattle.def_collector.specs.Collector.{state_of}
 use Rattle.def_rules.specs.Imports.{bound_name, named_entries}
@@ -14,10 +15,10 @@ returns-in_ok-record_named-in-Plain-clause-performs g c =
     let s : State = state_of c.args.collector.now c.args.session.now in
     let t : State = state_of (record c.args.collector.now { table = c.record_named.new.table }) c.args.session.now in
     let p : Import = import_of c.args.import.now in
-    recorded_named oracle s t p c.args.answer.now c.in-Plain.is
-    (performs_listed p.scope _ _ s t (ap (λ vis. named_entries (order s) p vis c.args.answer.now (bound_name p.written)) c.resolve_visibility-vis.ensures) (c.in_ok-record_named-in-Plain.ensures s))
+    recorded_named oracle s t p (whole c.args.answer.now) c.in-Plain.is
+    (performs_listed p.scope _ _ s t (ap (λ vis. named_entries (order s) p vis (whole c.args.answer.now) (bound_name p.written)) c.resolve_visibility-vis.ensures) (c.in_ok-record_named-in-Plain.ensures s))
 
 pub returns-in-Some-clause-performs : goal.returns-in-Some-clause-performs
 returns-in-Some-clause-performs g c =
-    recorded_prelude (g.D.SourceDatabase.oracle c.args.db.now) (state_of c.args.collector.now c.args.session.now) _ (import_of c.args.import.now) c.args.answer.now
+    recorded_prelude (g.D.SourceDatabase.oracle c.args.db.now) (state_of c.args.collector.now c.args.session.now) _ (import_of c.args.import.now) (whole c.args.answer.now)
     c.in-Some.source c.in-Glob.is (sym c.new_prelude.ensures ∙ c.in-Some.is) refl

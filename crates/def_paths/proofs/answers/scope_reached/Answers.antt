@@ -25,7 +25,7 @@ segments-preserved g c item from k stands begins =
     let inside : i < length segments = omega (arith, c.segments-test.true) in
     module-next q own (walk q own false (in_types item) k segments) segments i d inside k c.segments.place here
     (λ (x : Item) y. c.segments.invariant item x k stands y) (omega (arith, c.segments-test.true))
-    c.in_ok-item.item c.in-Module.next (sym c.scope_type.ensures ∙ c.in_ok-item.was) c.in-Module.is from begins
+    c.in_ok-place.place (sym c.scope_module.ensures ∙ c.in_ok-place.was) from begins
 
 pub returns : goal.returns
 returns g c item k stands =

@@ -1,5 +1,5 @@
 use Rattle.std.proofs.Common.{rules}
 use Rattle.def_steps.proofs.directive.is_ready.Goals as goal
 
-pub returns-else-answer : goal.returns-else-answer
-returns-else-answer c = search rules
+pub returns-else-is_foreign : goal.returns-else-is_foreign
+returns-else-is_foreign c = search rules

@@ -2,7 +2,7 @@ use Rattle.std.proofs.Common.{◌≡◌, drop, false}
 use Rattle.def_paths.specs.Answers.{walk}
 use Rattle.def_sources.specs.PerNs.{in_types}
 use Rattle.def_sources.specs.Asking.{question_in, map_in}
-use Rattle.def_paths.proofs.answers.walk_on.Given as goal
+use Rattle.def_paths.proofs.answers.walk.Given as goal
 
 -- what is left of the walk decides
 abbrev pub invariant-segments : goal.invariant-segments

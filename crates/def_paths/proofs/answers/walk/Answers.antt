@@ -1,11 +1,23 @@
 use Rattle.std.proofs.Common.{Some, add-one, ap, arith, drop, drop-cons, get_or, length, length-drop, sym, ◌+◌, ◌<◌, ◌||◌, ◌∙◌, ◌∷◌, ◌≡◌}
 use Rattle.tree_ids.specs.declared.name.Name.{Name}
-use Rattle.def_paths.specs.Answers.{is_elsewhere, missing, walk}
+use Rattle.def_paths.specs.Answers.{is_elsewhere, missing, reached, walk}
 use Rattle.def_sources.specs.Asking.{question_in, map_in}
 use Rattle.def_sources.specs.PerNs.{in_types}
-use Rattle.def_paths.proofs.AnswersLemmas.{walk-found, walk-lost}
-use Rattle.def_paths.proofs.answers.walk_on.Goals as goal
-use Rattle.def_paths.proofs.answers.walk_on.Goals.{then-crossed, else-crossed}
+use Rattle.def_paths.proofs.AnswersLemmas.{walk-found, walk-lost, walk-nowhere}
+use Rattle.def_paths.proofs.answers.walk.Goals as goal
+use Rattle.def_paths.proofs.answers.walk.Goals.{then-crossed, else-crossed}
+
+pub returns-in_default : goal.returns-in_default
+returns-in_default g c =
+    let q = question_in g.D.PathDatabase.oracle c.args.asking.now in
+    let own = map_in g.T.BindingTable.content c.args.asking.now in
+    let rest = drop (c.segments.i + 1) c.args.segments.now in
+    let more : 0 < length rest = simp length-drop (omega (arith, c.if-i-segments.false, c.segments-test.true)) in
+    let d : Name = record { 0 = 0 } in
+    c.reached.ensures ∙ ap (λ found. reached found (Some c.segments.i) c.segments.crossed) c.of_type.ensures
+    ∙ walk-nowhere q own c.segments.crossed c.segments.item c.segments.i (drop c.segments.i c.args.segments.now) rest (get_or c.args.segments.now c.segments.i d) c.step_in_types.result _
+    (drop-cons c.args.segments.now c.segments.i d c.segments-test.true ∙ ap (λ j. get_or c.args.segments.now c.segments.i d ∷ drop j c.args.segments.now) (sym (add-one c.segments.i)))
+    c.step_in_types.ensures more c.segments.invariant c.in_default.is
 
 pub returns-in-None : goal.returns-in-None
 returns-in-None g c =
