@@ -80,10 +80,6 @@ written c m slot None = c
 written c m (Named name ns) (Some b) = with_binding c m name ns b
 written c m (Unnamed item) (Some b) = with_unnamed c m item b.vis
 
--- a binding of these parts
-abbrev pub bound_to : {V : Type 0} → Def → V → Origin → Binding V
-bound_to def vis import = record { def = def; vis = vis; import = import }
-
 -- a binding, where nothing is bound
 abbrev pub if_vacant : {V : Type 0} → Option (Binding V) → Binding V → Option (Binding V)
 if_vacant None b = Some b

@@ -2,14 +2,14 @@
 ghost use Rattle.std.specs.Prelude.{◌≡◌, ◌<◌, ◌^◌, List, Some, length, slice_get, IfOk, IfSome, OnOk, OnErr};
 ghost use Rattle.def_ids.specs.declared.ids.ModuleId.{ModuleId};
 ghost use Rattle.def_bindings.specs.Content.{Content, with_binding, without_binding, with_unnamed, with_edge, vis_of, AreSources, AreTied};
-ghost use Rattle.def_bindings.specs.NameBindings.{bound_in, module_bound, unbound, with_bound};
+ghost use Rattle.def_bindings.specs.NameBindings.{bound_in, module_bound, said};
 ghost use Rattle.def_bindings.specs.declared.bindings.Namespace.TheVariants.{Types};
-ghost use Rattle.def_bindings.specs.Puts.{bound_to, edge_to, held, if_vacant, written};
+ghost use Rattle.def_bindings.specs.Puts.{edge_to, held, if_vacant, written};
 
-use crate::bindings::{Binding, EdgeTo, ImportOrExternCrate, Namespace, Slot};
-use crate::name_bindings::NameBindings;
+use crate::bindings::{Binding, EdgeTo, Namespace, Slot};
+use crate::name_bindings::{LoneBinding, NameBindings};
 use crate::puts::as_binding;
-use def_ids::{Def, ModuleId, TraitId};
+use def_ids::{ModuleId, TraitId};
 use std::alloc::AllocError;
 use tree_ids::Name;
 
@@ -39,11 +39,10 @@ pub trait BindingTable {
         }
     }
 
-    /// The binding of a name that stands in one namespace alone, and that namespace. A table may answer
-    /// `None` for such a name too.
-    fn lone(&self, module: ModuleId, name: Name) -> Option<(Namespace, Binding<Self::Vis>)>
-        ensures { IfSome result (λ lone. (content self.now).binding «module» name
-            ≡ bound_in (with_bound unbound lone.0 (Some lone.1))) }
+    /// What a name stands for, in short where it can be said: in no namespace, or in one alone. A table
+    /// may say nothing of any name.
+    fn lone(&self, module: ModuleId, name: Name) -> LoneBinding<Self::Vis>
+        ensures { IfSome (said result) (λ all. (content self.now).binding «module» name ≡ bound_in all) }
     {
         self.bindings(module, name).lone()
     }
@@ -116,27 +115,25 @@ pub trait BindingTable {
         &mut self,
         module: ModuleId,
         slot: Slot,
-        def: Def,
-        vis: Self::Vis,
-        import: Option<ImportOrExternCrate>,
+        binding: &Binding<Self::Vis>,
     ) -> Result<Option<Binding<Self::Vis>>, AllocError>
         ensures done { IfOk result (λ there. let c = content self.old in
             (there ≡ held c «module» slot)
-            × (content self.new ≡ written c «module» slot (if_vacant there (bound_to def vis import)))) }
+            × (content self.new ≡ written c «module» slot (if_vacant there binding.now))) }
         ensures refused { OnErr result (content self.new ≡ content self.old) }
     {
         match slot {
             Slot::Named(name, ns) => {
                 let there = self.binding(module, name, ns);
                 if there.is_none() {
-                    self.set(module, name, ns, Binding { def, vis, import })?;
+                    self.set(module, name, ns, *binding)?;
                 }
                 Ok(there)
             }
             Slot::Unnamed(item) => match self.unnamed_vis(module, item) {
                 Some(there) => Ok(Some(as_binding(item, there))),
                 None => {
-                    self.set_unnamed(module, item, vis)?;
+                    self.set_unnamed(module, item, binding.vis)?;
                     Ok(None)
                 }
             },

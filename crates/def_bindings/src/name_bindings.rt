@@ -1,6 +1,6 @@
 //! The bindings of one name.
 ghost use Rattle.std.specs.Prelude.{◌≡◌, Some, None, IfSome, IfNone, option_copied};
-ghost use Rattle.def_bindings.specs.NameBindings.{bound_in, with_bound, unbound, is_unbound};
+ghost use Rattle.def_bindings.specs.NameBindings.{bound_in, with_bound, said, unbound, is_unbound};
 
 use crate::bindings::{Binding, Namespace};
 
@@ -10,6 +10,17 @@ pub struct NameBindings<V> {
     pub types: Option<Binding<V>>,
     pub values: Option<Binding<V>>,
     pub macros: Option<Binding<V>>,
+}
+
+/// What is said in short of the bindings of one name. Most names have one binding, or none.
+#[derive(Clone, Copy)]
+pub enum LoneBinding<V> {
+    /// There is none.
+    Nothing,
+    /// There is one, in this namespace.
+    Lone(Namespace, Binding<V>),
+    /// Nothing is said of them.
+    Unsaid,
 }
 
 impl<V: Copy> NameBindings<V> {
@@ -72,15 +83,16 @@ impl<V: Copy> NameBindings<V> {
         }
     }
 
-    /// The one binding, where there is no other, and its namespace.
-    pub fn lone(&self) -> Option<(Namespace, Binding<V>)>
-        ensures { IfSome result (λ lone. self.now ≡ with_bound unbound lone.0 (Some lone.1)) }
+    /// These in short: the one binding, where there is no other, or that there is none.
+    pub fn lone(&self) -> LoneBinding<V>
+        ensures { IfSome (said result) (λ all. self.now ≡ all) }
     {
         match (self.types, self.values, self.macros) {
-            (Some(types), None, None) => Some((Namespace::Types, types)),
-            (None, Some(values), None) => Some((Namespace::Values, values)),
-            (None, None, Some(macros)) => Some((Namespace::Macros, macros)),
-            _ => None,
+            (None, None, None) => LoneBinding::Nothing,
+            (Some(types), None, None) => LoneBinding::Lone(Namespace::Types, types),
+            (None, Some(values), None) => LoneBinding::Lone(Namespace::Values, values),
+            (None, None, Some(macros)) => LoneBinding::Lone(Namespace::Macros, macros),
+            _ => LoneBinding::Unsaid,
         }
     }
 

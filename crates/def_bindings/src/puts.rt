@@ -146,16 +146,16 @@ pub fn put_at<T: BindingTable, O: VisOrder<Vis = T::Vis>>(
     order: &O,
     module: ModuleId,
     slot: Slot,
-    offer: Binding<T::Vis>,
+    offer: &Binding<T::Vis>,
 ) -> Result<bool, AllocError>
     ensures done { IfOk result (λ changed. let c = T.content table.old in
         let o = O.order order.now in
-        (changed ≡ is_some (settled o (held c «module» slot) (fitted slot offer)))
-        × (T.content table.new ≡ put o c «module» slot offer)) }
+        (changed ≡ is_some (settled o (held c «module» slot) (fitted slot offer.now)))
+        × (T.content table.new ≡ put o c «module» slot offer.now)) }
     ensures refused { OnErr result (T.content table.new ≡ T.content table.old) }
 {
-    match table.bind(module, slot, offer.def, offer.vis, offer.import)? {
-        Some(there) => put_over(table, order, module, slot, &there, &offer),
+    match table.bind(module, slot, offer)? {
+        Some(there) => put_over(table, order, module, slot, &there, offer),
         None => Ok(true),
     }
 }
@@ -198,5 +198,5 @@ pub fn copy_along<T: BindingTable, O: VisOrder<Vis = T::Vis>>(
         vis: lesser_or_import(order, own.vis, edge.vis),
         import: Some(ImportOrExternCrate::Glob(edge.glob)),
     };
-    put_at(table, order, edge.importer, slot, offer)
+    put_at(table, order, edge.importer, slot, &offer)
 }

@@ -8,12 +8,14 @@ ghost use Rattle.def_steps.specs.declared.import_lists.ImportList.TheVariants.{U
 ghost use Rattle.def_steps.specs.Shown.{import_of};
 ghost use Rattle.def_laws.specs.Turns.{Moves, turns_left};
 ghost use Rattle.def_laws.specs.Performs.{Performs};
+ghost use Rattle.def_rules.specs.Imports.{answer_now};
 ghost use Rattle.def_rules.specs.Recording.{record_effect, NoneReady};
 ghost use Rattle.def_laws.specs.Runs.{Leads};
 
 use crate::collector::DefCollector;
 use crate::globs::record_glob;
-use def_imports::{record_named, resolve_import};
+use def_bindings::LoneBinding;
+use def_imports::{ImportAt, record_named, resolve_import, resolve_import_in_short};
 use def_interner::Interner;
 use def_map::{PathAnswer, SourceDatabase};
 use def_steps::{
@@ -78,7 +80,7 @@ fn try_imports<'a, D: SourceDatabase>(
     let mut moved = false;
     let mut from = 0;
     'tried: while let Some(i) = next_tried(entries(collector, list), from) {
-        if try_import(collector, db, session, list, i)? {
+        if try_import(collector, db, session, ImportAt { list, index: i })? {
             moved = true;
         }
         from = i + 1;
@@ -91,29 +93,87 @@ pub fn try_import<'a, D: SourceDatabase>(
     collector: &mut DefCollector<'a>,
     db: &D,
     session: &Interner,
-    list: ImportList,
-    i: usize,
+    import: ImportAt,
 ) -> Result<bool, AllocError>
-    requires { i < length (entries_of list collector.old) }
-    ensures len { OnOk result (length (entries_of list collector.new) ≡ length (entries_of list collector.old)) }
+    requires { import.index < length (entries_of import.list collector.old) }
+    ensures len { OnOk result (length (entries_of import.list collector.new) ≡ length (entries_of import.list collector.old)) }
     ensures moved { IfOk result (λ moved. moved ≡ true →
         Moves (D.oracle db.now) (state_of collector.old session.now) (state_of collector.new session.now)) }
     ensures unready { IfOk result (λ moved. moved ≡ false →
-        IsUnready (D.oracle db.now) session.now list collector.old i) }
+        IsUnready (D.oracle db.now) session.now import.list collector.old import.index) }
     ensures same { IfOk result (λ moved. moved ≡ false → collector.new ≡ collector.old) }
 {
-    let Some(directive) = entries(collector, list)[i] else {
+    let Some(directive) = entries(collector, import.list)[import.index] else {
         return Ok(false);
     };
+    match resolve_import_in_short(&collector.world(db, session), &directive.import) {
+        LoneBinding::Nothing => Ok(false),
+        LoneBinding::Lone(ns, item) => {
+            let answer = PathAnswer::Lone(ns, &item);
+            record_ready(collector, db, session, import, &directive, &answer)
+        }
+        LoneBinding::Unsaid => try_whole(collector, db, session, import, &directive),
+    }
+}
+
+/// Records an import with all that its path gives, if it is ready. Answers whether it was. It stands
+/// apart, since most paths lead to one item, or to none.
+#[inline(never)]
+fn try_whole<'a, D: SourceDatabase>(
+    collector: &mut DefCollector<'a>,
+    db: &D,
+    session: &Interner,
+    at: ImportAt,
+    directive: &ImportDirective<'a>,
+) -> Result<bool, AllocError>
+    requires within { at.index < length (entries_of at.list collector.old) }
+    requires there { slice_get (entries_of at.list collector.old) at.index ≡ Some (Some directive.now) }
+    ensures len { OnOk result (length (entries_of at.list collector.new) ≡ length (entries_of at.list collector.old)) }
+    ensures moved { IfOk result (λ moved. moved ≡ true →
+        Moves (D.oracle db.now) (state_of collector.old session.now) (state_of collector.new session.now)) }
+    ensures unready { IfOk result (λ moved. moved ≡ false →
+        IsUnready (D.oracle db.now) session.now at.list collector.old at.index) }
+    ensures same { IfOk result (λ moved. moved ≡ false → collector.new ≡ collector.old) }
+{
     let answer = resolve_import(&collector.world(db, session), &directive.import);
-    if !is_ready(directive.recorded, &answer) {
+    record_ready(
+        collector,
+        db,
+        session,
+        at,
+        directive,
+        &PathAnswer::Whole(&answer),
+    )
+}
+
+/// Records an import with what its path gives, if it is ready with that. Answers whether it was.
+fn record_ready<'a, D: SourceDatabase>(
+    collector: &mut DefCollector<'a>,
+    db: &D,
+    session: &Interner,
+    at: ImportAt,
+    directive: &ImportDirective<'a>,
+    answer: &PathAnswer,
+) -> Result<bool, AllocError>
+    requires within { at.index < length (entries_of at.list collector.old) }
+    requires there { slice_get (entries_of at.list collector.old) at.index ≡ Some (Some directive.now) }
+    requires given { whole answer.now
+        ≡ answer_now (D.oracle db.now) (state_of collector.old session.now) (import_of directive.now.import) }
+    ensures len { OnOk result (length (entries_of at.list collector.new) ≡ length (entries_of at.list collector.old)) }
+    ensures moved { IfOk result (λ moved. moved ≡ true →
+        Moves (D.oracle db.now) (state_of collector.old session.now) (state_of collector.new session.now)) }
+    ensures unready { IfOk result (λ moved. moved ≡ false →
+        IsUnready (D.oracle db.now) session.now at.list collector.old at.index) }
+    ensures same { IfOk result (λ moved. moved ≡ false → collector.new ≡ collector.old) }
+{
+    if !is_ready(directive.recorded, answer) {
         return Ok(false);
     }
-    let kept = still_indeterminate(directive, &answer);
+    let kept = still_indeterminate(*directive, answer);
     let unresolved = &mut collector.unresolved_imports;
     let indeterminate = &mut collector.indeterminate_imports;
-    retire(unresolved, indeterminate, list, i, kept)?;
-    record_resolved_import(collector, db, session, &directive.import, &answer)?;
+    retire(unresolved, indeterminate, at.list, at.index, kept)?;
+    record_resolved_import(collector, db, session, &directive.import, answer)?;
     Ok(true)
 }
 

@@ -1,6 +1,6 @@
 //! Imports that wake: each is tried again only where a name changed that its path reads, in the order
 //! in which passes over all of them try them.
-ghost use Rattle.std.specs.Prelude.{◌≡◌, ◌≤◌, ◌<◌, [], false, true, is_some, length, IfOk, IfSome, OnOk};
+ghost use Rattle.std.specs.Prelude.{◌≡◌, ◌≤◌, ◌<◌, [], false, true, is_some, length, option_copied, IfOk, IfSome, OnOk};
 ghost use Rattle.def_collector.specs.Places.{import_there};
 ghost use Rattle.def_collector.specs.Collector.{state_of};
 ghost use Rattle.def_collector.specs.Passes.{IsUnready, entries_of};
@@ -80,7 +80,7 @@ fn try_woken<'a, D: SourceDatabase>(
         return Ok(false);
     }
     let count = collector.indeterminate_imports.len();
-    if !try_import(collector, db, session, import.list, import.index)? {
+    if !try_import(collector, db, session, import)? {
         watchers.watch(import)?;
         return Ok(false);
     }
@@ -109,12 +109,15 @@ fn read_names<D: SourceDatabase>(
 }
 
 /// The import at a place, if one is there.
-fn import_at<'a>(collector: &DefCollector<'a>, import: ImportAt) -> Option<ImportDirective<'a>>
-    ensures there { result ≡ import_there import collector.now }
+fn import_at<'b, 'a>(
+    collector: &'b DefCollector<'a>,
+    import: ImportAt,
+) -> Option<&'b ImportDirective<'a>>
+    ensures there { option_copied result ≡ import_there import collector.now }
     ensures within { IfSome result (λ directive. import.index < length (entries_of import.list collector.now)) }
 {
     match entries(collector, import.list).get(import.index) {
-        Some(there) => *there,
+        Some(there) => there.as_ref(),
         None => None,
     }
 }
@@ -129,9 +132,10 @@ fn kept_at(collector: &DefCollector, import: ImportAt, count: usize) -> Option<I
         },
         ImportList::Indeterminate => import,
     };
-    match import_at(collector, kept) {
-        Some(_) => Some(kept),
-        None => None,
+    if import_at(collector, kept).is_some() {
+        Some(kept)
+    } else {
+        None
     }
 }
 

@@ -10,7 +10,7 @@ mod turns;
 mod watchers;
 
 pub use globs::{glob_entries, put_glob};
-pub use imports::{record_named, resolve_import};
+pub use imports::{record_named, resolve_import, resolve_import_in_short};
 pub use room::Room;
 pub use turns::{ImportAt, Turns};
 pub use watchers::Watchers;

@@ -58,13 +58,16 @@ fn read_first<D>(
     let [first, rest @ ..] = segments else {
         return Ok(());
     };
-    let is_last = rest.is_empty();
-    let mut module = read(world, scope, *first, is_last, names)?;
+    if rest.is_empty() {
+        note(world, scope, *first, names)?;
+        return note(world, world.map.prelude, *first, names);
+    }
+    let mut module = read(world, scope, *first, names)?;
     if module.is_none() {
         module = world.local.extern_entry(*first).map(|entry| entry.root);
     }
-    if module.is_none() || is_last {
-        module = read(world, world.map.prelude, *first, is_last, names)?;
+    if module.is_none() {
+        module = read(world, world.map.prelude, *first, names)?;
     }
     read_on(world, module, rest, names)
 }
@@ -76,12 +79,29 @@ fn read_on<D>(
     segments: &[Name],
     names: &mut Vec<(ModuleId, Name)>,
 ) -> Result<(), AllocError> {
+    let [others @ .., last] = segments else {
+        return Ok(());
+    };
     let mut module = module;
-    let len = segments.len();
-    for i in 0..len {
-        module = read(world, module, segments[i], i + 1 == len, names)?;
+    for name in others {
+        module = read(world, module, *name, names)?;
         if module.is_none() {
             return Ok(());
+        }
+    }
+    note(world, module, *last, names)
+}
+
+/// Notes a name in a module, where that is one of the map in work.
+fn note<D>(
+    world: &World<'_, D, Table>,
+    module: Option<ModuleId>,
+    name: Name,
+    names: &mut Vec<(ModuleId, Name)>,
+) -> Result<(), AllocError> {
+    if let Some(module) = module {
+        if module.map == world.map.tree.map {
+            names.push((module, name))?;
         }
     }
     Ok(())
@@ -106,13 +126,12 @@ fn module_in(found: &Option<Item>) -> Option<ModuleId> {
     }
 }
 
-/// A name in a module, where that is one of the map in work, and the module that it leads to. One with
-/// others behind it is looked up in types alone, so what stays there is not noted.
+/// Notes a name with others behind it in a module, where that is one of the map in work, and answers
+/// the module that it leads to. It is looked up in types alone, so what stays there is not noted.
 fn read<D>(
     world: &World<'_, D, Table>,
     module: Option<ModuleId>,
     name: Name,
-    is_last: bool,
     names: &mut Vec<(ModuleId, Name)>,
 ) -> Result<Option<ModuleId>, AllocError> {
     let Some(module) = module else {
@@ -122,7 +141,7 @@ fn read<D>(
         return Ok(None);
     }
     let found = world.table.binding(module, name, Namespace::Types);
-    if is_last || !stays(&found) {
+    if !stays(&found) {
         names.push((module, name))?;
     }
     Ok(module_in(&found))

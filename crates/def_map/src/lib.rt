@@ -36,8 +36,8 @@ pub use def_paths::{
 
 // The ids, visibilities and bindings that maps are made of.
 pub use def_bindings::{
-    Binding, BindingTable, EdgeTo, Entry, ImportOrExternCrate, ModuleTree, NameBindings, Namespace,
-    Slot, VisOrder, Visibility,
+    Binding, BindingTable, EdgeTo, Entry, ImportOrExternCrate, LoneBinding, ModuleTree,
+    NameBindings, Namespace, Slot, VisOrder, Visibility,
 };
 pub use def_ids::{
     Adt, BuiltinDeriveImplId, ConstId, Def, Edition, EnumId, ExternBlockId, ExternCrateId,

@@ -1,26 +1,27 @@
 //! What paths mean, in finished maps and in the map that is being made.
-ghost use Rattle.std.specs.Prelude.{◌≡◌, option_map};
+ghost use Rattle.std.specs.Prelude.{IfSome, ◌≡◌, None, false, option_map};
 ghost use Rattle.def_interner.specs.Session.{session_of};
 ghost use Rattle.def_map.specs.DefMaps.{view_of};
 ghost use Rattle.def_modules.specs.Locals.{local_view};
 ghost use Rattle.def_sources.specs.declared.asked.ResolveMode.TheVariants.{Other};
 ghost use Rattle.def_sources.specs.Asking.{map_with, world_lent};
 ghost use Rattle.def_sources.specs.Modes.{asked_by};
-ghost use Rattle.def_paths.specs.PathAnswer.{whole};
+ghost use Rattle.def_paths.specs.Answers.{reached};
+ghost use Rattle.def_sources.specs.PerNs.{said_in_short};
 ghost use Rattle.def_paths.specs.Paths.{for_module, module_found, resolve, resolve_visibility as visibility_of};
 ghost use Rattle.def_sources.specs.Sources.{world_of, finished_map as finished_map_of};
 
 use crate::def_map::DefMap;
 use crate::source_database::SourceDatabase;
-use def_bindings::{BindingTable, Visibility};
+use def_bindings::{BindingTable, LoneBinding, Visibility};
 use def_ids::{MapId, ModuleId};
 use def_interner::Interner;
 use def_locs::EnumLoc;
 use def_modules::{LocalDefMap, MapData};
 use def_oracle::EnumVariant;
 use def_paths::{
-    Asked, BuiltinShadowMode, MacroSubNs, PathAnswer, PathDatabase, PerNs, ResolveMode,
-    ResolvePathResult, Table, World,
+    Asked, BuiltinShadowMode, MacroSubNs, PathDatabase, PerNs, ResolveMode, ResolvePathResult,
+    Table, World,
 };
 use item_tree::{ModPath, Name, RawVisibility};
 
@@ -84,14 +85,16 @@ pub fn resolve_path_fp_with_macro<D: SourceDatabase, T: BindingTable<Vis = Visib
     def_paths::resolve_path_fp_with_macro(&world, asked, original_module, path)
 }
 
-/// What a path means, asked from a module, in short where it can be.
+/// What a path means, asked from a module, in short where it can be said: nothing, or one item in one
+/// namespace, and then it leads through modules of its crate.
 pub fn resolve_path_in_short<D: SourceDatabase, T: BindingTable<Vis = Visibility>>(
     world: &World<'_, D, T>,
     asked: Asked,
     original_module: ModuleId,
     path: &ModPath,
-) -> PathAnswer
-    ensures { whole result ≡ resolve (world_lent D.oracle T.content world.now) asked original_module path.now }
+) -> LoneBinding<Visibility>
+    ensures { IfSome (said_in_short result) (λ found.
+        resolve (world_lent D.oracle T.content world.now) asked original_module path.now ≡ reached found None false) }
 {
     let db = AskedByPaths { db: world.db };
     let world = World {

@@ -8,5 +8,5 @@ use Rattle.def_sources.specs.PerNs.{alone}
 
 -- the whole answer
 abbrev pub whole : PathAnswer → ResolvePathResult
-whole (Lone ns item) = reached (alone ns item) None false
-whole (Whole answer) = answer
+whole (Lone ns item) = reached (alone ns item.now) None false
+whole (Whole answer) = answer.now

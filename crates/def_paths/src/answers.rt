@@ -1,6 +1,6 @@
 //! What paths answer: a step for each segment after the first, and the answers of several maps as
 //! one.
-ghost use Rattle.std.specs.Prelude.{IfSome, ◌≡◌, ◌≤◌, ◌<◌, ◌&&◌, ◌||◌, ◌∷◌, ◌++◌, [], None, false, length, drop, option_map, if◌then◌else◌};
+ghost use Rattle.std.specs.Prelude.{◌≡◌, ◌≤◌, ◌<◌, ◌&&◌, ◌||◌, ◌∷◌, ◌++◌, [], None, false, length, drop, option_map, if◌then◌else◌};
 ghost use Rattle.std.specs.List.{list_any};
 ghost use Rattle.def_ids.specs.Ids.{is_block_root, is_same_map};
 ghost use Rattle.def_paths.specs.Answers.{missing as missing_after, reached as reached_with};
@@ -13,12 +13,12 @@ ghost use Rattle.def_sources.specs.Items.{is_fitting};
 ghost use Rattle.def_paths.specs.OuterMaps.{is_alone as stands_alone, is_plain as has_no_word};
 ghost use Rattle.def_paths.specs.OuterMaps.{answer_in as answer_in_map, answer_outside as answer_outside_of};
 ghost use Rattle.def_paths.specs.OuterMaps.{answers_outside, answer_of};
-ghost use Rattle.def_paths.specs.PathAnswer.{whole};
 ghost use Rattle.def_sources.specs.PerNs.{Item, in_types, is_nothing, per_namespace};
 ghost use Rattle.def_ids.specs.declared.ids.Def.TheVariants.{Module};
 ghost use Rattle.def_sources.specs.Sources.{scope_source, at_module, by_sources, absolute_sources, relative_sources};
 
-use crate::path_result::{PathAnswer, PrefixInfo, ReachedFixedPoint, ResolvePathResult};
+use crate::path_result::{PrefixInfo, ReachedFixedPoint, ResolvePathResult};
+use crate::short::scope_of;
 use def_bindings::{BindingTable, Visibility};
 use def_ids::{Def, EnumId, ModuleId};
 use def_interner::LocationId;
@@ -26,7 +26,7 @@ use def_modules::MapData;
 use def_oracle::EnumVariant;
 use def_sources::{
     Asking, Item, PathDatabase, PerNs, Segment, World, absolute, absolute_type, public_item,
-    relative, relative_type, scope, scope_lone, scope_module, scope_type,
+    relative, relative_type, scope, scope_type,
 };
 use item_tree::{ModPath, Name, PathKind};
 
@@ -205,7 +205,7 @@ fn step_in_types<D: PathDatabase, T: BindingTable<Vis = Visibility>>(
 }
 
 /// Whether a segment is looked up in a module of another crate.
-fn is_elsewhere(map: &MapData, def: Def) -> bool
+pub(crate) fn is_elsewhere(map: &MapData, def: Def) -> bool
     ensures { (content : _) → result ≡ elsewhere (map_with map.now content) def }
 {
     match def {
@@ -233,38 +233,6 @@ fn last_step<D: PathDatabase, T: BindingTable<Vis = Visibility>>(
         }
         None => reached(PerNs::of_type(item), Some(index), crossed),
     }
-}
-
-/// Where the last of these segments is looked up, which begin in a module: the module, and that
-/// segment. `None` unless the others lead there through modules of this crate alone, as they mostly
-/// do: then nothing but a module is kept on the way.
-fn scope_reached<D: PathDatabase, T: BindingTable<Vis = Visibility>>(
-    asking: &Asking<'_, D, T>,
-    first: ModuleId,
-    segments: &[Name],
-) -> Option<(ModuleId, Name)>
-    ensures { let q = question_in D.oracle asking.now in
-        let own = map_in T.content asking.now in
-        IfSome result (λ there. (item : Item) (i : _) → item.def ≡ Module first →
-        walk_of q own false (in_types item) i segments.now
-        ≡ reached_with (per_namespace (scope_source q own there.0 there.1)) None false) }
-{
-    let len = segments.len();
-    if len == 0 {
-        return None;
-    }
-    let last = len - 1;
-    let mut place = first;
-    'segments: for i in 0..last {
-        if is_elsewhere(asking.world.map, Def::Module(place)) {
-            return None;
-        }
-        place = scope_module(asking, place, segments[i])?;
-    }
-    if is_elsewhere(asking.world.map, Def::Module(place)) {
-        return None;
-    }
-    Some((place, segments[last]))
 }
 
 /// The segments from `begin` on, after a definition. One with others behind it is looked up in types
@@ -432,60 +400,6 @@ fn answer_in<D: PathDatabase, T: BindingTable<Vis = Visibility>>(
     }
 }
 
-/// Where the last segment of a plain path is looked up, and that segment, if the others lead there
-/// through modules of this crate.
-fn plain_scope<D: PathDatabase, T: BindingTable<Vis = Visibility>>(
-    asking: &Asking<'_, D, T>,
-    place: ModuleId,
-    segments: &[Name],
-) -> Option<(ModuleId, Name)>
-    ensures { let q = question_in D.oracle asking.now in
-        let own = map_in T.content asking.now in
-        let alone = stands_alone segments.now in
-        let keep = is_fitting q.kind_of (if alone then asking.now.asked.sub else None) in
-        IfSome result (λ there. answer_from q own keep (by_sources (relative_sources q own place alone)) segments.now
-        ≡ reached_with (per_namespace (scope_source q own there.0 there.1)) None false) }
-{
-    match segments {
-        [] | [_] => None,
-        [name, ..] => {
-            let item = relative_type(asking, place, *name)?;
-            let first = item.def.as_module()?;
-            scope_reached(asking, first, &segments[1..])
-        }
-    }
-}
-
-/// Where a path's last segment is looked up, and that segment, if the others lead there through
-/// modules of this crate.
-fn scope_of<D: PathDatabase, T: BindingTable<Vis = Visibility>>(
-    asking: &Asking<'_, D, T>,
-    place: ModuleId,
-    path: &ModPath,
-) -> Option<(ModuleId, Name)>
-    ensures { let q = question_in D.oracle asking.now in
-        let own = map_in T.content asking.now in
-        IfSome result (λ there. answer_in_map q place path.now own
-        ≡ reached_with (per_namespace (scope_source q own there.0 there.1)) None false) }
-{
-    let segments = path.segments.as_slice();
-    match path.kind {
-        PathKind::Crate => {
-            let first = ModuleId::crate_root(asking.world.map.tree.map.krate);
-            scope_reached(asking, first, segments)
-        }
-        PathKind::DollarCrate(krate) => {
-            scope_reached(asking, ModuleId::crate_root(krate), segments)
-        }
-        PathKind::Super(n) => match asking.world.map.tree.ancestor(place, n as usize) {
-            Some(ancestor) => scope_reached(asking, ancestor, segments),
-            None => None,
-        },
-        PathKind::Abs => None,
-        PathKind::Plain => plain_scope(asking, place, segments),
-    }
-}
-
 /// What a name of a module means that a path leads to.
 fn bound_answer<D: PathDatabase, T: BindingTable<Vis = Visibility>>(
     asking: &Asking<'_, D, T>,
@@ -583,7 +497,7 @@ fn with_outside<D: PathDatabase, T>(
 }
 
 /// Whether a path is looked up in the maps around a block too.
-fn is_asked_outside(place: ModuleId, path: &ModPath) -> bool
+pub(crate) fn is_asked_outside(place: ModuleId, path: &ModPath) -> bool
     ensures { result ≡ (has_no_word path.now.kind && is_block_root place) }
 {
     is_plain(path.kind) && place.is_block_root()
@@ -605,68 +519,4 @@ pub(crate) fn resolve<D: PathDatabase, T: BindingTable<Vis = Visibility>>(
     }
     let containing = asking.world.map.tree.containing.as_slice();
     with_outside(asking, path, here, containing)
-}
-
-/// What a name of a module means that a path leads to, as a whole answer.
-#[inline(never)]
-fn whole_bound<D: PathDatabase, T: BindingTable<Vis = Visibility>>(
-    asking: &Asking<'_, D, T>,
-    place: ModuleId,
-    name: Name,
-) -> PathAnswer
-    ensures { let q = question_in D.oracle asking.now in
-        let own = map_in T.content asking.now in
-        whole result ≡ reached_with (per_namespace (scope_source q own place name)) None false }
-{
-    PathAnswer::Whole(bound_answer(asking, place, name))
-}
-
-/// What a path means, as a whole answer.
-#[inline(never)]
-fn whole_answer<D: PathDatabase, T: BindingTable<Vis = Visibility>>(
-    asking: &Asking<'_, D, T>,
-    place: ModuleId,
-    path: &ModPath,
-) -> PathAnswer
-    ensures { let q = question_in D.oracle asking.now in
-        let own = map_in T.content asking.now in
-        whole result ≡ answer_of q own place path.now }
-{
-    PathAnswer::Whole(resolve(asking, place, path))
-}
-
-/// What a path means in the map that is asked, as a whole answer.
-#[inline(never)]
-fn whole_answer_in<D: PathDatabase, T: BindingTable<Vis = Visibility>>(
-    asking: &Asking<'_, D, T>,
-    place: ModuleId,
-    path: &ModPath,
-) -> PathAnswer
-    ensures { let q = question_in D.oracle asking.now in
-        let own = map_in T.content asking.now in
-        whole result ≡ answer_in_map q place path.now own }
-{
-    PathAnswer::Whole(answer_in(asking, place, path))
-}
-
-/// What a path means, in short where it can be. Whole answers are made apart, since few are asked for.
-pub(crate) fn resolve_in_short<D: PathDatabase, T: BindingTable<Vis = Visibility>>(
-    asking: &Asking<'_, D, T>,
-    place: ModuleId,
-    path: &ModPath,
-) -> PathAnswer
-    ensures { let q = question_in D.oracle asking.now in
-        let own = map_in T.content asking.now in
-        whole result ≡ answer_of q own place path.now }
-{
-    if is_asked_outside(place, path) {
-        return whole_answer(asking, place, path);
-    }
-    let Some((module, name)) = scope_of(asking, place, path) else {
-        return whole_answer_in(asking, place, path);
-    };
-    match scope_lone(asking, module, name) {
-        Some((ns, item)) => PathAnswer::Lone(ns, item),
-        None => whole_bound(asking, module, name),
-    }
 }

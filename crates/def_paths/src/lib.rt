@@ -4,6 +4,7 @@
 mod answers;
 mod path_resolution;
 mod path_result;
+mod short;
 
 pub use answers::is_map_among;
 pub use def_sources::{

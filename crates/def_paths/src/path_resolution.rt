@@ -1,13 +1,15 @@
 //! What paths mean in a world.
-ghost use Rattle.std.specs.Prelude.{◌≡◌};
+ghost use Rattle.std.specs.Prelude.{IfSome, ◌≡◌, None, false};
 ghost use Rattle.def_sources.specs.Asking.{world_lent};
 ghost use Rattle.def_paths.specs.Paths.{resolve as meaning_of, resolve_visibility as visibility_of};
-ghost use Rattle.def_paths.specs.PathAnswer.{whole};
+ghost use Rattle.def_paths.specs.Answers.{reached};
+ghost use Rattle.def_sources.specs.PerNs.{said_in_short};
 ghost use Rattle.def_paths.specs.Paths.{for_module, module_found, module_reached as module_reached_by};
 
-use crate::answers::{resolve, resolve_in_short};
-use crate::path_result::{PathAnswer, ResolvePathResult};
-use def_bindings::{BindingTable, Visibility};
+use crate::answers::resolve;
+use crate::path_result::ResolvePathResult;
+use crate::short::resolve_in_short;
+use def_bindings::{BindingTable, LoneBinding, Visibility};
 use def_ids::{Def, ModuleId};
 use def_sources::{Asked, Asking, PathDatabase, PerNs, World};
 use item_tree::{ModPath, RawVisibility};
@@ -28,14 +30,16 @@ pub fn resolve_path_fp_with_macro<D: PathDatabase, T: BindingTable<Vis = Visibil
     resolve(&asking, original_module, path)
 }
 
-/// What a path means, asked from a module, in short where it can be.
+/// What a path means, asked from a module, in short where it can be said: nothing, or one item in one
+/// namespace, and then it leads through modules of its crate.
 pub fn resolve_path_in_short<D: PathDatabase, T: BindingTable<Vis = Visibility>>(
     world: &World<'_, D, T>,
     asked: Asked,
     original_module: ModuleId,
     path: &ModPath,
-) -> PathAnswer
-    ensures { whole result ≡ meaning_of (world_lent D.oracle T.content world.now) asked original_module path.now }
+) -> LoneBinding<Visibility>
+    ensures { IfSome (said_in_short result) (λ found.
+        meaning_of (world_lent D.oracle T.content world.now) asked original_module path.now ≡ reached found None false) }
 {
     let asking = Asking {
         world: *world,

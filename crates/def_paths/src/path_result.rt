@@ -30,7 +30,7 @@ pub struct ResolvePathResult {
 /// What a path means, in short where it can be: most paths lead through modules of their crate to one
 /// item in one namespace, and then nothing else is kept.
 #[derive(Clone, Copy)]
-pub enum PathAnswer {
-    Lone(Namespace, Item),
-    Whole(ResolvePathResult),
+pub enum PathAnswer<'a> {
+    Lone(Namespace, &'a Item),
+    Whole(&'a ResolvePathResult),
 }

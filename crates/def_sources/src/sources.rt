@@ -5,7 +5,7 @@ ghost use Rattle.def_bindings.specs.declared.bindings.Namespace.TheVariants.{Typ
 ghost use Rattle.def_bindings.specs.NameBindings.{module_bound};
 ghost use Rattle.def_sources.specs.Items.{is_fitting, is_2015 as is_edition_2015};
 ghost use Rattle.def_sources.specs.Asking.{question_in, map_in};
-ghost use Rattle.def_sources.specs.PerNs.{alone, per_namespace, kept_in};
+ghost use Rattle.def_sources.specs.PerNs.{per_namespace, kept_in, said_in_short};
 ghost use Rattle.def_sources.specs.Sources.{map_of_id};
 ghost use Rattle.def_sources.specs.Sources.{found_in, with_source};
 ghost use Rattle.def_sources.specs.Sources.{scope_source, textual_source, builtin_source, extern_source};
@@ -15,7 +15,9 @@ ghost use Rattle.def_sources.specs.Sources.{plain_sources, root_sources, absolut
 use crate::path_database::PathDatabase;
 use crate::per_ns::{Item, MacroSubNs, PerNs, public_item};
 use crate::world::Asking;
-use def_bindings::{Binding, BindingTable, ImportOrExternCrate, Namespace, Visibility};
+use def_bindings::{
+    Binding, BindingTable, ImportOrExternCrate, LoneBinding, Namespace, Visibility,
+};
 use def_ids::{Def, Edition, MacroId, ModuleId};
 use item_tree::Name;
 
@@ -69,19 +71,19 @@ pub fn scope<D: PathDatabase, T: BindingTable<Vis = Visibility>>(
     }
 }
 
-/// What a module's scope binds of a name that stands in one namespace alone, and that namespace. `None`
-/// for other names, in other maps, and where the table says so.
+/// What a module's scope binds of a name, in short where it can be said: nothing, or one item in one
+/// namespace. Nothing is said of other maps, and where the table says nothing.
 pub fn scope_lone<D: PathDatabase, T: BindingTable<Vis = Visibility>>(
     asking: &Asking<'_, D, T>,
     place: ModuleId,
     name: Name,
-) -> Option<(Namespace, Item)>
+) -> LoneBinding<Visibility>
     ensures { let q = question_in D.oracle asking.now in
         let own = map_in T.content asking.now in
-        IfSome result (λ lone. per_namespace (scope_source q own place name) ≡ alone lone.0 lone.1) }
+        IfSome (said_in_short result) (λ found. per_namespace (scope_source q own place name) ≡ found) }
 {
     if place.map != asking.world.map.tree.map {
-        return None;
+        return LoneBinding::Unsaid;
     }
     asking.world.table.lone(place, name)
 }

@@ -49,11 +49,11 @@ pub fn is_missing(answer: &PathAnswer) -> bool
 }
 
 /// What a path gives in a namespace.
-pub fn found_in(answer: &PathAnswer, ns: Namespace) -> Option<&Item>
+pub fn found_in<'a>(answer: &PathAnswer<'a>, ns: Namespace) -> Option<&'a Item>
     ensures { option_copied result ≡ in_namespace (whole answer.now).resolved_def ns }
 {
     match answer {
-        PathAnswer::Lone(lone, item) => { if lone.is_same(ns) { Some(item) } else { None } }
+        PathAnswer::Lone(lone, item) => { if lone.is_same(ns) { Some(*item) } else { None } }
         PathAnswer::Whole(answer) => match ns {
             Namespace::Types => answer.resolved_def.types.as_ref(),
             Namespace::Values => answer.resolved_def.values.as_ref(),
@@ -63,7 +63,7 @@ pub fn found_in(answer: &PathAnswer, ns: Namespace) -> Option<&Item>
 }
 
 /// What is kept of that: of another crate what is public.
-pub fn kept_in(answer: &PathAnswer, ns: Namespace) -> Option<&Item>
+pub fn kept_in<'a>(answer: &PathAnswer<'a>, ns: Namespace) -> Option<&'a Item>
     ensures { option_copied result
         ≡ imports.kept_item (whole answer.now) (in_namespace (whole answer.now).resolved_def ns) }
 {

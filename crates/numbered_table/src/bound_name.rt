@@ -1,10 +1,10 @@
 //! What one name stands for, as a numbered table keeps it.
 ghost use Rattle.std.specs.Prelude.{◌≡◌, Some, None, IfSome, IsTrue, IsFalse, OnOk, OnErr, option_copied};
-ghost use Rattle.def_bindings.specs.NameBindings.{bound_in, module_bound, unbound, with_bound};
+ghost use Rattle.def_bindings.specs.NameBindings.{bound_in, module_bound, said};
 ghost use Rattle.def_bindings.specs.declared.bindings.Namespace.TheVariants.{Types};
 ghost use Rattle.numbered_table.specs.BoundName.{beside, stands_for, with_namespace};
 
-use def_bindings::{Binding, NameBindings, Namespace};
+use def_bindings::{Binding, LoneBinding, NameBindings, Namespace};
 use def_ids::ModuleId;
 use std::alloc::{AllocError, Global};
 
@@ -65,12 +65,12 @@ fn take_beside<V: Copy>(others: &mut Option<Box<NameBindings<V>>>, ns: Namespace
 
 impl<V: Copy> BoundName<V> {
     /// A name with one binding.
-    pub fn of(ns: Namespace, binding: Binding<V>) -> Self
-        ensures { stands_for result ≡ with_namespace (λ n. None) ns (Some binding) }
+    pub fn of(ns: Namespace, binding: &Binding<V>) -> Self
+        ensures { stands_for result ≡ with_namespace (λ n. None) ns (Some binding.now) }
     {
         BoundName {
             ns,
-            binding,
+            binding: *binding,
             others: None,
         }
     }
@@ -100,13 +100,12 @@ impl<V: Copy> BoundName<V> {
     }
 
     /// The one binding, where nothing is kept beside it, and its namespace.
-    pub fn lone(&self) -> Option<(Namespace, Binding<V>)>
-        ensures { IfSome result (λ lone. stands_for self.now
-            ≡ bound_in (with_bound unbound lone.0 (Some lone.1))) }
+    pub fn lone(&self) -> LoneBinding<V>
+        ensures { IfSome (said result) (λ all. stands_for self.now ≡ bound_in all) }
     {
         match self.others {
-            Some(_) => None,
-            None => Some((self.ns, self.binding)),
+            Some(_) => LoneBinding::Unsaid,
+            None => LoneBinding::Lone(self.ns, self.binding),
         }
     }
 
@@ -125,18 +124,18 @@ impl<V: Copy> BoundName<V> {
         &mut self,
         alloc: Global,
         ns: Namespace,
-        binding: Binding<V>,
+        binding: &Binding<V>,
     ) -> Result<(), AllocError>
         ensures done { OnOk result (stands_for self.new
-            ≡ with_namespace (stands_for self.old) ns (Some binding)) }
+            ≡ with_namespace (stands_for self.old) ns (Some binding.now)) }
         ensures refused { OnErr result (self.new ≡ self.old) }
     {
         if self.ns.is_same(ns) {
-            self.binding = binding;
+            self.binding = *binding;
             return Ok(());
         }
         let bindings = all_beside(&self.others);
-        keep(&mut self.others, alloc, bindings.with(ns, Some(binding)))
+        keep(&mut self.others, alloc, bindings.with(ns, Some(*binding)))
     }
 
     /// Takes a binding out, and answers whether another is left. A name that has none keeps what it

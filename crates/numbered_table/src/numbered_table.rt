@@ -1,11 +1,11 @@
 //! A table that keeps the names of all modules in one index.
 #![tactic(auto, unfolding(crate::specs::NumberedTable::content_of))]
 
-ghost use Rattle.std.specs.Prelude.{◌≡◌, ◌↔◌, IsTrue, None, OnOk, OnErr, IfOk};
+ghost use Rattle.std.specs.Prelude.{◌≡◌, ◌↔◌, IsTrue, None, OnOk, OnErr, IfOk, option_copied};
 ghost use Rattle.numbered_table.specs.BoundName.{stands_for, written_in};
 ghost use Rattle.def_bindings.specs.Content.{AreTied, bound_as, is_bound};
 ghost use Rattle.numbered_table.specs.Lists.{lists_of};
-ghost use Rattle.numbered_table.specs.Places.{bindings_of};
+ghost use Rattle.numbered_table.specs.Places.{bindings_of, name_of};
 ghost use Rattle.def_bindings.specs.Puts.{if_vacant};
 
 use crate::bound_name::BoundName;
@@ -14,9 +14,9 @@ use crate::link::Link;
 use crate::lists::Lists;
 use crate::place::Placed;
 use def_bindings::{
-    Binding, BindingTable, EdgeTo, ImportOrExternCrate, NameBindings, Namespace, Slot, as_binding,
+    Binding, BindingTable, EdgeTo, LoneBinding, NameBindings, Namespace, Slot, as_binding,
 };
-use def_ids::{Def, ModuleId, TraitId};
+use def_ids::{ModuleId, TraitId};
 use indexmap::IndexMap;
 use indexmap::map::Entry;
 use std::alloc::{AllocError, Global};
@@ -43,6 +43,20 @@ impl<V: Drop> Drop for NumberedTable<V> {
             edges: _,
         } = self;
     }
+}
+
+/// What a name of a module stands for, if it stands for something.
+fn bound_at<V>(
+    bound: &IndexMap<Placed<Name>, BoundName<V>>,
+    module: ModuleId,
+    name: Name,
+) -> Option<&BoundName<V>>
+    ensures { option_copied result ≡ name_of bound.now «module» name }
+{
+    bound.get(&Placed {
+        at: module,
+        key: name,
+    })
 }
 
 /// Takes a binding out, and answers whether its name has another.
@@ -76,11 +90,11 @@ fn bind_beside<V: Copy>(
     alloc: Global,
     bound: &mut BoundName<V>,
     ns: Namespace,
-    binding: Binding<V>,
+    binding: &Binding<V>,
 ) -> Result<Option<Binding<V>>, AllocError>
     ensures there { IfOk result (λ there. there ≡ stands_for bound.old ns) }
     ensures done { IfOk result (λ there. stands_for bound.new
-        ≡ written_in (stands_for bound.old) ns (if_vacant there binding)) }
+        ≡ written_in (stands_for bound.old) ns (if_vacant there binding.now)) }
     ensures refused { OnErr result (bound.new ≡ bound.old) }
 {
     let there = bound.get(ns).copied();
@@ -124,12 +138,12 @@ impl<V: Copy> NumberedTable<V> {
         module: ModuleId,
         name: Name,
         ns: Namespace,
-        binding: Binding<V>,
+        binding: &Binding<V>,
     ) -> Result<Option<Binding<V>>, AllocError>
         ensures done { IfOk result (λ there.
             (there ≡ (content_of self.old).binding «module» name ns)
             × (content_of self.new
-            ≡ written (content_of self.old) «module» (Named name ns) (if_vacant there binding))) }
+            ≡ written (content_of self.old) «module» (Named name ns) (if_vacant there binding.now))) }
         ensures refused { OnErr result (content_of self.new ≡ content_of self.old) }
     {
         let alloc = self.alloc;
@@ -191,40 +205,28 @@ impl<V: Copy> BindingTable for NumberedTable<V> {
     ghost sources = { λ t. modules_of t.edges.entries.entries };
 
     fn binding(&self, module: ModuleId, name: Name, ns: Namespace) -> Option<Binding<V>> {
-        match self.bound.get(&Placed {
-            at: module,
-            key: name,
-        }) {
+        match bound_at(&self.bound, module, name) {
             Some(bound) => bound.get(ns).copied(),
             None => None,
         }
     }
 
     fn bindings(&self, module: ModuleId, name: Name) -> NameBindings<V> {
-        match self.bound.get(&Placed {
-            at: module,
-            key: name,
-        }) {
+        match bound_at(&self.bound, module, name) {
             Some(bound) => bound.all(),
             None => NameBindings::unbound(),
         }
     }
 
-    fn lone(&self, module: ModuleId, name: Name) -> Option<(Namespace, Binding<V>)> {
-        match self.bound.get(&Placed {
-            at: module,
-            key: name,
-        }) {
+    fn lone(&self, module: ModuleId, name: Name) -> LoneBinding<V> {
+        match bound_at(&self.bound, module, name) {
             Some(bound) => bound.lone(),
-            None => None,
+            None => LoneBinding::Nothing,
         }
     }
 
     fn module_at(&self, module: ModuleId, name: Name) -> Option<ModuleId> {
-        match self.bound.get(&Placed {
-            at: module,
-            key: name,
-        }) {
+        match bound_at(&self.bound, module, name) {
             Some(bound) => bound.module(),
             None => None,
         }
@@ -281,11 +283,11 @@ impl<V: Copy> BindingTable for NumberedTable<V> {
             key: name,
         };
         if let Some(bound) = self.bound.get_mut(&placed) {
-            return bound.set(alloc, ns, binding);
+            return bound.set(alloc, ns, &binding);
         }
         self.bound.reserve(1)?;
         self.names.push(module, name)?;
-        self.bound.insert(placed, BoundName::of(ns, binding))?;
+        self.bound.insert(placed, BoundName::of(ns, &binding))?;
         Ok(())
     }
 
@@ -293,16 +295,14 @@ impl<V: Copy> BindingTable for NumberedTable<V> {
         &mut self,
         module: ModuleId,
         slot: Slot,
-        def: Def,
-        vis: V,
-        import: Option<ImportOrExternCrate>,
+        binding: &Binding<V>,
     ) -> Result<Option<Binding<V>>, AllocError> {
         match slot {
-            Slot::Named(name, ns) => self.bind_name(module, name, ns, Binding { def, vis, import }),
+            Slot::Named(name, ns) => self.bind_name(module, name, ns, binding),
             Slot::Unnamed(item) => match self.unnamed_vis(module, item) {
                 Some(there) => Ok(Some(as_binding(item, there))),
                 None => {
-                    self.set_unnamed(module, item, vis)?;
+                    self.set_unnamed(module, item, binding.vis)?;
                     Ok(None)
                 }
             },

@@ -42,7 +42,7 @@ fn put_entry<T: BindingTable, O: VisOrder<Vis = T::Vis>>(
         vis: entry.vis,
         import: entry.origin,
     };
-    if put_at(table, order, module, slot, offer)? {
+    if put_at(table, order, module, slot, &offer)? {
         return Ok(Some(slot));
     }
     Ok(None)

@@ -9,7 +9,7 @@ use Rattle.numbered_table.proofs.bound_name.BoundName.set.Goals as goal
 pub returns-clause-done : goal.returns-clause-done
 returns-clause-done g c =
     let s = c.args.self.now in
-    let b = Some c.args.binding in
+    let b = Some c.args.binding.now in
     OnOk_then c.keep.result c.keep.ensures.done (λ kept.
     let others = kept ∙ ap bound_in c.with.ensures ∙ bound_in-with c.all_beside-bindings.result c.args.ns b ∙ ap (λ f. with_namespace f c.args.ns b) c.all_beside-bindings.ensures in
     ap (λ f k. cond (is_namespace s.ns k) (Some s.binding) (f k)) others ∙ stands-beside s.ns (Some s.binding) (beside s.others) c.args.ns b (sym c.is_same.ensures ∙ c.if-is_same.false))

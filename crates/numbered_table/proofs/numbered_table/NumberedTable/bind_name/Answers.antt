@@ -17,7 +17,7 @@ invariant_of-self-in-Occupied g c =
     let there = sym c.in_ok-there.ensures.value ∙ ap entry_value c.in-Occupied.is ∙ c.into_mut.ensures.value in
     let after = ((subst (λ e. IsEntryFor (is_placed is_name) t.bound (placed_at c.args.module c.args.name) e) c.in-Occupied.is c.in_ok-there.ensures.update).0 c.bind_beside.new.bound).0 in
     let m = map_with_value (Occupied c.in-Occupied.there) c.bind_beside.new.bound in
-    record { tied = tied-same _ _ _ _ (bindings-same m (with_entries t.bound _) (search rules)) refl (tied-beside t.bound m (lists_of t.names) t.tied c.args.module c.args.name c.into_mut.result.now c.bind_beside.new.bound there after c.args.ns c.args.binding c.bind_beside.result c.bind_beside.ensures.done c.bind_beside.ensures.refused) }
+    record { tied = tied-same _ _ _ _ (bindings-same m (with_entries t.bound _) (search rules)) refl (tied-beside t.bound m (lists_of t.names) t.tied c.args.module c.args.name c.into_mut.result.now c.bind_beside.new.bound there after c.args.ns c.args.binding.now c.bind_beside.result c.bind_beside.ensures.done c.bind_beside.ensures.refused) }
 
 pub invariant_of-self-in-Break-branch-3 : goal.invariant_of-self-in-Break-branch-3
 unfolding content_of
@@ -32,8 +32,8 @@ invariant_of-self-in-Vacant g c =
     let none = sym c.in_ok-there.ensures.value ∙ ap entry_value c.in-Vacant.is in
     let after = ((subst (λ e. IsEntryFor (is_placed is_name) t.bound (placed_at c.args.module c.args.name) e) c.in-Vacant.is c.in_ok-there.ensures.update).0 c.of.result).0 in
     let m = map_with_value (Vacant c.in-Vacant.free) c.of.result in
-    let bindings = bindings-same m (with_entries t.bound _) (search rules) ∙ bindings-begun t.bound t.bound m c.args.module c.args.name c.args.ns c.args.binding c.of.result refl none after c.of.ensures in
-    record { tied = (numbered-new _ _ (lists_of t.names) t.tied c.args.module c.args.name c.args.ns c.args.binding (lists_of c.push.new.self) bindings (bound-nowhere t.bound c.args.module c.args.name none) c.in_ok-push-in-Vacant.ensures.done).1 }
+    let bindings = bindings-same m (with_entries t.bound _) (search rules) ∙ bindings-begun t.bound t.bound m c.args.module c.args.name c.args.ns c.args.binding.now c.of.result refl none after c.of.ensures in
+    record { tied = (numbered-new _ _ (lists_of t.names) t.tied c.args.module c.args.name c.args.ns c.args.binding.now (lists_of c.push.new.self) bindings (bound-nowhere t.bound c.args.module c.args.name none) c.in_ok-push-in-Vacant.ensures.done).1 }
 
 pub returns-in-Occupied-clause-done : goal.returns-in-Occupied-clause-done
 unfolding content_of
@@ -43,7 +43,7 @@ returns-in-Occupied-clause-done g c =
     let after = ((subst (λ e. IsEntryFor (is_placed is_name) t.bound (placed_at c.args.module c.args.name) e) c.in-Occupied.is c.in_ok-there.ensures.update).0 c.bind_beside.new.bound).0 in
     let m = map_with_value (Occupied c.in-Occupied.there) c.bind_beside.new.bound in
     IfOk_both c.bind_beside.result c.bind_beside.ensures.there c.bind_beside.ensures.done (λ held is now.
-    let put = bound-beside t.bound m (lists_of t.names) t.tied c.args.module c.args.name c.into_mut.result.now c.bind_beside.new.bound there after c.args.ns (content_of t) c.args.binding held is now in
+    let put = bound-beside t.bound m (lists_of t.names) t.tied c.args.module c.args.name c.into_mut.result.now c.bind_beside.new.bound there after c.args.ns (content_of t) c.args.binding.now held is now in
     (put.0, content-parts (content_of t) _ _ _ _ (bindings-same m (with_entries t.bound _) (search rules)) refl ∙ put.1))
 
 pub returns-in-Occupied-clause-refused : goal.returns-in-Occupied-clause-refused
@@ -63,6 +63,6 @@ returns-in_ok-push-in-Vacant-clause-done g c =
     let none = sym c.in_ok-there.ensures.value ∙ ap entry_value c.in-Vacant.is in
     let after = ((subst (λ e. IsEntryFor (is_placed is_name) t.bound (placed_at c.args.module c.args.name) e) c.in-Vacant.is c.in_ok-there.ensures.update).0 c.of.result).0 in
     let m = map_with_value (Vacant c.in-Vacant.free) c.of.result in
-    let bindings = bindings-same m (with_entries t.bound _) (search rules) ∙ bindings-begun t.bound t.bound m c.args.module c.args.name c.args.ns c.args.binding c.of.result refl none after c.of.ensures in
-    let names = numbered-new _ _ (lists_of t.names) t.tied c.args.module c.args.name c.args.ns c.args.binding (lists_of c.push.new.self) bindings (bound-nowhere t.bound c.args.module c.args.name none) c.in_ok-push-in-Vacant.ensures.done in
+    let bindings = bindings-same m (with_entries t.bound _) (search rules) ∙ bindings-begun t.bound t.bound m c.args.module c.args.name c.args.ns c.args.binding.now c.of.result refl none after c.of.ensures in
+    let names = numbered-new _ _ (lists_of t.names) t.tied c.args.module c.args.name c.args.ns c.args.binding.now (lists_of c.push.new.self) bindings (bound-nowhere t.bound c.args.module c.args.name none) c.in_ok-push-in-Vacant.ensures.done in
     (held-nowhere t.bound c.args.module c.args.name c.args.ns none, content-parts (content_of t) _ _ _ _ bindings names.0)

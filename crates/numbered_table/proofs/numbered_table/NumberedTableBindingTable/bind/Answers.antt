@@ -1,7 +1,7 @@
 use Rattle.std.proofs.Common.{◌≡◌, None, Some, ap, subst, sym, ◌∙◌}
 use Rattle.std.specs.Prelude.{IfOk, option_map}
 use Rattle.numbered_table.specs.NumberedTable.{content_of}
-use Rattle.def_bindings.specs.Puts.{bound_to, held, if_vacant, unnamed_binding, written}
+use Rattle.def_bindings.specs.Puts.{held, if_vacant, unnamed_binding, written}
 use Rattle.numbered_table.proofs.numbered_table.NumberedTableBindingTable.bind.Goals as goal
 
 pub returns-in-Named-clause-done : goal.returns-in-Named-clause-done
@@ -10,7 +10,7 @@ returns-in-Named-clause-done g c =
     let before = content_of c.args.self.now in
     let after = content_of c.bind_name.new.self in
     let m = c.args.module in
-    let b = bound_to c.args.def c.args.vis c.args.import in
+    let b = c.args.binding.now in
     subst (λ slot. IfOk c.bind_name.result (λ there. (there ≡ held before m slot) × (after ≡ written before m slot (if_vacant there b)))) (sym c.in-Named.is) c.bind_name.ensures.done
 
 pub returns-in_ok-set_unnamed-in-None-clause-done : goal.returns-in_ok-set_unnamed-in-None-clause-done
@@ -19,6 +19,6 @@ returns-in_ok-set_unnamed-in-None-clause-done g c =
     let before = content_of c.args.self.now in
     let after = content_of c.set_unnamed.new.self in
     let m = c.args.module in
-    let b = bound_to c.args.def c.args.vis c.args.import in
+    let b = c.args.binding.now in
     subst (λ slot. (None ≡ held before m slot) × (after ≡ written before m slot (Some b))) (sym c.in-Unnamed.is)
     (ap (option_map (unnamed_binding c.in-Unnamed.item)) (sym c.in-None.is ∙ c.unnamed_vis.ensures), c.in_ok-set_unnamed-in-None.ensures.done)

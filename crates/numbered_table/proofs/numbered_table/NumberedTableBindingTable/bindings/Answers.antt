@@ -8,10 +8,10 @@ use Rattle.numbered_table.proofs.numbered_table.NumberedTableBindingTable.bindin
 
 pub returns-in-Some : goal.returns-in-Some
 unfolding content_of
-returns-in-Some g c = c.all.ensures ∙ ap (λ o n. option_and_then (λ s. stands_for s n) o) c.in-Some.ensures.value
+returns-in-Some g c = c.all.ensures ∙ ap (λ o n. option_and_then (λ s. stands_for s n) o) c.in-Some.ensures
 
 pub returns-in-None : goal.returns-in-None
 unfolding content_of
 returns-in-None g c =
     ap bound_in c.unbound.ensures ∙ bound_in-unbound
-    ∙ ap (λ o n. option_and_then (λ s. stands_for s n) o) c.in-None.ensures.value
+    ∙ ap (λ o n. option_and_then (λ s. stands_for s n) o) c.in-None.ensures

@@ -7,7 +7,7 @@ use Rattle.def_sources.specs.Asking.{question_in, map_in}
 use Rattle.def_sources.specs.PerNs.{in_types, per_namespace}
 use Rattle.def_sources.specs.Sources.{scope_source}
 use Rattle.def_paths.proofs.AnswersLemmas.{is-module, plain-longer, prefix-some}
-use Rattle.def_paths.proofs.answers.plain_scope.Goals as goal
+use Rattle.def_paths.proofs.short.plain_scope.Goals as goal
 
 pub returns-in_ok-first-in-len1-up : goal.returns-in_ok-first-in-len1-up
 returns-in_ok-first-in-len1-up g c =

@@ -5,7 +5,7 @@ use Rattle.def_sources.specs.Asking.{question_in, map_in}
 use Rattle.def_sources.specs.PerNs.{per_namespace}
 use Rattle.def_sources.specs.Sources.{scope_source}
 use Rattle.def_paths.proofs.AnswersLemmas.{plain-in}
-use Rattle.def_paths.proofs.answers.scope_of.Goals as goal
+use Rattle.def_paths.proofs.short.scope_of.Goals as goal
 
 pub returns-in-Plain : goal.returns-in-Plain
 returns-in-Plain g c =

@@ -3,7 +3,7 @@ use Rattle.def_ids.specs.declared.ids.Def.TheVariants.{Module}
 use Rattle.def_paths.specs.Answers.{walk}
 use Rattle.def_sources.specs.PerNs.{Item, in_types}
 use Rattle.def_sources.specs.Asking.{question_in, map_in}
-use Rattle.def_paths.proofs.answers.scope_reached.Given as goal
+use Rattle.def_paths.proofs.short.scope_reached.Given as goal
 
 -- what is left leads on from the module that was reached, whichever items the modules stand in
 abbrev pub invariant-segments : goal.invariant-segments

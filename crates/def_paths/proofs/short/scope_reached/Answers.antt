@@ -6,7 +6,7 @@ use Rattle.def_sources.specs.Asking.{question_in, map_in}
 use Rattle.def_sources.specs.PerNs.{Item, in_types, per_namespace}
 use Rattle.def_sources.specs.Sources.{scope_source}
 use Rattle.def_paths.proofs.AnswersLemmas.{module-begin, module-last, module-next}
-use Rattle.def_paths.proofs.answers.scope_reached.Goals as goal
+use Rattle.def_paths.proofs.short.scope_reached.Goals as goal
 
 pub segments-init : goal.segments-init
 segments-init g c item from k stands begins =
