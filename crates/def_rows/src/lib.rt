@@ -1,4 +1,5 @@
-//! Worked rows over scripted crates: items of each kind, files and paths, globs, blocks and dependencies.
+//! Tests over scripted crates: what they collect that no line shows, what the program prints, and the
+//! examples of use.
 #![tactic(auto)]
 
 #[cfg(test)]

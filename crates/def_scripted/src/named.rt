@@ -176,14 +176,14 @@ static VECTORS: [Vector; 19] = [
 ];
 
 /// All vectors, in byte order of their names.
-pub fn vectors() -> &'static [Vector]
+pub fn vectors() -> &'static [Vector<'static>]
     ensures { map (λ v. v.name.now) result.now ≡ vector_names }
 {
     VECTORS.as_slice()
 }
 
 /// The first of some vectors that has this name.
-fn first_named(vectors: &'static [Vector], name: &str) -> Option<&'static Vector>
+fn first_named(vectors: &'static [Vector<'static>], name: &str) -> Option<&'static Vector<'static>>
     ensures { is_some result ≡ list_any (λ v. bytes_eq v.name.now name.now) vectors.now }
 {
     for vector in vectors {
@@ -195,7 +195,7 @@ fn first_named(vectors: &'static [Vector], name: &str) -> Option<&'static Vector
 }
 
 /// The vector of a name.
-pub fn find(name: &str) -> Option<&'static Vector>
+pub fn find(name: &str) -> Option<&'static Vector<'static>>
     ensures { is_some result ≡ is_vector name.now }
 {
     first_named(vectors(), name)

@@ -116,11 +116,7 @@ impl Workspace {
     }
 
     /// Adds the paths that lead from a file to others.
-    fn add_paths(
-        &mut self,
-        from: FileId,
-        paths: &[(&'static str, usize)],
-    ) -> Result<(), AllocError> {
+    fn add_paths(&mut self, from: FileId, paths: &[(&str, usize)]) -> Result<(), AllocError> {
         for (path, number) in paths {
             self.db.add_path(from, path, FileId(*number))?;
         }
@@ -274,7 +270,7 @@ fn tree_id(file: FileId) -> TreeId
 }
 
 /// The call at a place of a row whose first has this number.
-fn call_at(first: usize, chain: &ChainText, place: usize) -> CallText {
+fn call_at<'a>(first: usize, chain: &ChainText<'a>, place: usize) -> CallText<'a> {
     let mut call = chain.first;
     if let Some(before) = place.checked_sub(1) {
         call.file = HirFileId::Macro(MacroCallId(first.saturating_add(before)));

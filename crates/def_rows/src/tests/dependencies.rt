@@ -1,65 +1,13 @@
-//! Crates that others depend on, and preludes.
+//! Preludes, by the edition of a crate and by what its root file says.
 #![tactic(auto)]
 
-use crate::tests::rows::{Row, collect_last, expect_rows};
+use crate::tests::shared::collect_last;
 use def_ids::Edition;
 use def_map::LangCrate;
 use def_workspace::{ALONE, CrateText, DependencyText, Fault, Vector, Workspace, print};
 use item_tree::Crate;
 use std::alloc::Global;
 use std::process::Abort;
-
-/// Crate 1 on its own, and crate 0 over it under the name `d`.
-const OVER_D: &[CrateText] = &[
-    CrateText {
-        krate: 1,
-        edition: Edition::Edition2021,
-        root_file: 1,
-        deps: &[],
-    },
-    CrateText {
-        krate: 0,
-        edition: Edition::Edition2021,
-        root_file: 0,
-        deps: &[DependencyText {
-            name: "d",
-            krate: 1,
-            prelude: true,
-            sysroot: false,
-        }],
-    },
-];
-
-const PUBLIC_AND_PRIVATE: &[&str] = &["use d::P; use d::Q;", "pub struct P; struct Q;"];
-
-/// Two crates of one name, of which the second is not in the prelude.
-const TWICE_D: &[CrateText] = &[
-    CrateText {
-        krate: 1,
-        edition: Edition::Edition2021,
-        root_file: 1,
-        deps: &[],
-    },
-    CrateText {
-        krate: 0,
-        edition: Edition::Edition2021,
-        root_file: 0,
-        deps: &[
-            DependencyText {
-                name: "d",
-                krate: 1,
-                prelude: true,
-                sysroot: false,
-            },
-            DependencyText {
-                name: "d",
-                krate: 1,
-                prelude: false,
-                sysroot: false,
-            },
-        ],
-    },
-];
 
 /// The crate of the prelude of an edition.
 const RUST_2015: &str = "pub mod prelude { pub mod rust_2015 { pub struct O; } }";
@@ -108,69 +56,11 @@ const OVER_STD_IN_2015: &[CrateText] = &[
     },
 ];
 
-static ROWS: [Row; 4] = [
-    (
-        Vector {
-            name: "what is public is taken from another crate",
-            files: PUBLIC_AND_PRIVATE,
-            crates: OVER_D,
-            ..ALONE
-        },
-        "module 0 - crate
-binding 0 P types struct:0 in:0 import:0.0
-binding 0 P values struct:0 in:0 import:0.0
-",
-    ),
-    (
-        Vector {
-            name: "a later dependency takes the place of an earlier one",
-            files: PUBLIC_AND_PRIVATE,
-            crates: TWICE_D,
-            ..ALONE
-        },
-        "module 0 - crate
-diag unresolved-import 0 0:0 0
-diag unresolved-import 0 0:1 0
-left import 0 d::P
-left import 0 d::Q
-",
-    ),
-    (
-        Vector {
-            name: "the prelude is seen everywhere",
-            files: &["use O as P;", RUST_2021],
-            crates: OVER_STD,
-            ..ALONE
-        },
-        "module 0 - crate
-binding 0 P types struct:0 in:0 import:0.0
-binding 0 P values struct:0 in:0 import:0.0
-",
-    ),
-    (
-        Vector {
-            name: "a crate without core has no prelude",
-            files: &["#![no_core] use O as P;", RUST_2021],
-            crates: OVER_STD,
-            ..ALONE
-        },
-        "module 0 - crate
-diag unresolved-import 0 0:0 0
-left import 0 O
-",
-    ),
-];
-
-#[test]
-fn names_and_preludes_of_other_crates_are_seen(rt: HostRuntime) -> Result<(), Fault> {
-    expect_rows(&rt, rt.alloc(), &ROWS)
-}
-
 /// The module of the prelude of the last crate, with its crate.
 fn prelude_of(
     alloc: Global,
     files: &'static [&'static str],
-    crates: &'static [CrateText],
+    crates: &'static [CrateText<'static>],
 ) -> Result<Option<(usize, usize)>, Fault> {
     let vector = Vector {
         files,

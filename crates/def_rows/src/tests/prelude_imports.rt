@@ -2,7 +2,7 @@
 //! the prelude.
 #![tactic(auto)]
 
-use crate::tests::rows::collect_last;
+use crate::tests::shared::collect_last;
 use def_ids::Edition;
 use def_workspace::{ALONE, CrateText, DependencyText, Fault, Vector, Workspace, print};
 use std::alloc::Global;

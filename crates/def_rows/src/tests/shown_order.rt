@@ -1,6 +1,6 @@
 //! The order of the maps that are shown: that in which their keys were first given.
 
-use crate::tests::rows::collect_last;
+use crate::tests::shared::collect_last;
 use def_ids::{Edition, MacroId, MacroRulesId};
 use def_map::{
     DefMap, DeriveKey, DeriveMacroInvocation, MapData, ModuleData, ModuleOrigin, Position,
@@ -93,7 +93,11 @@ fn may_begin(workspace: &Workspace, collected: &Collected, names: &[&str]) -> bo
 }
 
 /// Whether the paths of a crate may begin with these names, in order.
-fn is_prelude(alloc: Global, crates: &'static [CrateText], names: &[&str]) -> Result<bool, Fault> {
+fn is_prelude(
+    alloc: Global,
+    crates: &'static [CrateText<'static>],
+    names: &[&str],
+) -> Result<bool, Fault> {
     let vector = Vector { crates, ..ALONE };
     let mut workspace = Workspace::new(alloc, &vector)?;
     let collected = collect_last(&mut workspace, crates)?;

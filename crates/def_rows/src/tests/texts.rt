@@ -1,88 +1,11 @@
-//! How the texts of scripted files are read: shapes that few rows have, and texts that are none.
+//! How the texts of scripted files are read: macro calls, and texts that are none.
 #![tactic(auto)]
 
-use crate::tests::rows::{Row, expect_rows};
 use def_interner::Interner;
-use def_workspace::{ALONE, Fault, ReadFault, Vector, read};
+use def_workspace::{Fault, ReadFault, read};
 use item_tree::{FileAstId, ItemTree, ModItemKind, PathKind};
 use std::alloc::{AllocError, Global};
 use std::process::Abort;
-
-static ROWS: [Row; 3] = [
-    (
-        Vector {
-            name: "imports in braces are numbered by their places",
-            files: &[
-                "mod s { pub mod t { pub struct X {} } pub struct Y {} pub struct Z {} }
-                use s::{self as u, Y, t::*,}; use {s::Y as V, crate::s::Z};",
-            ],
-            ..ALONE
-        },
-        "module 0 - crate
-module 1 0 s
-module 2 1 t
-binding 0 V types struct:1 in:0 import:1.0
-binding 0 X types struct:0 in:0 glob:0.2
-binding 0 Y types struct:1 in:0 import:0.1
-binding 0 Z types struct:2 in:0 import:1.1
-binding 0 s types mod:1 in:0 decl
-binding 0 u types mod:1 in:0 import:0.0
-binding 1 Y types struct:1 pub decl
-binding 1 Z types struct:2 pub decl
-binding 1 t types mod:2 pub decl
-binding 2 X types struct:0 pub decl
-edge 2 0 in:0 0.2
-",
-    ),
-    (
-        Vector {
-            name: "paths go up by each word",
-            files: &[
-                "pub struct S {} mod a { mod b {
-                    use super::super::S as T; use self::super::super::S as U; use super::*;
-                } }",
-            ],
-            ..ALONE
-        },
-        "module 0 - crate
-module 1 0 a
-module 2 1 b
-binding 0 S types struct:0 pub decl
-binding 0 a types mod:1 in:0 decl
-binding 1 b types mod:2 in:1 decl
-binding 2 T types struct:0 in:2 import:0.0
-binding 2 U types struct:0 in:2 import:1.0
-binding 2 b types mod:2 in:2 glob:2.0
-edge 1 2 in:2 2.0
-",
-    ),
-    (
-        Vector {
-            name: "bodies are passed, and what is written before an item belongs to it",
-            files: &[
-                "#[a] #[b(c, d)] #[cfg(2)] pub(super) fn f() { g(); }
-                mod m { pub(super) struct A {} pub(self) union B { x: u8 } pub(in super) enum C {} }
-                impl m::A { fn h() { if a { b } } } const D: [u8; 2] = [0; 2]; trait E { fn i(); }",
-            ],
-            ..ALONE
-        },
-        "module 0 - crate
-module 1 0 m
-binding 0 D values const:0 in:0 decl
-binding 0 E types trait:0 in:0 decl
-binding 0 m types mod:1 in:0 decl
-binding 1 A types struct:0 in:0 decl
-binding 1 B types union:0 in:1 decl
-binding 1 C types enum:0 in:0 decl
-diag unconfigured 0 0:0 2
-",
-    ),
-];
-
-#[test]
-fn texts_are_read_as_their_items(rt: HostRuntime) -> Result<(), Fault> {
-    expect_rows(&rt, rt.alloc(), &ROWS)
-}
 
 /// The macro calls at the top of a text: the number of each, where its path begins, and how many
 /// segments that has.
