@@ -31,14 +31,18 @@ fn is_as_said(workspace: &mut Workspace) -> Result<bool, Fault> {
     Ok(has_said(&collected.def_map, feature, other))
 }
 
+/// Whether the crate of a vector is what its root file says.
+fn says_what_is(alloc: Global, vector: &Vector) -> Result<bool, Fault> {
+    let mut workspace = Workspace::new(alloc, vector)?;
+    is_as_said(&mut workspace)
+}
+
 #[test]
 fn a_root_file_says_what_its_crate_is(rt: HostRuntime) -> Result<(), Fault> {
     let Some(vector) = find("attrs") else {
-        assert!(rt; false);
-        return Ok(());
+        panic!(rt; "no vector");
     };
-    let mut workspace = Workspace::new(rt.alloc(), vector)?;
-    assert!(rt; is_as_said(&mut workspace)?);
+    assert!(rt; says_what_is(rt.alloc(), vector)?);
     expect_lines(&rt, rt.alloc(), vector, "module 0 - crate\n")
 }
 
@@ -93,11 +97,16 @@ fn is_read(workspace: &mut Workspace) -> Result<bool, Fault> {
     Ok(has_read(&collected.def_map, tool))
 }
 
+/// Whether the file of a vector, which is disabled, was read.
+fn reads_file(alloc: Global, vector: &Vector) -> Result<bool, Fault> {
+    let mut workspace = Workspace::new(alloc, vector)?;
+    is_read(&mut workspace)
+}
+
 #[test]
 fn a_disabled_root_file_is_read_too(rt: HostRuntime) -> Result<(), Fault> {
     let vector = of_file(&DISABLED);
-    let mut workspace = Workspace::new(rt.alloc(), &vector)?;
-    assert!(rt; is_read(&mut workspace)?);
+    assert!(rt; reads_file(rt.alloc(), &vector)?);
     let text = "module 0 - crate\ndiag unconfigured 0 0:0 7\n";
     expect_lines(&rt, rt.alloc(), &vector, text)
 }

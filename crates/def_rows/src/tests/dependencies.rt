@@ -1,10 +1,10 @@
 //! Preludes, by the edition of a crate and by what its root file says.
 #![tactic(auto)]
 
-use crate::tests::shared::collect_last;
+use crate::tests::shared::{collect_last, print_last};
 use def_ids::Edition;
 use def_map::LangCrate;
-use def_workspace::{ALONE, CrateText, DependencyText, Fault, Vector, Workspace, print};
+use def_workspace::{ALONE, CrateText, DependencyText, Fault, Vector, Workspace};
 use item_tree::Crate;
 use std::alloc::Global;
 use std::process::Abort;
@@ -147,8 +147,8 @@ fn print_files(
     let mut workspace = Workspace::new(alloc, &vector)?;
     set_lang(&mut workspace, Crate(1), LangCrate::Std);
     set_lang(&mut workspace, Crate(2), LangCrate::Core);
-    let collected = collect_last(&mut workspace, &OVER_SYSROOT)?;
-    print(alloc, &workspace.session, &collected, lines)
+    let _ = print_last(alloc, &mut workspace, &OVER_SYSROOT, lines)?;
+    Ok(())
 }
 
 /// Files, and the lines of their crate over `std` and `core` of the compiler.

@@ -1,7 +1,7 @@
 //! The fast path: builtin derives that give impls, and what becomes of those whose item is replaced.
 #![tactic(auto)]
 
-use crate::tests::shared::{ITEM, OVER_D, expect_lines};
+use crate::tests::shared::{ITEM, OVER_D, collect_last, expect_lines};
 use def_ids::{BuiltinDeriveImplId, Macro2Id, MacroId};
 use def_locs::BuiltinAttr;
 use def_map::{DeriveCall, ItemScope, Position};
@@ -56,16 +56,10 @@ fn places_of(alloc: Global, scope: ItemScope<'_>) -> Result<Vec<Place>, AllocErr
     Ok(places)
 }
 
-/// What is collected of the last crate of a vector, if it has crates.
-fn collect_last(alloc: Global, vector: &Vector) -> Result<Option<Collected>, Fault> {
+/// What is collected of the last crate of a vector.
+fn collected_of(alloc: Global, vector: &Vector) -> Result<Collected, Fault> {
     let mut workspace = Workspace::new(alloc, vector)?;
-    let Some((last, others)) = vector.crates.split_last() else {
-        return Ok(None);
-    };
-    for krate in others {
-        workspace.collect_dependency(krate)?;
-    }
-    Ok(Some(workspace.collect(last)?))
+    collect_last(&mut workspace, vector.crates)
 }
 
 /// Looks at a module.
@@ -90,9 +84,7 @@ fn expect_given(rt: &impl Abort, alloc: Global, rows: &[Given]) -> Result<(), Fa
     for (vector, lines, modules) in rows {
         expect_lines(rt, alloc, vector, lines)?;
         let name = vector.name;
-        let Some(collected) = collect_last(alloc, vector)? else {
-            panic!(rt; "no crate of {name}");
-        };
+        let collected = collected_of(alloc, vector)?;
         let def_map = &collected.def_map;
         assert_eq!(rt; def_map.modules().len(), modules.len(), "{name}");
         for (index, module) in modules.iter().enumerate() {
@@ -650,9 +642,7 @@ fn helpers_name_impls(rt: HostRuntime) -> Result<(), Fault> {
     for (given, helpers) in &HELPERS {
         expect_given(&rt, rt.alloc(), &[*given])?;
         let name = given.0.name;
-        let Some(collected) = collect_last(rt.alloc(), &given.0)? else {
-            panic!(&rt; "no crate of {name}");
-        };
+        let collected = collected_of(rt.alloc(), &given.0)?;
         assert_eq!(rt;
             helped_by(rt.alloc(), &collected)?.as_slice(),
             *helpers,

@@ -1,8 +1,9 @@
 //! Names that come with the expansion of a call that waits.
 #![tactic(auto)]
 
+use crate::tests::shared::collect_last;
 use def_ids::{Def, GlobId, MapId, ModuleId, UseId};
-use def_workspace::{Fault, Workspace, find, show};
+use def_workspace::{Collected, Fault, Vector, Workspace, find, show};
 use item_tree::Crate;
 use std::alloc::Global;
 use std::io::Write;
@@ -54,22 +55,21 @@ fn a_late_name_goes_through_a_chain(rt: HostRuntime) -> Result<(), Fault> {
     Ok(())
 }
 
-/// Whether a glob of the vector has these modules as its targets.
-fn has_targets(alloc: Global, name: &str, glob: GlobId, want: &[Def]) -> Result<bool, Fault> {
-    let Some(vector) = find(name) else {
-        return Ok(false);
-    };
-    let Some(krate) = vector.crates.last() else {
-        return Ok(false);
-    };
-    let mut workspace = Workspace::new(alloc, vector)?;
-    let collected = workspace.collect(krate)?;
+/// Whether a glob has these modules as its targets.
+fn has_targets(collected: &Collected, glob: GlobId, want: &[Def]) -> bool {
     for (of, targets) in &collected.outcome.targets {
         if *of == glob {
-            return Ok(targets.as_slice() == want);
+            return targets.as_slice() == want;
         }
     }
-    Ok(false)
+    false
+}
+
+/// Whether a glob of the last crate of a vector has these modules as its targets.
+fn leads_to(alloc: Global, vector: &Vector, glob: GlobId, want: &[Def]) -> Result<bool, Fault> {
+    let mut workspace = Workspace::new(alloc, vector)?;
+    let collected = collect_last(&mut workspace, vector.crates)?;
+    Ok(has_targets(&collected, glob, want))
 }
 
 #[test]
@@ -79,6 +79,9 @@ fn a_glob_may_have_two_targets(rt: HostRuntime) -> Result<(), Fault> {
         idx: 0,
     };
     let want = [module(2), module(4)];
-    assert!(rt; has_targets(rt.alloc(), "targets", glob, &want)?);
+    let Some(vector) = find("targets") else {
+        panic!(rt; "no vector");
+    };
+    assert!(rt; leads_to(rt.alloc(), vector, glob, &want)?);
     Ok(())
 }

@@ -21,14 +21,19 @@ fn end_of(collected: &Collected) -> End {
     )
 }
 
+/// How the run over a workspace's crate ends, and how many diagnostics it has.
+fn end_of_run(workspace: &mut Workspace) -> Result<(End, usize), Fault> {
+    let collected = workspace.collect(&ALONE.crates[0])?;
+    Ok((end_of(&collected), collected.diagnostics.len()))
+}
+
 /// How the run over a vector ends, and how many diagnostics it has.
 fn end_of_vector(alloc: Global, name: &str) -> Result<Option<(End, usize)>, Fault> {
     let Some(vector) = find(name) else {
         return Ok(None);
     };
     let mut workspace = Workspace::new(alloc, vector)?;
-    let collected = workspace.collect(&ALONE.crates[0])?;
-    Ok(Some((end_of(&collected), collected.diagnostics.len())))
+    Ok(Some(end_of_run(&mut workspace)?))
 }
 
 /// The call of each round but the last brings one that is given a call in the next.

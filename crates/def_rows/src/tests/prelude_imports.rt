@@ -2,9 +2,9 @@
 //! the prelude.
 #![tactic(auto)]
 
-use crate::tests::shared::collect_last;
+use crate::tests::shared::print_last;
 use def_ids::Edition;
-use def_workspace::{ALONE, CrateText, DependencyText, Fault, Vector, Workspace, print};
+use def_workspace::{ALONE, CrateText, DependencyText, Fault, Vector, Workspace};
 use std::alloc::Global;
 use std::process::Abort;
 
@@ -41,9 +41,7 @@ fn print_files(
         ..ALONE
     };
     let mut workspace = Workspace::new(alloc, &vector)?;
-    let collected = collect_last(&mut workspace, &CRATES)?;
-    print(alloc, &workspace.session, &collected, lines)?;
-    Ok(collected.outcome.targets.len())
+    print_last(alloc, &mut workspace, &CRATES, lines)
 }
 
 /// What a row shows, its files, the lines of crate 0, and of how many globs it has targets.

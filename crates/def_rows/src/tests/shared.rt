@@ -2,7 +2,7 @@
 #![tactic(auto)]
 
 use def_ids::{Edition, Macro2Id, MacroId};
-use def_workspace::{Collected, CrateText, DependencyText, Fault, Vector, Workspace, show};
+use def_workspace::{Collected, CrateText, DependencyText, Fault, Vector, Workspace, print, show};
 use std::alloc::Global;
 use std::process::Abort;
 
@@ -42,6 +42,19 @@ pub fn expect_lines(
     show(alloc, vector, &mut lines)?;
     assert_eq!(rt; lines.as_slice(), want.as_bytes(), "{name}");
     Ok(())
+}
+
+/// Collects crates, each over those before it, and prints the lines of the last one. Answers of how
+/// many globs it has targets.
+pub fn print_last(
+    alloc: Global,
+    workspace: &mut Workspace,
+    crates: &[CrateText],
+    lines: &mut Vec<u8>,
+) -> Result<usize, Fault> {
+    let collected = collect_last(workspace, crates)?;
+    print(alloc, &workspace.session, &collected, lines)?;
+    Ok(collected.outcome.targets.len())
 }
 
 /// Collects crates, each over those before it, and gives what is collected of the last one.
