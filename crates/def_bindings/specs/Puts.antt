@@ -1,5 +1,5 @@
 -- What a place is bound to after something is put there, and copies along the edges of globs.
-use Rattle.std.specs.Prelude.{◌≡◌, cond, unwrap_or, option_map, Option, Some, None, List, [], ◌∷◌}
+use Rattle.std.specs.Prelude.{◌≡◌, Bool, cond, unwrap_or, option_map, Option, Some, None, List, [], ◌∷◌}
 use Rattle.tree_ids.specs.declared.name.Name.{Name}
 use Rattle.def_ids.specs.declared.ids.ModuleId.{ModuleId}
 use Rattle.def_ids.specs.declared.ids.TraitId.{TraitId}
@@ -81,9 +81,8 @@ written c m (Named name ns) (Some b) = with_binding c m name ns b
 written c m (Unnamed item) (Some b) = with_unnamed c m item b.vis
 
 -- a binding, where nothing is bound
-abbrev pub if_vacant : {V : Type 0} → Option (Binding V) → Binding V → Option (Binding V)
-if_vacant None b = Some b
-if_vacant (Some there) b = None
+abbrev pub if_vacant : {V : Type 0} → Bool → Binding V → Option (Binding V)
+if_vacant vacant b = cond vacant (Some b) None
 
 -- an offer is put at a place
 abbrev pub put : {V : Type 0} → Order V → Content V → ModuleId → Slot → Binding V → Content V

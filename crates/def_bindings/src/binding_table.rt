@@ -1,5 +1,5 @@
 //! Tables of bindings.
-ghost use Rattle.std.specs.Prelude.{◌≡◌, ◌<◌, ◌^◌, List, Some, length, slice_get, IfOk, IfSome, OnOk, OnErr};
+ghost use Rattle.std.specs.Prelude.{◌≡◌, ◌<◌, ◌^◌, List, is_none, length, slice_get, IfOk, IfSome, OnOk, OnErr};
 ghost use Rattle.def_ids.specs.declared.ids.ModuleId.{ModuleId};
 ghost use Rattle.def_bindings.specs.Content.{Content, with_binding, without_binding, with_unnamed, with_edge, vis_of, AreSources, AreTied};
 ghost use Rattle.def_bindings.specs.NameBindings.{bound_in, module_bound, said};
@@ -8,7 +8,6 @@ ghost use Rattle.def_bindings.specs.Puts.{edge_to, held, if_vacant, written};
 
 use crate::bindings::{Binding, EdgeTo, Namespace, Slot};
 use crate::name_bindings::{LoneBinding, NameBindings};
-use crate::puts::as_binding;
 use def_ids::{ModuleId, TraitId};
 use std::alloc::AllocError;
 use tree_ids::Name;
@@ -41,10 +40,10 @@ pub trait BindingTable {
 
     /// What a name stands for, in short where it can be said: in no namespace, or in one alone. A table
     /// may say nothing of any name.
-    fn lone(&self, module: ModuleId, name: Name) -> LoneBinding<Self::Vis>
+    fn lone(&self, module: ModuleId, name: Name) -> LoneBinding<'_, Self::Vis>
         ensures { IfSome (said result) (λ all. (content self.now).binding «module» name ≡ bound_in all) }
     {
-        self.bindings(module, name).lone()
+        LoneBinding::Unsaid
     }
 
     /// The module that a name is bound to in types, if it is bound to one.
@@ -109,35 +108,34 @@ pub trait BindingTable {
             ≡ with_binding (content self.old) «module» name ns binding) }
         ensures refused { OnErr result (content self.new ≡ content self.old) };
 
-    /// Binds a slot where nothing is bound, and answers what is bound there. A refused call changes
+    /// Binds a slot where nothing is bound, and answers whether it was vacant. A refused call changes
     /// nothing.
     fn bind(
         &mut self,
         module: ModuleId,
         slot: Slot,
         binding: &Binding<Self::Vis>,
-    ) -> Result<Option<Binding<Self::Vis>>, AllocError>
-        ensures done { IfOk result (λ there. let c = content self.old in
-            (there ≡ held c «module» slot)
-            × (content self.new ≡ written c «module» slot (if_vacant there binding.now))) }
+    ) -> Result<bool, AllocError>
+        ensures done { IfOk result (λ vacant. let c = content self.old in
+            (vacant ≡ is_none (held c «module» slot))
+            × (content self.new ≡ written c «module» slot (if_vacant vacant binding.now))) }
         ensures refused { OnErr result (content self.new ≡ content self.old) }
     {
         match slot {
             Slot::Named(name, ns) => {
-                let there = self.binding(module, name, ns);
-                if there.is_none() {
-                    self.set(module, name, ns, *binding)?;
+                if self.binding(module, name, ns).is_some() {
+                    return Ok(false);
                 }
-                Ok(there)
+                self.set(module, name, ns, *binding)?;
             }
-            Slot::Unnamed(item) => match self.unnamed_vis(module, item) {
-                Some(there) => Ok(Some(as_binding(item, there))),
-                None => {
-                    self.set_unnamed(module, item, binding.vis)?;
-                    Ok(None)
+            Slot::Unnamed(item) => {
+                if self.unnamed_vis(module, item).is_some() {
+                    return Ok(false);
                 }
-            },
+                self.set_unnamed(module, item, binding.vis)?;
+            }
         }
+        Ok(true)
     }
 
     fn remove(&mut self, module: ModuleId, name: Name, ns: Namespace)

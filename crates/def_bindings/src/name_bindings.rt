@@ -1,6 +1,6 @@
 //! The bindings of one name.
 ghost use Rattle.std.specs.Prelude.{◌≡◌, Some, None, IfSome, IfNone, option_copied};
-ghost use Rattle.def_bindings.specs.NameBindings.{bound_in, with_bound, said, unbound, is_unbound};
+ghost use Rattle.def_bindings.specs.NameBindings.{bound_in, with_bound, unbound, is_unbound};
 
 use crate::bindings::{Binding, Namespace};
 
@@ -14,11 +14,11 @@ pub struct NameBindings<V> {
 
 /// What is said in short of the bindings of one name. Most names have one binding, or none.
 #[derive(Clone, Copy)]
-pub enum LoneBinding<V> {
+pub enum LoneBinding<'a, V> {
     /// There is none.
     Nothing,
     /// There is one, in this namespace.
-    Lone(Namespace, Binding<V>),
+    Lone(Namespace, &'a Binding<V>),
     /// Nothing is said of them.
     Unsaid,
 }
@@ -80,19 +80,6 @@ impl<V: Copy> NameBindings<V> {
             (None, Some(values), _) => Some((Namespace::Values, values)),
             (None, None, Some(macros)) => Some((Namespace::Macros, macros)),
             (None, None, None) => None,
-        }
-    }
-
-    /// These in short: the one binding, where there is no other, or that there is none.
-    pub fn lone(&self) -> LoneBinding<V>
-        ensures { IfSome (said result) (λ all. self.now ≡ all) }
-    {
-        match (self.types, self.values, self.macros) {
-            (None, None, None) => LoneBinding::Nothing,
-            (Some(types), None, None) => LoneBinding::Lone(Namespace::Types, types),
-            (None, Some(values), None) => LoneBinding::Lone(Namespace::Values, values),
-            (None, None, Some(macros)) => LoneBinding::Lone(Namespace::Macros, macros),
-            _ => LoneBinding::Unsaid,
         }
     }
 

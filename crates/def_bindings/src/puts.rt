@@ -62,7 +62,7 @@ fn glob(import: Option<ImportOrExternCrate>) -> Option<GlobId>
 }
 
 /// An unnamed trait as a binding: by a glob, so that its visibility can rise.
-pub fn as_binding<V: Copy>(item: TraitId, vis: V) -> Binding<V>
+fn as_binding<V: Copy>(item: TraitId, vis: V) -> Binding<V>
     ensures { result ≡ unnamed_binding item vis }
 {
     Binding {
@@ -120,23 +120,27 @@ pub fn fit<V: Copy>(slot: Slot, binding: Binding<V>) -> Binding<V>
     }
 }
 
-/// Puts an offer where something is bound, and answers whether that changed it. A refused call changes
-/// nothing. It stands apart, since most places are vacant.
+/// Puts an offer where something may be bound, and answers whether that changed it. A refused call
+/// changes nothing. It stands apart, since most places are vacant.
 #[inline(never)]
 fn put_over<T: BindingTable, O: VisOrder<Vis = T::Vis>>(
     table: &mut T,
     order: &O,
     module: ModuleId,
     slot: Slot,
-    there: &Binding<T::Vis>,
     offer: &Binding<T::Vis>,
 ) -> Result<bool, AllocError>
     ensures done { IfOk result (λ changed. let c = T.content table.old in
-        let settled = settled (O.order order.now) (Some there.now) (fitted slot offer.now) in
-        (changed ≡ is_some settled) × (T.content table.new ≡ written c «module» slot settled)) }
+        let o = O.order order.now in
+        (changed ≡ is_some (settled o (held c «module» slot) (fitted slot offer.now)))
+        × (T.content table.new ≡ put o c «module» slot offer.now)) }
     ensures refused { OnErr result (T.content table.new ≡ T.content table.old) }
 {
-    let settled = settle_over(order, *there, fit(slot, *offer));
+    let offer = fit(slot, *offer);
+    let settled = match held_at(table, module, slot) {
+        Some(there) => settle_over(order, there, offer),
+        None => Some(offer),
+    };
     write(table, module, slot, settled)
 }
 
@@ -154,10 +158,10 @@ pub fn put_at<T: BindingTable, O: VisOrder<Vis = T::Vis>>(
         × (T.content table.new ≡ put o c «module» slot offer.now)) }
     ensures refused { OnErr result (T.content table.new ≡ T.content table.old) }
 {
-    match table.bind(module, slot, offer)? {
-        Some(there) => put_over(table, order, module, slot, &there, offer),
-        None => Ok(true),
+    if table.bind(module, slot, offer)? {
+        return Ok(true);
     }
+    put_over(table, order, module, slot, offer)
 }
 
 /// Where an entry goes. One without a name is an unnamed trait where it is in types; in another

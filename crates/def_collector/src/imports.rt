@@ -109,6 +109,7 @@ pub fn try_import<'a, D: SourceDatabase>(
     match resolve_import_in_short(&collector.world(db, session), &directive.import) {
         LoneBinding::Nothing => Ok(false),
         LoneBinding::Lone(ns, item) => {
+            let item = *item;
             let answer = PathAnswer::Lone(ns, &item);
             record_ready(collector, db, session, import, &directive, &answer)
         }

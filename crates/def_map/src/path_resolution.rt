@@ -21,8 +21,9 @@ use def_modules::{LocalDefMap, MapData};
 use def_oracle::EnumVariant;
 use def_paths::{
     Asked, BuiltinShadowMode, MacroSubNs, PathDatabase, PerNs, ResolveMode, ResolvePathResult,
-    Table, World,
+    Table, World, resolve_path_scope,
 };
+use def_sources::bound_in_short;
 use item_tree::{ModPath, Name, RawVisibility};
 
 /// The finished map of a block or a crate.
@@ -87,24 +88,27 @@ pub fn resolve_path_fp_with_macro<D: SourceDatabase, T: BindingTable<Vis = Visib
 
 /// What a path means, asked from a module, in short where it can be said: nothing, or one item in one
 /// namespace, and then it leads through modules of its crate.
-pub fn resolve_path_in_short<D: SourceDatabase, T: BindingTable<Vis = Visibility>>(
-    world: &World<'_, D, T>,
+pub fn resolve_path_in_short<'a, D: SourceDatabase, T: BindingTable<Vis = Visibility>>(
+    world: &World<'a, D, T>,
     asked: Asked,
     original_module: ModuleId,
     path: &ModPath,
-) -> LoneBinding<Visibility>
+) -> LoneBinding<'a, Visibility>
     ensures { IfSome (said_in_short result) (λ found.
         resolve (world_lent D.oracle T.content world.now) asked original_module path.now ≡ reached found None false) }
 {
     let db = AskedByPaths { db: world.db };
-    let world = World {
+    let asked_by_paths = World {
         map: world.map,
         table: world.table,
         local: world.local,
         db: &db,
         session: world.session,
     };
-    def_paths::resolve_path_in_short(&world, asked, original_module, path)
+    match resolve_path_scope(&asked_by_paths, asked, original_module, path) {
+        Some((module, name)) => bound_in_short(world.table, module, name),
+        None => LoneBinding::Unsaid,
+    }
 }
 
 /// The module that a path gives, with no segment left.

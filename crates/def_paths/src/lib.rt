@@ -12,6 +12,6 @@ pub use def_sources::{
     bound, public_item,
 };
 pub use path_resolution::{
-    resolve_module, resolve_path_fp_with_macro, resolve_path_in_short, resolve_visibility,
+    resolve_module, resolve_path_fp_with_macro, resolve_path_scope, resolve_visibility,
 };
 pub use path_result::{PathAnswer, PrefixInfo, ReachedFixedPoint, ResolvePathResult};

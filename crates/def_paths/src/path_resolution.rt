@@ -3,16 +3,16 @@ ghost use Rattle.std.specs.Prelude.{IfSome, ◌≡◌, None, false};
 ghost use Rattle.def_sources.specs.Asking.{world_lent};
 ghost use Rattle.def_paths.specs.Paths.{resolve as meaning_of, resolve_visibility as visibility_of};
 ghost use Rattle.def_paths.specs.Answers.{reached};
-ghost use Rattle.def_sources.specs.PerNs.{said_in_short};
+ghost use Rattle.def_sources.specs.PerNs.{per_namespace};
 ghost use Rattle.def_paths.specs.Paths.{for_module, module_found, module_reached as module_reached_by};
 
 use crate::answers::resolve;
 use crate::path_result::ResolvePathResult;
-use crate::short::resolve_in_short;
-use def_bindings::{BindingTable, LoneBinding, Visibility};
+use crate::short::own_scope_of;
+use def_bindings::{BindingTable, Visibility};
 use def_ids::{Def, ModuleId};
 use def_sources::{Asked, Asking, PathDatabase, PerNs, World};
-use item_tree::{ModPath, RawVisibility};
+use item_tree::{ModPath, Name, RawVisibility};
 
 /// What a path means, asked from a module.
 pub fn resolve_path_fp_with_macro<D: PathDatabase, T: BindingTable<Vis = Visibility>>(
@@ -30,22 +30,22 @@ pub fn resolve_path_fp_with_macro<D: PathDatabase, T: BindingTable<Vis = Visibil
     resolve(&asking, original_module, path)
 }
 
-/// What a path means, asked from a module, in short where it can be said: nothing, or one item in one
-/// namespace, and then it leads through modules of its crate.
-pub fn resolve_path_in_short<D: PathDatabase, T: BindingTable<Vis = Visibility>>(
+/// Where the map that is asked has all that a path means, asked from a module: a module of it, and a
+/// name there. So it is where the path leads through modules of its crate; else it may be `None`.
+pub fn resolve_path_scope<D: PathDatabase, T: BindingTable<Vis = Visibility>>(
     world: &World<'_, D, T>,
     asked: Asked,
     original_module: ModuleId,
     path: &ModPath,
-) -> LoneBinding<Visibility>
-    ensures { IfSome (said_in_short result) (λ found.
-        meaning_of (world_lent D.oracle T.content world.now) asked original_module path.now ≡ reached found None false) }
+) -> Option<(ModuleId, Name)>
+    ensures { IfSome result (λ there. meaning_of (world_lent D.oracle T.content world.now) asked original_module path.now
+        ≡ reached (per_namespace ((T.content world.now.table.now).binding there.0 there.1)) None false) }
 {
     let asking = Asking {
         world: *world,
         asked,
     };
-    resolve_in_short(&asking, original_module, path)
+    own_scope_of(&asking, original_module, path)
 }
 
 /// The module that a path gives, with no segment left.

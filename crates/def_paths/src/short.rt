@@ -1,18 +1,18 @@
 //! Paths that lead through modules of their crate, as most do: where the last segment is looked up,
-//! and the one item there.
+//! and where the map that is asked has it.
 ghost use Rattle.std.specs.Prelude.{IfSome, ◌≡◌, None, false, if◌then◌else◌};
 ghost use Rattle.def_paths.specs.Answers.{answer_from, reached as reached_with, walk as walk_of};
 ghost use Rattle.def_paths.specs.OuterMaps.{answer_in as answer_in_map, answer_of, is_alone as stands_alone};
 ghost use Rattle.def_ids.specs.declared.ids.Def.TheVariants.{Module};
 ghost use Rattle.def_sources.specs.Asking.{question_in, map_in};
 ghost use Rattle.def_sources.specs.Items.{is_fitting};
-ghost use Rattle.def_sources.specs.PerNs.{Item, in_types, per_namespace, said_in_short};
+ghost use Rattle.def_sources.specs.PerNs.{Item, in_types, per_namespace};
 ghost use Rattle.def_sources.specs.Sources.{scope_source, by_sources, relative_sources};
 
 use crate::answers::{is_asked_outside, is_elsewhere};
-use def_bindings::{BindingTable, LoneBinding, Visibility};
+use def_bindings::{BindingTable, Visibility};
 use def_ids::{Def, ModuleId};
-use def_sources::{Asking, PathDatabase, relative_type, scope_lone, scope_module};
+use def_sources::{Asking, PathDatabase, relative_type, scope_module};
 use item_tree::{ModPath, Name, PathKind};
 
 /// Where the last of these segments is looked up, which begin in a module: the module, and that
@@ -101,22 +101,24 @@ pub(crate) fn scope_of<D: PathDatabase, T: BindingTable<Vis = Visibility>>(
     }
 }
 
-/// What a path means, in short where it can be said: nothing, or one item in one namespace. Nothing is
-/// said of what stands elsewhere, or in more namespaces.
-pub(crate) fn resolve_in_short<D: PathDatabase, T: BindingTable<Vis = Visibility>>(
+/// Where the map that is asked has all that a path means: a module of it, and a name there. `None`
+/// where the path may lead elsewhere, or mean more.
+pub(crate) fn own_scope_of<D: PathDatabase, T: BindingTable<Vis = Visibility>>(
     asking: &Asking<'_, D, T>,
     place: ModuleId,
     path: &ModPath,
-) -> LoneBinding<Visibility>
+) -> Option<(ModuleId, Name)>
     ensures { let q = question_in D.oracle asking.now in
         let own = map_in T.content asking.now in
-        IfSome (said_in_short result) (λ found. answer_of q own place path.now ≡ reached_with found None false) }
+        IfSome result (λ there. answer_of q own place path.now
+        ≡ reached_with (per_namespace (own.content.binding there.0 there.1)) None false) }
 {
     if is_asked_outside(place, path) {
-        return LoneBinding::Unsaid;
+        return None;
     }
-    match scope_of(asking, place, path) {
-        Some((module, name)) => scope_lone(asking, module, name),
-        None => LoneBinding::Unsaid,
+    let (module, name) = scope_of(asking, place, path)?;
+    if module.map != asking.world.map.tree.map {
+        return None;
     }
+    Some((module, name))
 }

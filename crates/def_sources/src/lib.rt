@@ -14,7 +14,7 @@ pub use path_database::PathDatabase;
 pub use per_ns::{Item, MacroSubNs, PerNs, public_item};
 pub use prefixes::{absolute_type, relative_type};
 pub use sources::{
-    Segment, absolute, bound, relative, scope, scope_lone, scope_module, scope_type,
+    Segment, absolute, bound, bound_in_short, relative, scope, scope_module, scope_type,
 };
 pub use table::Table;
 pub use world::{Asking, World};

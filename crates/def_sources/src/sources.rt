@@ -41,6 +41,18 @@ pub fn bound<T: BindingTable<Vis = Visibility>>(table: &T, place: ModuleId, name
     }
 }
 
+/// What a table binds, in short where it can be said: nothing, or one item in one namespace.
+pub fn bound_in_short<T: BindingTable<Vis = Visibility>>(
+    table: &T,
+    place: ModuleId,
+    name: Name,
+) -> LoneBinding<'_, Visibility>
+    ensures { IfSome (said_in_short result) (λ found.
+        per_namespace ((T.content table.now).binding place name) ≡ found) }
+{
+    table.lone(place, name)
+}
+
 /// Whether an edition is that of 2015.
 pub fn is_2015(edition: Edition) -> bool
     ensures { result ≡ is_edition_2015 edition }
@@ -69,23 +81,6 @@ pub fn scope<D: PathDatabase, T: BindingTable<Vis = Visibility>>(
             None => PerNs::none(),
         }
     }
-}
-
-/// What a module's scope binds of a name, in short where it can be said: nothing, or one item in one
-/// namespace. Nothing is said of other maps, and where the table says nothing.
-pub fn scope_lone<D: PathDatabase, T: BindingTable<Vis = Visibility>>(
-    asking: &Asking<'_, D, T>,
-    place: ModuleId,
-    name: Name,
-) -> LoneBinding<Visibility>
-    ensures { let q = question_in D.oracle asking.now in
-        let own = map_in T.content asking.now in
-        IfSome (said_in_short result) (λ found. per_namespace (scope_source q own place name) ≡ found) }
-{
-    if place.map != asking.world.map.tree.map {
-        return LoneBinding::Unsaid;
-    }
-    asking.world.table.lone(place, name)
 }
 
 /// What a module's scope binds in types, also in another map.

@@ -10,8 +10,8 @@ ghost use Rattle.def_rules.specs.Globs.{brought, glob_sees, name_entries, scope_
 
 use crate::answer::is_public;
 use def_bindings::{
-    BindingTable, EdgeTo, Entry, ImportOrExternCrate, ModuleTree, Namespace, VisOrder, Visibility,
-    lesser_or_import,
+    BindingTable, EdgeTo, Entry, ImportOrExternCrate, LoneBinding, ModuleTree, Namespace, VisOrder,
+    Visibility, lesser_or_import,
 };
 use def_ids::{Def, ModuleId, TraitId};
 use def_map::{EnumVariant, Item, Table, public_item};
@@ -64,8 +64,10 @@ impl<'a> GlobScope<'a> {
         push_item(entries, self.order, self.glob, name, ns, item)
     }
 
-    /// Appends the entries of a name, in types, values and macros.
-    fn push_name(&self, entries: &mut Vec<Entry<Visibility>>, name: Name) -> Result<(), AllocError>
+    /// Appends the entries of a name that may stand in several namespaces, in types, values and
+    /// macros. It stands apart, since most names stand in one.
+    #[inline(never)]
+    fn push_each(&self, entries: &mut Vec<Entry<Visibility>>, name: Name) -> Result<(), AllocError>
         ensures { OnOk result (entries.new.items ≡ entries.old.items
             ++ name_entries (order_over (chain_in self.now.order.now)) self.now.glob self.now.own (bound_by self.now.table.now) self.now.source name) }
     {
@@ -73,6 +75,18 @@ impl<'a> GlobScope<'a> {
         self.push_seen(entries, name, Namespace::Types, found.types.as_ref())?;
         self.push_seen(entries, name, Namespace::Values, found.values.as_ref())?;
         self.push_seen(entries, name, Namespace::Macros, found.macros.as_ref())
+    }
+
+    /// Appends the entries of a name. The binding of one that stands in one namespace is lent.
+    fn push_name(&self, entries: &mut Vec<Entry<Visibility>>, name: Name) -> Result<(), AllocError>
+        ensures { OnOk result (entries.new.items ≡ entries.old.items
+            ++ name_entries (order_over (chain_in self.now.order.now)) self.now.glob self.now.own (bound_by self.now.table.now) self.now.source name) }
+    {
+        match self.table.lone(self.source, name) {
+            LoneBinding::Nothing => Ok(()),
+            LoneBinding::Lone(ns, item) => self.push_seen(entries, name, ns, Some(item)),
+            LoneBinding::Unsaid => self.push_each(entries, name),
+        }
     }
 
     /// Appends the entry of an unnamed trait, if the glob sees it.

@@ -2,7 +2,7 @@
 use Rattle.std.proofs.Common.{◌≡◌, Bool, true, false, not, ◌&&◌, ◌||◌, cond, Option, Some, None, List, [], ◌∷◌, ◌++◌, refl, sym, ap, subst, ◌∙◌, inl, inr}
 use Rattle.std.proofs.Common.{Result, Ok, Err}
 use Rattle.std.specs.declared.alloc.AllocError.{AllocError}
-use Rattle.std.specs.Prelude.{ℕ, IfOk, OnOk, OnErr, is_some, map, option_map, option_and_then, slice_get}
+use Rattle.std.specs.Prelude.{ℕ, IfOk, OnOk, OnErr, is_none, is_some, map, option_map, option_and_then, slice_get}
 use Rattle.std.proofs.lemmas.Option.{slice_get-map}
 use Rattle.numbered_table.specs.declared.place.Placed.{Placed}
 use Rattle.std.specs.Map.{keys_of}
@@ -306,18 +306,18 @@ module _ {V S : Type 0} (old new : HashMap (Placed Name) (BoundName V) S) (l : M
       (content-parts c _ _ _ _ set names.0, names.1)
 
   -- so a binding where it is not bound
-  pub bound-beside : (c : Content V) (b : Binding V) (held : Option (Binding V)) → held ≡ stands_for was n → stands_for row ≡ written_in (stands_for was) n (if_vacant held b)
-      → (held ≡ bindings_of old m x n) × (record c { binding = bindings_of new; names = l } ≡ written (record c { binding = bindings_of old; names = l }) m (Named x n) (if_vacant held b))
-  bound-beside c b held is now = (is ∙ sym (ap (λ k. option_and_then (λ s. stands_for s n) k) there), (put-known c (if_vacant held b) now).0)
+  pub bound-beside : (c : Content V) (b : Binding V) (vacant : Bool) → vacant ≡ is_none (stands_for was n) → stands_for row ≡ written_in (stands_for was) n (if_vacant vacant b)
+      → (vacant ≡ is_none (bindings_of old m x n)) × (record c { binding = bindings_of new; names = l } ≡ written (record c { binding = bindings_of old; names = l }) m (Named x n) (if_vacant vacant b))
+  bound-beside c b vacant is now = (is ∙ sym (ap (λ k. is_none (option_and_then (λ s. stands_for s n) k)) there), (put-known c (if_vacant vacant b) now).0)
 
   -- names and bindings stay tied, whether that was refused or not
-  pub tied-beside : (b : Binding V) (r : Result (Option (Binding V)) AllocError) → IfOk r (λ held. stands_for row ≡ written_in (stands_for was) n (if_vacant held b)) → OnErr r (row ≡ was) → AreTied (bindings_of new) l
-  tied-beside b (Ok held) now same = (put-known empty (if_vacant held b) now).1
+  pub tied-beside : (b : Binding V) (r : Result Bool AllocError) → IfOk r (λ vacant. stands_for row ≡ written_in (stands_for was) n (if_vacant vacant b)) → OnErr r (row ≡ was) → AreTied (bindings_of new) l
+  tied-beside b (Ok vacant) now same = (put-known empty (if_vacant vacant b) now).1
   tied-beside b (Err e) now same = tied-same _ _ l l (bindings-kept old new m x was row there after same) refl tied
 
 -- a name that has nothing is bound nowhere
-pub held-nowhere : {V S : Type 0} (old : HashMap (Placed Name) (BoundName V) S) (m : ModuleId) (x : Name) (n : Namespace) → name_of old m x ≡ None → None ≡ bindings_of old m x n
-held-nowhere old m x n none = sym (ap (λ k. option_and_then (λ s. stands_for s n) k) none)
+pub vacant-nowhere : {V S : Type 0} (old : HashMap (Placed Name) (BoundName V) S) (m : ModuleId) (x : Name) (n : Namespace) → name_of old m x ≡ None → true ≡ is_none (bindings_of old m x n)
+vacant-nowhere old m x n none = sym (ap (λ k. is_none (option_and_then (λ s. stands_for s n) k)) none)
 
 -- names that stay are a list written as it was
 pub kept_names : (l : ModuleId → List Name) (m : ModuleId) (ks : List Name) (known : Bool) → known ≡ true → l ≡ listed_as l m (cond known (l m) ks)

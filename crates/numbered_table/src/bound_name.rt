@@ -100,12 +100,12 @@ impl<V: Copy> BoundName<V> {
     }
 
     /// The one binding, where nothing is kept beside it, and its namespace.
-    pub fn lone(&self) -> LoneBinding<V>
+    pub fn lone(&self) -> LoneBinding<'_, V>
         ensures { IfSome (said result) (λ all. stands_for self.now ≡ bound_in all) }
     {
         match self.others {
             Some(_) => LoneBinding::Unsaid,
-            None => LoneBinding::Lone(self.ns, self.binding),
+            None => LoneBinding::Lone(self.ns, &self.binding),
         }
     }
 

@@ -1,7 +1,7 @@
 //! A table that keeps the names of all modules in one index.
 #![tactic(auto, unfolding(crate::specs::NumberedTable::content_of))]
 
-ghost use Rattle.std.specs.Prelude.{◌≡◌, ◌↔◌, IsTrue, None, OnOk, OnErr, IfOk, option_copied};
+ghost use Rattle.std.specs.Prelude.{◌≡◌, ◌↔◌, IsTrue, None, is_none, OnOk, OnErr, IfOk, option_copied};
 ghost use Rattle.numbered_table.specs.BoundName.{stands_for, written_in};
 ghost use Rattle.def_bindings.specs.Content.{AreTied, bound_as, is_bound};
 ghost use Rattle.numbered_table.specs.Lists.{lists_of};
@@ -13,9 +13,7 @@ use crate::keyed::Keyed;
 use crate::link::Link;
 use crate::lists::Lists;
 use crate::place::Placed;
-use def_bindings::{
-    Binding, BindingTable, EdgeTo, LoneBinding, NameBindings, Namespace, Slot, as_binding,
-};
+use def_bindings::{Binding, BindingTable, EdgeTo, LoneBinding, NameBindings, Namespace, Slot};
 use def_ids::{ModuleId, TraitId};
 use indexmap::IndexMap;
 use indexmap::map::Entry;
@@ -84,24 +82,24 @@ fn take_out<V: Copy>(
     false
 }
 
-/// Binds a name beside its other bindings where nothing is bound, and answers what is bound there. A
+/// Binds a name beside its other bindings where nothing is bound, and answers whether that was so. A
 /// refused call changes nothing.
 fn bind_beside<V: Copy>(
     alloc: Global,
     bound: &mut BoundName<V>,
     ns: Namespace,
     binding: &Binding<V>,
-) -> Result<Option<Binding<V>>, AllocError>
-    ensures there { IfOk result (λ there. there ≡ stands_for bound.old ns) }
-    ensures done { IfOk result (λ there. stands_for bound.new
-        ≡ written_in (stands_for bound.old) ns (if_vacant there binding.now)) }
+) -> Result<bool, AllocError>
+    ensures vacant { IfOk result (λ vacant. vacant ≡ is_none (stands_for bound.old ns)) }
+    ensures done { IfOk result (λ vacant. stands_for bound.new
+        ≡ written_in (stands_for bound.old) ns (if_vacant vacant binding.now)) }
     ensures refused { OnErr result (bound.new ≡ bound.old) }
 {
-    let there = bound.get(ns).copied();
-    if there.is_none() {
-        bound.set(alloc, ns, binding)?;
+    if bound.get(ns).is_some() {
+        return Ok(false);
     }
-    Ok(there)
+    bound.set(alloc, ns, binding)?;
+    Ok(true)
 }
 
 impl<V: Copy> NumberedTable<V> {
@@ -131,7 +129,7 @@ impl<V: Copy> NumberedTable<V> {
         self.bound.reserve(names)
     }
 
-    /// Binds a name where nothing is bound, and answers what is bound there. A refused call changes
+    /// Binds a name where nothing is bound, and answers whether that was so. A refused call changes
     /// nothing.
     fn bind_name(
         &mut self,
@@ -139,11 +137,11 @@ impl<V: Copy> NumberedTable<V> {
         name: Name,
         ns: Namespace,
         binding: &Binding<V>,
-    ) -> Result<Option<Binding<V>>, AllocError>
-        ensures done { IfOk result (λ there.
-            (there ≡ (content_of self.old).binding «module» name ns)
+    ) -> Result<bool, AllocError>
+        ensures done { IfOk result (λ vacant.
+            (vacant ≡ is_none ((content_of self.old).binding «module» name ns))
             × (content_of self.new
-            ≡ written (content_of self.old) «module» (Named name ns) (if_vacant there binding.now))) }
+            ≡ written (content_of self.old) «module» (Named name ns) (if_vacant vacant binding.now))) }
         ensures refused { OnErr result (content_of self.new ≡ content_of self.old) }
     {
         let alloc = self.alloc;
@@ -156,7 +154,7 @@ impl<V: Copy> NumberedTable<V> {
             Entry::Vacant(free) => {
                 self.names.push(module, name)?;
                 free.insert(BoundName::of(ns, binding));
-                Ok(None)
+                Ok(true)
             }
         }
     }
@@ -218,7 +216,7 @@ impl<V: Copy> BindingTable for NumberedTable<V> {
         }
     }
 
-    fn lone(&self, module: ModuleId, name: Name) -> LoneBinding<V> {
+    fn lone(&self, module: ModuleId, name: Name) -> LoneBinding<'_, V> {
         match bound_at(&self.bound, module, name) {
             Some(bound) => bound.lone(),
             None => LoneBinding::Nothing,
@@ -296,14 +294,14 @@ impl<V: Copy> BindingTable for NumberedTable<V> {
         module: ModuleId,
         slot: Slot,
         binding: &Binding<V>,
-    ) -> Result<Option<Binding<V>>, AllocError> {
+    ) -> Result<bool, AllocError> {
         match slot {
             Slot::Named(name, ns) => self.bind_name(module, name, ns, binding),
             Slot::Unnamed(item) => match self.unnamed_vis(module, item) {
-                Some(there) => Ok(Some(as_binding(item, there))),
+                Some(_) => Ok(false),
                 None => {
                     self.set_unnamed(module, item, binding.vis)?;
-                    Ok(None)
+                    Ok(true)
                 }
             },
         }

@@ -6,7 +6,7 @@ use Rattle.def_bindings.specs.Content.{is_name}
 use Rattle.numbered_table.specs.Lists.{lists_of}
 use Rattle.numbered_table.specs.Numbers.{is_placed, placed_at}
 use Rattle.numbered_table.specs.NumberedTable.{content_of}
-use Rattle.numbered_table.proofs.NumberedTableLemmas.{bindings-begun, bindings-kept, bindings-same, bound-beside, bound-nowhere, content-parts, held-nowhere, numbered-new, tied-beside, tied-same}
+use Rattle.numbered_table.proofs.NumberedTableLemmas.{bindings-begun, bindings-kept, bindings-same, bound-beside, bound-nowhere, content-parts, vacant-nowhere, numbered-new, tied-beside, tied-same}
 use Rattle.numbered_table.proofs.ResultLemmas.{IfOk_both, OnErr_then}
 use Rattle.numbered_table.proofs.numbered_table.NumberedTable.bind_name.Goals as goal
 
@@ -42,8 +42,8 @@ returns-in-Occupied-clause-done g c =
     let there = sym c.in_ok-there.ensures.value ∙ ap entry_value c.in-Occupied.is ∙ c.into_mut.ensures.value in
     let after = ((subst (λ e. IsEntryFor (is_placed is_name) t.bound (placed_at c.args.module c.args.name) e) c.in-Occupied.is c.in_ok-there.ensures.update).0 c.bind_beside.new.bound).0 in
     let m = map_with_value (Occupied c.in-Occupied.there) c.bind_beside.new.bound in
-    IfOk_both c.bind_beside.result c.bind_beside.ensures.there c.bind_beside.ensures.done (λ held is now.
-    let put = bound-beside t.bound m (lists_of t.names) t.tied c.args.module c.args.name c.into_mut.result.now c.bind_beside.new.bound there after c.args.ns (content_of t) c.args.binding.now held is now in
+    IfOk_both c.bind_beside.result c.bind_beside.ensures.vacant c.bind_beside.ensures.done (λ vacant is now.
+    let put = bound-beside t.bound m (lists_of t.names) t.tied c.args.module c.args.name c.into_mut.result.now c.bind_beside.new.bound there after c.args.ns (content_of t) c.args.binding.now vacant is now in
     (put.0, content-parts (content_of t) _ _ _ _ (bindings-same m (with_entries t.bound _) (search rules)) refl ∙ put.1))
 
 pub returns-in-Occupied-clause-refused : goal.returns-in-Occupied-clause-refused
@@ -65,4 +65,4 @@ returns-in_ok-push-in-Vacant-clause-done g c =
     let m = map_with_value (Vacant c.in-Vacant.free) c.of.result in
     let bindings = bindings-same m (with_entries t.bound _) (search rules) ∙ bindings-begun t.bound t.bound m c.args.module c.args.name c.args.ns c.args.binding.now c.of.result refl none after c.of.ensures in
     let names = numbered-new _ _ (lists_of t.names) t.tied c.args.module c.args.name c.args.ns c.args.binding.now (lists_of c.push.new.self) bindings (bound-nowhere t.bound c.args.module c.args.name none) c.in_ok-push-in-Vacant.ensures.done in
-    (held-nowhere t.bound c.args.module c.args.name c.args.ns none, content-parts (content_of t) _ _ _ _ bindings names.0)
+    (vacant-nowhere t.bound c.args.module c.args.name c.args.ns none, content-parts (content_of t) _ _ _ _ bindings names.0)

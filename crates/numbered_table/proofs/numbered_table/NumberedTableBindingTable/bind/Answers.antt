@@ -1,5 +1,5 @@
-use Rattle.std.proofs.Common.{◌≡◌, None, Some, ap, subst, sym, ◌∙◌}
-use Rattle.std.specs.Prelude.{IfOk, option_map}
+use Rattle.std.proofs.Common.{◌≡◌, Some, ap, subst, sym, true, ◌∙◌}
+use Rattle.std.specs.Prelude.{IfOk, is_none, option_map}
 use Rattle.numbered_table.specs.NumberedTable.{content_of}
 use Rattle.def_bindings.specs.Puts.{held, if_vacant, unnamed_binding, written}
 use Rattle.numbered_table.proofs.numbered_table.NumberedTableBindingTable.bind.Goals as goal
@@ -11,7 +11,7 @@ returns-in-Named-clause-done g c =
     let after = content_of c.bind_name.new.self in
     let m = c.args.module in
     let b = c.args.binding.now in
-    subst (λ slot. IfOk c.bind_name.result (λ there. (there ≡ held before m slot) × (after ≡ written before m slot (if_vacant there b)))) (sym c.in-Named.is) c.bind_name.ensures.done
+    subst (λ slot. IfOk c.bind_name.result (λ vacant. (vacant ≡ is_none (held before m slot)) × (after ≡ written before m slot (if_vacant vacant b)))) (sym c.in-Named.is) c.bind_name.ensures.done
 
 pub returns-in_ok-set_unnamed-in-None-clause-done : goal.returns-in_ok-set_unnamed-in-None-clause-done
 unfolding content_of
@@ -20,5 +20,5 @@ returns-in_ok-set_unnamed-in-None-clause-done g c =
     let after = content_of c.set_unnamed.new.self in
     let m = c.args.module in
     let b = c.args.binding.now in
-    subst (λ slot. (None ≡ held before m slot) × (after ≡ written before m slot (Some b))) (sym c.in-Unnamed.is)
-    (ap (option_map (unnamed_binding c.in-Unnamed.item)) (sym c.in-None.is ∙ c.unnamed_vis.ensures), c.in_ok-set_unnamed-in-None.ensures.done)
+    subst (λ slot. (true ≡ is_none (held before m slot)) × (after ≡ written before m slot (Some b))) (sym c.in-Unnamed.is)
+    (ap (λ o. is_none (option_map (unnamed_binding c.in-Unnamed.item) o)) (sym c.in-None.is ∙ c.unnamed_vis.ensures), c.in_ok-set_unnamed-in-None.ensures.done)
