@@ -1,4 +1,4 @@
-//! Tests over scripted crates: what they collect that no line shows, what the program prints, and the
+//! Tests over scripted crates: what they collect that no row can say, what the program prints, and the
 //! examples of use.
 #![tactic(auto)]
 

@@ -1,95 +1,15 @@
-//! Preludes, by the edition of a crate and by what its root file says.
+//! The prelude of a crate, by what its root file says.
 #![tactic(auto)]
 
-use crate::tests::shared::{collect_last, print_last};
 use def_ids::Edition;
 use def_map::LangCrate;
-use def_workspace::{ALONE, CrateText, DependencyText, Fault, Vector, Workspace};
+use def_workspace::{ALONE, CrateText, DependencyText, Fault, Vector, Workspace, print};
 use item_tree::Crate;
 use std::alloc::Global;
 use std::process::Abort;
 
 /// The crate of the prelude of an edition.
-const RUST_2015: &str = "pub mod prelude { pub mod rust_2015 { pub struct O; } }";
-
 const RUST_2021: &str = "pub mod prelude { pub mod rust_2021 { pub struct O; } }";
-
-/// `std` on its own, and a crate over it in edition 2021.
-const OVER_STD: &[CrateText] = &[
-    CrateText {
-        krate: 1,
-        edition: Edition::Edition2021,
-        root_file: 1,
-        deps: &[],
-    },
-    CrateText {
-        krate: 0,
-        edition: Edition::Edition2021,
-        root_file: 0,
-        deps: &[DependencyText {
-            name: "std",
-            krate: 1,
-            prelude: true,
-            sysroot: false,
-        }],
-    },
-];
-
-/// The same in edition 2015.
-const OVER_STD_IN_2015: &[CrateText] = &[
-    CrateText {
-        krate: 1,
-        edition: Edition::Edition2021,
-        root_file: 1,
-        deps: &[],
-    },
-    CrateText {
-        krate: 0,
-        edition: Edition::Edition2015,
-        root_file: 0,
-        deps: &[DependencyText {
-            name: "std",
-            krate: 1,
-            prelude: true,
-            sysroot: false,
-        }],
-    },
-];
-
-/// The module of the prelude of the last crate, with its crate.
-fn prelude_of(
-    alloc: Global,
-    files: &'static [&'static str],
-    crates: &'static [CrateText<'static>],
-) -> Result<Option<(usize, usize)>, Fault> {
-    let vector = Vector {
-        files,
-        crates,
-        ..ALONE
-    };
-    let mut workspace = Workspace::new(alloc, &vector)?;
-    let collected = collect_last(&mut workspace, crates)?;
-    match collected.def_map.prelude() {
-        Some(module) => Ok(Some((module.map.krate.0, module.index))),
-        None => Ok(None),
-    }
-}
-
-/// Files, crates, and the prelude of the last one.
-static PRELUDES: [(&[&str], &[CrateText], Option<(usize, usize)>); 4] = [
-    (&["", RUST_2021], OVER_STD, Some((1, 2))),
-    (&["", RUST_2015], OVER_STD, None),
-    (&["", RUST_2015], OVER_STD_IN_2015, Some((1, 2))),
-    (&["", RUST_2021], OVER_STD_IN_2015, None),
-];
-
-#[test]
-fn each_edition_has_a_prelude_of_its_own(rt: HostRuntime) -> Result<(), Fault> {
-    for (files, crates, want) in &PRELUDES {
-        assert_eq!(rt; prelude_of(rt.alloc(), files, crates)?, *want);
-    }
-    Ok(())
-}
 
 /// `std` and `core` as they come with the compiler, each on its own, and a crate over both.
 static OVER_SYSROOT: [CrateText; 3] = [
@@ -133,6 +53,23 @@ fn set_lang(workspace: &mut Workspace, krate: Crate, lang: LangCrate) {
     }
 }
 
+/// Collects crates, each over those before it, and prints the lines of the last one.
+fn print_last(
+    alloc: Global,
+    workspace: &mut Workspace,
+    crates: &[CrateText],
+    lines: &mut Vec<u8>,
+) -> Result<(), Fault> {
+    let Some((last, others)) = crates.split_last() else {
+        return Err(Fault::Memory);
+    };
+    for other in others {
+        workspace.collect_dependency(other)?;
+    }
+    let collected = workspace.collect(last)?;
+    print(alloc, &workspace.session, &collected, lines)
+}
+
 /// Prints the lines of the crate over `std` and `core`.
 fn print_files(
     alloc: Global,
@@ -147,8 +84,7 @@ fn print_files(
     let mut workspace = Workspace::new(alloc, &vector)?;
     set_lang(&mut workspace, Crate(1), LangCrate::Std);
     set_lang(&mut workspace, Crate(2), LangCrate::Core);
-    let _ = print_last(alloc, &mut workspace, &OVER_SYSROOT, lines)?;
-    Ok(())
+    print_last(alloc, &mut workspace, &OVER_SYSROOT, lines)
 }
 
 /// Files, and the lines of their crate over `std` and `core` of the compiler.

@@ -1,14 +1,15 @@
-//! The limit of rounds, which are passes over the macros in which one leaves: how runs end.
+//! The limit of rounds, which are passes over the macros in which one leaves: how a run over many
+//! calls ends.
 #![tactic(auto)]
 
-use crate::tests::shared::ITEM;
-use def_workspace::{ALONE, CALL, CallText, Collected, Fault, Workspace, find};
+use def_ids::{Macro2Id, MacroId};
+use def_workspace::{ALONE, CALL, CallText, Collected, Fault, Workspace};
 use item_tree::{FileId, HirFileId, MacroCallId, TreeId};
 use std::alloc::{AllocError, Global};
 
-/// How a run ended: whether it met the limit, how many calls the root records, how deep the
-/// expansion of the first macro that is left over would lie, and how many are.
-type End = (bool, Option<usize>, Option<u32>, usize);
+/// How a run ended: whether it met the limit, how many calls the root records, and how many macros
+/// are left over.
+type End = (bool, Option<usize>, usize);
 
 fn end_of(collected: &Collected) -> End {
     let outcome = &collected.outcome;
@@ -16,34 +17,8 @@ fn end_of(collected: &Collected) -> End {
     (
         outcome.limit_met,
         root.map(|scope| scope.invocations().len()),
-        outcome.macros.first().map(|left| left.depth),
         outcome.macros.len(),
     )
-}
-
-/// How the run over a workspace's crate ends, and how many diagnostics it has.
-fn end_of_run(workspace: &mut Workspace) -> Result<(End, usize), Fault> {
-    let collected = workspace.collect(&ALONE.crates[0])?;
-    Ok((end_of(&collected), collected.diagnostics.len()))
-}
-
-/// How the run over a vector ends, and how many diagnostics it has.
-fn end_of_vector(alloc: Global, name: &str) -> Result<Option<(End, usize)>, Fault> {
-    let Some(vector) = find(name) else {
-        return Ok(None);
-    };
-    let mut workspace = Workspace::new(alloc, vector)?;
-    Ok(Some(end_of_run(&mut workspace)?))
-}
-
-/// The call of each round but the last brings one that is given a call in the next.
-#[test]
-fn the_call_that_is_left_lies_one_deeper_than_there_were_rounds(
-    rt: HostRuntime,
-) -> Result<(), Fault> {
-    let want = (true, Some(8193), Some(8194), 1);
-    assert_eq!(rt; end_of_vector(rt.alloc(), "rounds")?, Some((want, 0)));
-    Ok(())
 }
 
 /// How many calls stand side by side.
@@ -69,7 +44,7 @@ fn end_of_many(alloc: Global) -> Result<End, Fault> {
     for number in 0..SIDE_BY_SIDE {
         let call = CallText {
             ast_id: number + 1,
-            of: ITEM,
+            of: MacroId::Macro2(Macro2Id(0)),
             ..CALL
         };
         workspace.add_call(MacroCallId(number), &call)?;
@@ -80,7 +55,7 @@ fn end_of_many(alloc: Global) -> Result<End, Fault> {
 /// All leave in one round, so the limit is not met.
 #[test]
 fn calls_that_stand_side_by_side_are_one_round(rt: HostRuntime) -> Result<(), Fault> {
-    let want = (false, Some(SIDE_BY_SIDE), None, 0);
+    let want = (false, Some(SIDE_BY_SIDE), 0);
     assert_eq!(rt; end_of_many(rt.alloc())?, want);
     Ok(())
 }

@@ -1,8 +1,8 @@
 //! Oracles that answer little: what is not there counts as empty.
 #![tactic(auto)]
 
-use crate::tests::shared::OVER_D;
-use def_workspace::{ALONE, CrateText, Fault, Vector, Workspace, print, read};
+use def_ids::Edition;
+use def_workspace::{ALONE, CrateText, DependencyText, Fault, Vector, Workspace, print, read};
 use item_tree::{FileId, HirFileId, TreeId};
 use std::alloc::Global;
 
@@ -67,6 +67,27 @@ fn what_is_not_known_counts_as_empty(rt: HostRuntime) -> Result<(), Fault> {
     }
     Ok(())
 }
+
+/// Crate 1 on its own, and crate 0 over it under the name `d`, which paths may not begin with.
+const OVER_D: &[CrateText] = &[
+    CrateText {
+        krate: 1,
+        edition: Edition::Edition2021,
+        root_file: 1,
+        deps: &[],
+    },
+    CrateText {
+        krate: 0,
+        edition: Edition::Edition2021,
+        root_file: 0,
+        deps: &[DependencyText {
+            name: "d",
+            krate: 1,
+            prelude: false,
+            sysroot: false,
+        }],
+    },
+];
 
 /// A crate that takes from another.
 const TAKES: Vector = Vector {

@@ -21,6 +21,8 @@ fast-path
 -- call at m1:2 of proc_macro:3 by derive:4.5 err 6 include silent
 pub struct A;
 pub struct B;
+-- records
+calls 0 1
 -- shows
 module 0 - crate
 
@@ -87,6 +89,7 @@ fn rare_lines_are_read(rt: HostRuntime) {
             assert!(rt; has_rare_derives(&row));
             assert!(rt; row.derive_fast_path);
             assert!(rt; row.calls.iter().all(is_rare_call));
+            assert_eq!(rt; row.records, Some("calls 0 1"));
             assert_eq!(rt; row.shows, "module 0 - crate");
         }
         _ => panic!(rt; "no row"),

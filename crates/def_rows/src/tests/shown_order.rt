@@ -1,118 +1,13 @@
 //! The order of the maps that are shown: that in which their keys were first given.
 
-use crate::tests::shared::collect_last;
 use def_ids::{Edition, MacroId, MacroRulesId};
 use def_map::{
     DefMap, DeriveKey, DeriveMacroInvocation, MapData, ModuleData, ModuleOrigin, Position,
     Visibility,
 };
-use def_workspace::{ALONE, Collected, CrateText, DependencyText, Fault, Vector, Workspace};
 use item_tree::{AttrId, Crate, FileAstId, FileId, HirFileId, MacroCallId, Name, Seq};
 use std::alloc::{AllocError, Global};
 use std::test::Fail;
-
-const STD: DependencyText = DependencyText {
-    name: "std",
-    krate: 2,
-    prelude: true,
-    sysroot: false,
-};
-
-const CORE: DependencyText = DependencyText {
-    name: "core",
-    krate: 3,
-    prelude: true,
-    sysroot: false,
-};
-
-const D: DependencyText = DependencyText {
-    name: "d",
-    krate: 1,
-    prelude: true,
-    sysroot: false,
-};
-
-/// Paths may not begin with this one.
-const HIDDEN_D: DependencyText = DependencyText {
-    name: "d",
-    krate: 1,
-    prelude: false,
-    sysroot: false,
-};
-
-/// A crate, and the names with which its paths may begin, in order.
-static PRELUDES: [(&[CrateText], &[&str]); 4] = [
-    (
-        &[CrateText {
-            krate: 0,
-            edition: Edition::Edition2021,
-            root_file: 0,
-            deps: &[STD, D, CORE],
-        }],
-        &["std", "d", "core"],
-    ),
-    (
-        &[CrateText {
-            krate: 0,
-            edition: Edition::Edition2021,
-            root_file: 0,
-            deps: &[HIDDEN_D, STD, CORE, D],
-        }],
-        &["d", "std", "core"],
-    ),
-    (
-        &[CrateText {
-            krate: 0,
-            edition: Edition::Edition2021,
-            root_file: 0,
-            deps: &[D, STD, CORE, D],
-        }],
-        &["d", "std", "core"],
-    ),
-    (
-        &[CrateText {
-            krate: 0,
-            edition: Edition::Edition2021,
-            root_file: 0,
-            deps: &[D, STD, CORE, HIDDEN_D],
-        }],
-        &["std", "core"],
-    ),
-];
-
-/// Whether the paths of what was collected may begin with these names, in order.
-fn may_begin(workspace: &Workspace, collected: &Collected, names: &[&str]) -> bool {
-    let prelude = &collected.local_def_map.extern_prelude;
-    for (place, text) in names.iter().enumerate() {
-        match prelude.get_index(place) {
-            Some((name, _)) if workspace.session.text(*name) == Some(*text) => {}
-            _ => return false,
-        }
-    }
-    prelude.len() == names.len()
-}
-
-/// Whether the paths of a crate may begin with these names, in order.
-fn is_prelude(
-    alloc: Global,
-    crates: &'static [CrateText<'static>],
-    names: &[&str],
-) -> Result<bool, Fault> {
-    let vector = Vector { crates, ..ALONE };
-    let mut workspace = Workspace::new(alloc, &vector)?;
-    let collected = collect_last(&mut workspace, crates)?;
-    Ok(may_begin(&workspace, &collected, names))
-}
-
-#[test]
-fn a_later_dependency_stands_where_the_first_of_its_name_stood(
-    rt: HostRuntime,
-) -> Result<(), Fault> {
-    for (crates, names) in &PRELUDES {
-        assert!(rt; is_prelude(rt.alloc(), crates, names)?, "{names:?}");
-    }
-    Ok(())
-}
 
 /// A map of a crate with nothing in it.
 fn empty_map(alloc: Global) -> Result<MapData, AllocError> {

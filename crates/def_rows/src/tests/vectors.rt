@@ -1,12 +1,13 @@
 //! The lines of the scripted workspaces that have a name.
 #![tactic(auto)]
 
-use crate::tests::shared::expect_lines;
-use def_workspace::{Fault, find};
+use def_workspace::{Fault, Vector, find, show};
+use std::alloc::Global;
 use std::process::Abort;
 
 /// Workspaces, by name, and their lines.
-static VECTORS: [(&str, &str); 14] = [
+static VECTORS: [(&str, &str); 15] = [
+    ("attrs", "module 0 - crate\n"),
     (
         "cycle",
         "module 0 - crate
@@ -200,6 +201,15 @@ trait 0 trait:0 in:1
 ",
     ),
 ];
+
+/// Looks at the lines of a workspace.
+fn expect_lines(rt: &impl Abort, alloc: Global, vector: &Vector, want: &str) -> Result<(), Fault> {
+    let name = vector.name;
+    let mut lines: Vec<u8> = Vec::new(alloc);
+    show(alloc, vector, &mut lines)?;
+    assert_eq!(rt; lines.as_slice(), want.as_bytes(), "{name}");
+    Ok(())
+}
 
 #[test]
 fn named_workspaces_are_shown(rt: HostRuntime) -> Result<(), Fault> {
