@@ -3,3 +3,4 @@ pub mod TreeLemmas
 pub mod PutsFacts
 pub mod VisibilityFacts
 pub mod ContentFacts
+pub mod OwnChainLemmas

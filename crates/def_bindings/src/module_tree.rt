@@ -3,7 +3,7 @@ ghost use Rattle.std.specs.Prelude.{◌≡◌, ◌∷◌, ◌+◌, ◌↔◌, Is
 ghost use Rattle.std.specs.List.{list_any, filter};
 ghost use Rattle.std.specs.Option.{option_map_or};
 ghost use Rattle.def_ids.specs.Ids.{is_same_module as is_same};
-ghost use Rattle.def_bindings.specs.Tree.{are_apart as apart_from, AreParentsLower, are_apart, parent_of, above_of, after_index, is_own as is_own_in};
+ghost use Rattle.def_bindings.specs.Tree.{are_apart as apart_from, AreParentsLower, are_apart, parent_of, above_of, after_index, is_own as is_own_in, module_of};
 
 use crate::visibility::{VisOrder, Visibility};
 use def_ids::{MapId, ModuleId};
@@ -190,10 +190,31 @@ impl ModuleTree {
         }
     }
 
+    /// Whether a module of this map is in the chain of another one of it, both by their indices. Each
+    /// parent has a lower index, so the search ends where it passes the module.
+    fn is_own_in_chain(&self, start: usize, target: usize) -> bool
+        requires { start < length self.now.parents }
+        ensures { let own = module_of self.now.map in
+            result ≡ list_any (is_same_module (own target)) (chain_in self.now (own start)) }
+    {
+        let mut here = start;
+        'up: while target < here {
+            match self.parent(here) {
+                Some(parent) => here = parent,
+                None => return false,
+            }
+        }
+        here == target
+    }
+
     /// Whether `target` is in the chain of `start`.
     pub fn is_in_chain(&self, start: ModuleId, target: ModuleId) -> bool
         ensures { result ≡ list_any (is_same_module target) (chain_in self.now start) }
     {
+        // Most modules are of this map, and then their indices decide.
+        if target.map == self.map && self.is_own(start) {
+            return self.is_own_in_chain(start.index, target.index);
+        }
         let mut here = Some(self.position(start));
         while let Some(position) = here {
             here = self.step(position);
@@ -208,6 +229,10 @@ impl ModuleTree {
     pub fn home(&self, start: ModuleId) -> ModuleId
         ensures { result ≡ home_of (chain_in self.now) start }
     {
+        // Most modules are no block's root, and then nothing is followed.
+        if !start.is_block_root() {
+            return start;
+        }
         let mut here = Some(self.position(start));
         while let Some(position) = here {
             here = self.step(position);

@@ -48,12 +48,16 @@ fn put_entry<T: BindingTable, O: VisOrder<Vis = T::Vis>>(
     Ok(None)
 }
 
-/// Adds a slot that changed, if one did. On `Err` the list stays.
-fn note(changed: &mut Vec<Slot>, slot: Option<Slot>) -> Result<(), AllocError>
+/// Adds a slot that changed, if one did, of so many that may. On `Err` the list stays.
+fn note(changed: &mut Vec<Slot>, slot: Option<Slot>, most: usize) -> Result<(), AllocError>
     ensures done { OnOk result (changed.new.items ≡ changed.old.items ++ option_to_list slot) }
     ensures refused { OnErr result (changed.new.items ≡ changed.old.items) }
 {
     if let Some(slot) = slot {
+        // Where one changes the others mostly do.
+        if changed.is_empty() {
+            changed.reserve(most)?;
+        }
         changed.push(slot)?;
     }
     Ok(())
@@ -81,7 +85,7 @@ pub fn put_list<T: BindingTable, O: VisOrder<Vis = T::Vis>>(
         let slot = put_entry(table, order, module, entry)?;
         changes.add(module, slot)?;
         if has_edge {
-            note(&mut changed, slot)?;
+            note(&mut changed, slot, list.len())?;
         }
     }
     Ok(changed)
@@ -127,7 +131,7 @@ fn copy_all<T: BindingTable, O: VisOrder<Vis = T::Vis>>(
     for slot in slots {
         let copied = copy_slot(table, order, source, edge, *slot)?;
         changes.add(edge.importer, copied)?;
-        note(&mut changed, copied)?;
+        note(&mut changed, copied, slots.len())?;
     }
     Ok(changed)
 }
