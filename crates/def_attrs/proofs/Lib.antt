@@ -1,3 +1,4 @@
 pub mod AttrsLemmas
 pub mod DerivesLemmas
 pub mod ImplsLemmas
+pub mod HelpersLemmas

@@ -4,3 +4,4 @@ pub mod PutsFacts
 pub mod VisibilityFacts
 pub mod ContentFacts
 pub mod OwnChainLemmas
+pub mod SettledLemmas

@@ -1,21 +1,28 @@
--- Macros around a block, one map after the other.
-use Rattle.std.proofs.Common.{◌≡◌, ◌∙◌, ap, sym, refl, ◌+◌, ◌<◌, ℕ, true, false, List, [], ◌∷◌, ◌++◌, length, take, drop, get_or, drop-cons, add-one, Option, Some, None, is_some}
-use Rattle.std.proofs.lemmas.List.{take_more}
+-- Macros around a block, one map after the other, and macros that paths name.
+use Rattle.std.proofs.Common.{◌≡◌, ◌∙◌, ap, sym, refl, ◌+◌, ◌<◌, ◌≤◌, ℕ, true, false, List, [], ◌∷◌, ◌++◌, length, take, drop, get_or, drop-cons, add-one, Option, Some, None, is_some}
+use Rattle.std.proofs.lemmas.List.{at_drop_all, take_more}
 use Rattle.std.specs.List.{list_any}
 use Rattle.std.specs.Option.{option_and_then, option_or}
 use Rattle.std.specs.Prelude.{if◌then◌else◌}
 use Rattle.tree_ids.specs.declared.name.Name.{Name}
+use Rattle.item_tree.specs.declared.mod_path.ModPath.{ModPath}
+use Rattle.def_ids.specs.declared.ids.Def.{Def}
+use Rattle.def_ids.specs.declared.ids.Def.TheVariants.{Macro}
 use Rattle.def_ids.specs.declared.ids.MacroId.{MacroId}
 use Rattle.def_ids.specs.declared.ids.ModuleId.{ModuleId}
 use Rattle.def_ids.specs.Ids.{is_same_map}
 use Rattle.def_map.specs.OuterMaps.{first_of_each_map}
+use Rattle.def_interner.specs.declared.macro_def.MacroDefId.{MacroDefId}
 use Rattle.def_bindings.specs.declared.bindings.Binding.{Binding}
 use Rattle.def_bindings.specs.declared.bindings.Namespace.TheVariants.{Macros}
 use Rattle.def_bindings.specs.declared.visibility.Visibility.{Visibility}
 use Rattle.def_bindings.specs.Content.{Content}
-use Rattle.def_map.specs.Paths.{macro_named, scope}
+use Rattle.def_map.specs.declared.ResolvePathResult.{ResolvePathResult}
+use Rattle.def_map.specs.Paths.{for_macro, macro_def, macro_named, resolve, resolver, scope}
 use Rattle.def_map.specs.Sources.{World, finished_map}
 use Rattle.def_modules.specs.MapView.{MapView}
+use Rattle.def_sources.specs.declared.asked.BuiltinShadowMode.{BuiltinShadowMode}
+use Rattle.def_sources.specs.declared.per_ns.MacroSubNs.{MacroSubNs}
 use Rattle.def_sources.specs.Items.{macro_of_def}
 use Rattle.def_rules.specs.Calls.{textual_among, textual_macro}
 
@@ -55,17 +62,22 @@ module _ (w : World) (name : Name) where
       or_none (Some x) rest none = cc
 
   -- where it has one, that is the first
-  pub around-found : (places : List ModuleId) (i : ℕ) (d : ModuleId) (found whole : Option MacroId) → i < length places → IsNext (take i places) (get_or places i d) found → is_some found ≡ true
-      → around (take i places) (drop i places) ≡ whole → found ≡ whole
-  around-found places i d found whole within next some all =
+  pub around-found : (places all : List ModuleId) (i : ℕ) (d : ModuleId) (found : Option MacroId) → i < length places → IsNext (take i places) (get_or places i d) found → is_some found ≡ true
+      → around (take i places) (drop i places) ≡ around [] places → places ≡ all → found ≡ around [] all
+  around-found places all i d found within next some rest same =
       or_some found (around (take i places ++ get_or places i d ∷ []) (drop (i + 1) places)) some
       ∙ sym (next (drop (i + 1) places))
       ∙ sym (around-cons places i d within)
-      ∙ all
+      ∙ rest
+      ∙ ap (around []) same
     where
       or_some : (o rest : Option MacroId) → is_some o ≡ true → o ≡ option_or o rest
       or_some None rest some = cc
       or_some (Some x) rest some = refl
+
+  -- where none is left, there is none
+  pub around-none : (places all : List ModuleId) (i : ℕ) → length places ≤ i → around (take i places) (drop i places) ≡ around [] places → places ≡ all → None ≡ around [] all
+  around-none places all i end rest same = sym (at_drop_all (around (take i places)) places i end) ∙ rest ∙ ap (around []) same
 
 -- what a module of a finished map binds
 pub bound_elsewhere : (w : World) (place : ModuleId) (name : Name) (content : Content Visibility) (map : MapView) → is_same_map place.map w.map.facts.id ≡ false → Some map ≡ finished_map w.oracle place.map → content ≡ map.content
@@ -77,3 +89,25 @@ bound_elsewhere w place name content map other there same =
   where
     in_map : Option MapView → Option MacroId
     in_map m = option_and_then (λ (held : Binding Visibility). macro_of_def held.def) (option_and_then (λ (x : MapView). x.content.binding place name Macros) m)
+
+module _ (w : World) (shadow : BuiltinShadowMode) (sub : MacroSubNs) (place : ModuleId) (path : ModPath) (found : ResolvePathResult) (is : found ≡ resolve w (for_macro shadow sub) place path) where
+  -- what its answer names
+  resolved : (macros : Option (Binding Visibility)) → found.resolved_def.macros ≡ macros → option_and_then (macro_def w.session) (option_and_then (λ (held : Binding Visibility). macro_of_def held.def) macros) ≡ resolver w shadow sub place path
+  resolved macros held =
+      ap (λ o. option_and_then (macro_def w.session) (option_and_then (λ (held : Binding Visibility). macro_of_def held.def) o)) (sym held) ∙ ap (λ (r : ResolvePathResult). option_and_then (macro_def w.session) (macro_named r.resolved_def)) is
+
+  -- a path names the macro that it is resolved to
+  pub resolved_macro : (held : Binding Visibility) (id : MacroId) (result : Option MacroDefId) → found.resolved_def.macros ≡ Some held → held.def ≡ Macro id → result ≡ macro_def w.session id → result ≡ resolver w shadow sub place path
+  resolved_macro held id result there names told = told ∙ ap (λ d. option_and_then (macro_def w.session) (macro_of_def d)) (sym names) ∙ resolved (Some held) there
+
+  -- none where it is resolved to nothing
+  pub resolved_nothing : (result : Option MacroDefId) → found.resolved_def.macros ≡ None → result ≡ None → result ≡ resolver w shadow sub place path
+  resolved_nothing result there told = told ∙ resolved None there
+
+  -- nor where it is resolved to what is no macro
+  pub resolved_other : (held : Binding Visibility) → found.resolved_def.macros ≡ Some held → ((id : MacroId) → held.def ≡ Macro id → ⊥) → None ≡ resolver w shadow sub place path
+  resolved_other held there other = ap (option_and_then (macro_def w.session)) (no_macro held.def other) ∙ resolved (Some held) there
+    where
+      no_macro : (d : Def) → ((id : MacroId) → d ≡ Macro id → ⊥) → None ≡ macro_of_def d
+      no_macro (Macro id) other = absurd (other id refl)
+      no_macro _ other = refl

@@ -1,9 +1,9 @@
 -- Items that wait for attributes, and the place that one left.
-use Rattle.std.proofs.Common.{◌≡◌, ◌+◌, ◌<◌, ℕ, List, [], ◌∷◌, ◌++◌, Contains, length, take, get_or, slice_get, Option, Some, None, inl, inr, sym, subst, arith}
+use Rattle.std.proofs.Common.{◌≡◌, ◌+◌, ◌<◌, ℕ, List, [], ◌∷◌, ◌++◌, Contains, length, take, get_or, slice_get, Option, Some, None, inl, inr, sym, subst, ◌∙◌, arith}
 use Rattle.std.specs.Prelude.{IfNone, IsPermutation, false, is_some}
 use Rattle.std.specs.List.{insert}
-use Rattle.std.proofs.lemmas.List.{get_or_default}
-use Rattle.std.proofs.lemmas.Option.{slice_get-get_or}
+use Rattle.std.proofs.lemmas.List.{get_or_default, same_from_push}
+use Rattle.std.proofs.lemmas.Option.{same_Some, slice_get-get_or}
 use Rattle.std.proofs.lemmas.List.Elements.{Contains-append_cases, Contains-push_cases}
 use Rattle.std.proofs.lemmas.List.Sorted.{IsPermutation-insert, IsPermutation-map, IsPermutation-to_front, IsPermutation-trans}
 use Rattle.def_calls.specs.declared.directives.MacroDirective.{MacroDirective}
@@ -37,6 +37,10 @@ no_item_more (y ∷ ds) i within none before d h =
       | inr new ↦ subst (λ (z : waits.MacroDirective). IsNoAttribute z.kind) (sym (only_in (macro_directive_of x) d new)) (none x here)
     ]
 
+-- what stands at a place waits for no attribute
+pub no_attribute_at : (ds : List MacroDirective) (i : ℕ) (known : MacroDirective) → slice_get ds i ≡ Some known → IsNoAttribute (kind_of known.kind) → (d : MacroDirective) → slice_get ds i ≡ Some d → IsNoAttribute (kind_of d.kind)
+no_attribute_at ds i known here none d at = subst (λ (x : MacroDirective). IsNoAttribute (kind_of x.kind)) (same_Some known d (sym here ∙ at)) none
+
 -- what holds where there is nothing
 pub where_none : {X P : Type 0} (o : Option X) → false ≡ is_some o → IfNone o P → P
 where_none None none p = p
@@ -47,3 +51,9 @@ pub last_moved : (ds : List MacroDirective) (last : MacroDirective) (i : ℕ) �
 last_moved ds last i =
     IsPermutation-map macro_directive_of (ds ++ last ∷ []) (insert ds i last)
     (IsPermutation-trans (ds ++ last ∷ []) (last ∷ ds) (insert ds i last) (IsPermutation-to_front ds last) (IsPermutation-insert ds i last))
+
+-- it fills the place of one that left
+pub last_fills : (before rest : List MacroDirective) (last x : MacroDirective) (i : ℕ) (old new : List MacroDirective) → old ≡ before ++ last ∷ [] → old ≡ rest ++ x ∷ [] → new ≡ insert rest i x → new ≡ insert before i last
+last_fills before rest last x i old new stood popped put =
+    let same = same_from_push rest before x last (sym popped ∙ stood) in
+    put ∙ (λ j. insert (same.0 j) i (same.1 j))

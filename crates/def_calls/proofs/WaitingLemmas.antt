@@ -1,10 +1,12 @@
 -- What waits for macros, in order.
 use Rattle.std.proofs.Common.{◌≡◌, ◌+◌, ◌<◌, ◌≤◌, ℕ, zero, suc, List, [], ◌∷◌, ◌++◌, length, map, take, get_or, slice_get, Some, refl, sym, ap, ◌∙◌}
 use Rattle.std.specs.Prelude.{Bool, true, false, cond, filter, IsSome, OnSome, Option, None}
-use Rattle.std.specs.List.{remove}
-use Rattle.std.proofs.lemmas.List.Elements.{filter-append}
+use Rattle.std.specs.List.{AllZip, remove}
+use Rattle.std.proofs.lemmas.List.Elements.{filter-append, same_from_all_zip}
 use Rattle.std.proofs.lemmas.List.{map-append, take_all, take_more}
 use Rattle.std.proofs.lemmas.Option.{slice_get-get_or}
+use Rattle.tree_ids.specs.declared.name.Name.{Name}
+use Rattle.item_tree.specs.declared.mod_path.ModPath.{ModPath}
 use Rattle.def_calls.specs.declared.directives.MacroDirective.{MacroDirective}
 use Rattle.def_calls.specs.Shown.{IsLeft, macro_directive_of, macros_in}
 use Rattle.def_rules.specs.declared.outcome.LeftMacro.{LeftMacro}
@@ -34,6 +36,12 @@ filter_one test x passes = ap (λ b. cond b (x ∷ []) []) passes
 pub filter_none : {X : Type 0} (test : X → Bool) (x : X) → test x ≡ false → filter test (x ∷ []) ≡ []
 filter_none test x passes = ap (λ b. cond b (x ∷ []) []) passes
 
+-- a path that was cloned is the same
+pub cloned_path : (old new : ModPath) → (new.kind ≡ old.kind) × AllZip (λ (x y : Name). y ≡ x) old.segments new.segments → new ≡ old
+cloned_path old new same =
+    let segments = same_from_all_zip (λ (x y : Name). y ≡ x) old.segments new.segments same.1 (λ x y is. is) in
+    λ i. record { kind = same.0 i; segments = segments i }
+
 -- one more waits
 pub macros_push : (ds : List MacroDirective) (d : MacroDirective) → macros_in (ds ++ d ∷ []) ≡ macros_in ds ++ macro_directive_of d ∷ []
 macros_push ds d = map-append macro_directive_of ds (d ∷ [])
@@ -46,11 +54,11 @@ pub macros_all : (ds : List MacroDirective) (i : ℕ) → length ds ≤ i → ma
 macros_all ds i all = ap macros_in (take_all i ds all)
 
 -- what is left over at one more
-pub left_more : (left left' : List LeftMacro) (ds : List MacroDirective) (i : ℕ) (d : MacroDirective) → left ≡ map left_macro (macros_in (take i ds)) → i < length ds → d ≡ get_or ds i d
-    → left' ≡ left ++ left_macro (macro_directive_of d) ∷ [] → left' ≡ map left_macro (macros_in (take (i + 1) ds))
-left_more left left' ds i d so_far within is adds =
+pub left_more : (left left' : List LeftMacro) (x : LeftMacro) (ds : List MacroDirective) (i : ℕ) (d : MacroDirective) → left ≡ map left_macro (macros_in (take i ds)) → i < length ds → d ≡ get_or ds i d
+    → left' ≡ left ++ x ∷ [] → x ≡ left_macro (macro_directive_of d) → left' ≡ map left_macro (macros_in (take (i + 1) ds))
+left_more left left' x ds i d so_far within is adds one =
     adds
-    ∙ ap (λ l. l ++ left_macro (macro_directive_of d) ∷ []) so_far
+    ∙ (λ j. so_far j ++ one j ∷ [])
     ∙ sym (map-append left_macro (macros_in (take i ds)) (macro_directive_of d ∷ []))
     ∙ ap (map left_macro) (sym (macros_more ds i d within is))
 

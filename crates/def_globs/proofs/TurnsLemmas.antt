@@ -1,8 +1,9 @@
 -- One entry of a list is put, or one slot is copied along an edge, and the rest is left.
 use Rattle.std.proofs.Math.Seq.{drop-cons}
-use Rattle.std.proofs.Common.{◌≡◌, ◌<◌, ◌+◌, ℕ, suc, Bool, true, false, cond, List, [], ◌∷◌, ◌++◌, length, get_or, drop, add-one, append_assoc, refl, sym, ap, ◌∙◌, subst}
+use Rattle.std.proofs.Common.{◌≡◌, ◌<◌, ◌≤◌, ◌+◌, ℕ, suc, Bool, true, false, cond, List, [], ◌∷◌, ◌++◌, length, get_or, drop, add-one, append_assoc, refl, sym, ap, ◌∙◌, subst}
+use Rattle.std.specs.Prelude.{is_some, slice_get}
 use Rattle.std.proofs.lemmas.Bool.{false≢true}
-use Rattle.std.proofs.lemmas.List.{append-nil}
+use Rattle.std.proofs.lemmas.List.{append-nil, drop_all}
 use Rattle.def_ids.specs.declared.ids.ModuleId.{ModuleId}
 use Rattle.def_bindings.specs.declared.bindings.EdgeTo.{EdgeTo}
 use Rattle.def_bindings.specs.declared.bindings.Entry.{Entry}
@@ -12,7 +13,7 @@ use Rattle.def_bindings.specs.Content.{Content}
 use Rattle.def_bindings.specs.Puts.{slot_of, offered, put_entry, puts, copied}
 use Rattle.def_globs.specs.Pending.{changed_at, changed_by, carried_by, is_changed, copied_all, reached}
 use Rattle.def_globs.specs.Globs.{Stays}
-use Rattle.def_globs.proofs.StaysLemmas.{stays_then, stays_put, stays_copied}
+use Rattle.def_globs.proofs.StaysLemmas.{stays_still, stays_then, stays_put, stays_copied}
 
 -- what is left of a list is its next item and the rest
 rest_is : {A : Type 0} (list : List A) (i : ℕ) (x d : A) → i < length list → x ≡ get_or list i d → drop i list ≡ x ∷ drop (i + 1) list
@@ -33,6 +34,10 @@ noted_wanted false so_far now is = absurd (false≢true is)
 noted_none : {A : Type 0} (wanted : Bool) (so_far now : List A) → wanted ≡ false → so_far ≡ so_far ++ cond wanted now []
 noted_none false so_far now is = sym (append-nil so_far)
 noted_none true so_far now is = absurd (false≢true (sym is))
+
+nothing : {A : Type 0} (wanted : Bool) → cond wanted (let none : List A = [] in none) [] ≡ []
+nothing true = refl
+nothing false = refl
 
 module _ {V : Type 0} (o : Order V) (m : ModuleId) where
   pub stays_entry : (first : Content V) (e : Entry V) (c c' : Content V) → Stays first c → c' ≡ put_entry o m e c → Stays first c'
@@ -72,6 +77,24 @@ module _ {V : Type 0} (o : Order V) (m : ModuleId) (list : List (Entry V)) (has_
     pub put_unnoted : has_edge ≡ false → next ≡ slots → PutSoFar (i + 1) next c'
     put_unnoted none is = by_entry (is ∙ noted_none has_edge slots changed none)
 
+  -- nothing is put yet
+  pub put_begins : (slots : List Slot) → slots ≡ [] → has_edge ≡ is_some (slice_get (first.edges m) 0) → PutSoFar 0 slots first
+  put_begins slots none is = record {
+    stays = stays_still first;
+    changed = ap (λ l. l ++ cond has_edge (changed_by o m list first) []) none ∙ ap (λ b. cond b (changed_by o m list first) []) is;
+    content = refl;
+  }
+
+  -- the whole list is put
+  pub put_ends : (i : ℕ) (slots : List Slot) (c : Content V) → length list ≤ i → PutSoFar i slots c → (slots ≡ carried_by o m list first) × (c ≡ puts o m list first)
+  put_ends i slots c past before = (
+    sym (append-nil slots)
+        ∙ ap (λ l. slots ++ l) (sym (nothing has_edge))
+        ∙ ap (λ l. slots ++ cond has_edge (changed_by o m l c) []) (sym (drop_all i list past))
+        ∙ before.changed,
+    ap (λ l. puts o m l c) (sym (drop_all i list past)) ∙ before.content,
+  )
+
 pub stays_reached : {V : Type 0} (o : Order V) (source : ModuleId) (edge : EdgeTo V) (first : Content V) (x : Slot) (c c' : Content V) → Stays first c → c' ≡ copied o source edge x c → Stays first c'
 stays_reached o source edge first x c c' before copied_now = stays_then first c c' before (subst (Stays c) (sym copied_now) (stays_copied o source edge x c))
 
@@ -102,3 +125,18 @@ module _ {V : Type 0} (o : Order V) (source : ModuleId) (edge : EdgeTo V) (slots
       → (noted_now ≡ cond (is_changed o source edge x c) (x ∷ []) []) × (c' ≡ copied o source edge x c) → next ≡ noted_so_far ++ noted_now → CopiedSoFar i noted_so_far c → CopiedSoFar (i + 1) next c'
   copied_noted i x d noted_now noted_so_far next c c' within item done is before =
       copied_next i x d noted_so_far next c c' within item done.1 (is ∙ ap (λ l. noted_so_far ++ l) done.0) before
+
+  -- nothing is copied yet
+  pub copied_begins : (changed : List Slot) → changed ≡ [] → CopiedSoFar 0 changed first
+  copied_begins changed none = record {
+    stays = stays_still first;
+    reached = ap (λ l. l ++ reached o source edge slots first) none;
+    content = refl;
+  }
+
+  -- all slots are copied
+  pub copied_ends : (i : ℕ) (changed : List Slot) (c : Content V) → length slots ≤ i → CopiedSoFar i changed c → (changed ≡ reached o source edge slots first) × (c ≡ copied_all o source edge slots first)
+  copied_ends i changed c past before = (
+    sym (append-nil changed) ∙ ap (λ l. changed ++ reached o source edge l c) (sym (drop_all i slots past)) ∙ before.reached,
+    ap (λ l. copied_all o source edge l c) (sym (drop_all i slots past)) ∙ before.content,
+  )

@@ -1,3 +1,4 @@
+mod InternLemmas
 mod MacroKindsFacts
 mod NumberingLemmas
 mod SessionFacts

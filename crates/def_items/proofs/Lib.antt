@@ -1,4 +1,3 @@
 pub mod ItemsLemmas
 pub mod NumberedLemmas
 pub mod OrderLemmas
-pub mod TextualLemmas

@@ -4,3 +4,4 @@ pub mod CrateLemmas
 pub mod LegacyLemmas
 pub mod HelpersLemmas
 mod WritesFacts
+pub mod TextualLemmas

@@ -1,10 +1,11 @@
 -- What the calls on directories find in texts.
-use Rattle.std.proofs.Common.{◌≡◌, ℕ, zero, suc, ◌+◌, ◌-◌, ◌<◌, ◌≢◌, Bool, true, false, cond, ◌==◌, Option, Some, None, List, [], ◌∷◌, ◌++◌, length, take, drop, get_or, refl, sym, ap, ◌∙◌, subst, inl, inr, append_assoc, arith, zero-add, length-drop}
-use Rattle.std.proofs.lemmas.List.{map-append}
+use Rattle.std.proofs.Common.{◌≡◌, ℕ, zero, suc, ◌+◌, ◌-◌, ◌<◌, ◌≤◌, ◌≢◌, Bool, true, false, cond, ◌==◌, Option, Some, None, List, [], ◌∷◌, ◌++◌, length, take, drop, get_or, refl, sym, ap, ◌∙◌, subst, inl, inr, append_assoc, arith, zero-add, length-drop}
+use Rattle.std.proofs.lemmas.List.{at_drop_all, at_drop_more, map-append}
 use Rattle.std.specs.Prelude.{codes, map, is_some, option_map, option_and_then, ◌||◌, String, string_bytes, Err}
 use Rattle.std.specs.Bool.{MatchBool}
+use Rattle.item_tree.specs.Lists.{or_else}
 use Rattle.std.proofs.lemmas.Bool.{cases_Bool, eqb-true, false≢true}
-use Rattle.def_readings.specs.Directories.{slash, joined_text, pieces_of, without_last, without_last_empty, dir_pieces, is_text, is_mod_rs, without_dot, as_slash, Directory, Files, child as child_of, found_directory, found_file, in_candidate, candidates, split_text, FoundFile, first_found, or_candidates, resolve_declaration}
+use Rattle.def_readings.specs.Directories.{slash, base_of, clean, joined_text, pieces_of, without_last, without_last_empty, dir_pieces, is_text, is_mod_rs, without_dot, as_slash, Directory, Files, child as child_of, found_directory, found_file, in_candidate, candidates, split_text, FoundFile, first_found, or_candidates, resolve_declaration}
 use Rattle.tree_ids.specs.declared.ids.HirFileId.{HirFileId}
 use Rattle.std.specs.Global.{Global}
 use Rattle.tree_ids.specs.declared.ids.FileId.{FileId}
@@ -227,6 +228,11 @@ two_candidates dir name first second none one two e f g h k =
     let last : split_text second ≡ dir.pieces ++ (pieces_of name ++ codes "mod.rs" ∷ []) = k ∙ ap (λ ps. dir.pieces ++ ps) (pieces-append name (codes "mod.rs")) in
     ap (map split_text) both ∙ (ap (λ p. p ∷ split_text second ∷ []) h ∙ ap (λ p. (dir.pieces ++ pieces_of (name ++ codes ".rs")) ∷ p ∷ []) last)
 
+-- the one file of a module with an attribute
+pub one_candidate : (dir : Directory) (name attr : List ℕ) (first : String Global) (none one : List (String Global)) → none ≡ [] → one ≡ none ++ first ∷ []
+    → split_text first ≡ base_of dir.pieces dir.root_non_dir_owner ++ pieces_of (clean attr) → map split_text one ≡ candidates dir name (Some attr)
+one_candidate dir name attr first none one e f h = ap (map split_text) (f ∙ ap (λ xs. xs ++ first ∷ []) e) ∙ ap (λ p. p ∷ []) h
+
 -- the texts of candidates
 pub joined_texts : (files : List (String Global)) → map joined_text (map split_text files) ≡ map string_bytes files
 joined_texts [] = refl
@@ -239,3 +245,38 @@ pub all_candidates : (files : Files) (file : HirFileId) (dir : Directory) (name 
 all_candidates files file dir name attr items found e f n =
     let nothing : first_found files (files.original_file file) dir name attr (candidates dir name attr) ≡ None = ap (first_found files (files.original_file file) dir name attr) (sym e) ∙ (sym f ∙ n) in
     ap (λ r. or_candidates r (map joined_text (candidates dir name attr))) nothing ∙ ap Err (ap (map joined_text) (sym e) ∙ joined_texts items)
+
+-- a candidate stands where it is there, and gives way where it is not
+stands : {X : Type 0} (o rest : Option X) → is_some o ≡ true → o ≡ or_else o rest
+stands (Some x) rest there = refl
+stands None rest there = absurd (false≢true there)
+
+gives_way : {X : Type 0} (o rest : Option X) → is_some o ≡ false → or_else o rest ≡ rest
+gives_way None rest missing = refl
+gives_way (Some x) rest missing = absurd (false≢true (sym missing))
+
+-- a search goes over the candidates one by one
+module _ (files : Files) (anchor : FileId) (dir : Directory) (name : List ℕ) (attr : Option (List ℕ)) (items : List (String Global)) (i : ℕ) where
+  abbrev found_among : List (String Global) → Option FoundFile
+  found_among list = first_found files anchor dir name attr (map split_text list)
+
+  module _ (item d : String Global) (text : List ℕ) (found : Option FoundFile) (within : i < length items) (read : item ≡ get_or items i d) (same : text ≡ string_bytes item)
+      (is : found ≡ in_candidate files anchor dir name attr (pieces_of text)) (so_far : found_among (drop i items) ≡ found_among items) where
+    by_item : or_else found (found_among (drop (i + 1) items)) ≡ found_among items
+    by_item =
+        ap (λ o. or_else o (found_among (drop (i + 1) items))) (is ∙ ap (λ t. in_candidate files anchor dir name attr (pieces_of t)) same)
+        ∙ ap (λ x. found_among (x ∷ drop (i + 1) items)) read
+        ∙ sym (at_drop_more found_among items i d within)
+        ∙ so_far
+
+    -- the next one is there
+    pub first_here : is_some found ≡ true → found ≡ found_among items
+    first_here there = stands found (found_among (drop (i + 1) items)) there ∙ by_item
+
+    -- it is not, and the others are left
+    pub first_later : is_some found ≡ false → found_among (drop (i + 1) items) ≡ found_among items
+    first_later missing = sym (gives_way found (found_among (drop (i + 1) items)) missing) ∙ by_item
+
+  -- none is left
+  pub first_nowhere : length items ≤ i → found_among (drop i items) ≡ found_among items → None ≡ found_among items
+  first_nowhere past so_far = sym (at_drop_all found_among items i past) ∙ so_far

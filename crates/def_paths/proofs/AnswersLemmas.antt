@@ -1,5 +1,5 @@
 -- Answers of paths: what a prefix gives in types, or where it is missing, and answers joined one after the other.
-use Rattle.std.proofs.Common.{◌≡◌, ◌∙◌, ap, sym, refl, arith, ◌+◌, ◌<◌, ◌≤◌, ℕ, suc, Bool, true, false, not, ◌&&◌, ◌||◌, cond, if◌then◌else◌, List, [], ◌∷◌, ◌++◌, length, take, drop, get_or, drop-cons, length-drop, add-one, Option, Some, None, is_none}
+use Rattle.std.proofs.Common.{◌≡◌, ◌∙◌, ap, sym, refl, arith, ◌+◌, ◌<◌, ◌≤◌, ℕ, suc, Bool, true, false, not, ◌&&◌, ◌||◌, cond, if◌then◌else◌, List, [], ◌∷◌, ◌++◌, length, take, drop, get_or, drop-cons, length-drop, add-one, Option, Some, None, is_none, option_and_then}
 use Rattle.std.proofs.lemmas.List.{take_more, drop_all}
 use Rattle.std.specs.List.{list_any, find, cons_option}
 use Rattle.std.specs.Option.{option_map, option_or, unwrap_or}
@@ -8,7 +8,7 @@ use Rattle.item_tree.specs.declared.mod_path.PathKind.{PathKind}
 use Rattle.item_tree.specs.declared.mod_path.PathKind.TheVariants.{Plain}
 use Rattle.tree_ids.specs.declared.name.Name.{Name}
 use Rattle.def_ids.specs.declared.ids.ModuleId.{ModuleId}
-use Rattle.def_ids.specs.Ids.{is_same_map, module_of_def}
+use Rattle.def_ids.specs.Ids.{is_block_root, is_same_map, module_of_def}
 use Rattle.def_bindings.specs.NameBindings.{module_bound}
 use Rattle.std.proofs.lemmas.Option.{none-some, option_and_then_some, same_Some}
 use Rattle.def_paths.specs.declared.path_result.PrefixInfo.{PrefixInfo}
@@ -22,10 +22,10 @@ use Rattle.def_modules.specs.MapView.{MapView}
 use Rattle.def_ids.specs.declared.ids.Def.{Def}
 use Rattle.def_ids.specs.declared.ids.Def.TheVariants.{Module, Function, Struct, Union, Enum, Variant, Const, Static, Trait, TypeAlias, Builtin, Macro}
 use Rattle.def_sources.specs.Items.{is_fitting, module_item}
-use Rattle.def_paths.specs.OuterMaps.{is_alone, is_plain, answer_in, answer_outside, answers_outside}
+use Rattle.def_paths.specs.OuterMaps.{is_alone, is_plain, answer_in, answer_of, answer_outside, answers_outside}
 use Rattle.def_sources.specs.PerNs.{Item, in_types, otherwise, per_namespace, is_nothing}
 use Rattle.def_bindings.specs.declared.bindings.Namespace.TheVariants.{Types}
-use Rattle.def_sources.specs.Sources.{Question, scope_source, beginning, first_found, found_in, by_sources, relative_sources}
+use Rattle.def_sources.specs.Sources.{Question, finished_map, scope_source, beginning, first_found, found_in, by_sources, relative_sources}
 use Rattle.def_sources.proofs.SourcesLemmas.{option_or-none, option_or-or, per_namespace-equal}
 
 -- a definition that gives a module is that module
@@ -346,3 +346,18 @@ outside-step q path xs i d result answer whole l h w =
     ∙ h (drop (i + 1) xs)
     ∙ ap (λ rest. joined answer (answers_outside q path (take i xs) rest)) (sym (drop-cons xs i d l ∙ ap (λ j. get_or xs i d ∷ drop j xs) (sym (add-one i))))
     ∙ w
+
+pub was-not : (b : Bool) → not b ≡ false → b ≡ true
+was-not true h = refl
+was-not false h = sym h
+
+-- a path that no map around a block is asked for, where the module that has its last segment is of the map that is asked
+pub own-answer : (q : Question) (own : MapView) (place : ModuleId) (path : ModPath) (at : ModuleId) (name : Name)
+    → (is_plain path.kind && is_block_root place) ≡ false → is_same_map at.map own.facts.id ≡ true
+    → answer_in q place path own ≡ reached (per_namespace (scope_source q own at name)) None false
+    → answer_of q own place path ≡ reached (per_namespace (own.content.binding at name)) None false
+own-answer q own place path at name inside same leads =
+    ap (λ b. joined (answer_in q place path own) (if b then answers_outside q path [] own.facts.containing else [])) inside
+    ∙ joined-none (answer_in q place path own)
+    ∙ leads
+    ∙ ap (λ b. reached (per_namespace (λ ns. option_and_then (λ there. there.content.binding at name ns) (if b then Some own else finished_map q.oracle at.map))) None false) same

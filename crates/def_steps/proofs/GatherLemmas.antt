@@ -1,8 +1,8 @@
 -- Elements that are gathered one by one.
-use Rattle.std.proofs.Common.{◌≡◌, ◌+◌, ◌<◌, ℕ, zero, suc, map, take, drop, length, List, [], ◌∷◌, ◌++◌, Some, None, refl, sym, ap, ◌∙◌, append-nil, append_assoc, add-one}
+use Rattle.std.proofs.Common.{◌≡◌, ◌+◌, ◌<◌, ◌≤◌, ℕ, get_or, zero, suc, map, take, drop, length, List, [], ◌∷◌, ◌++◌, Some, None, refl, sym, ap, ◌∙◌, append-nil, append_assoc, add-one}
 use Rattle.std.specs.Prelude.{slice_get, Option, Result, Ok, Err, OnOk}
 use Rattle.std.specs.List.{flat_map}
-use Rattle.std.proofs.lemmas.List.{map-append}
+use Rattle.std.proofs.lemmas.List.{at_drop_all, at_drop_more, map-append}
 use Rattle.std.proofs.lemmas.Option.{slice_get_within}
 
 -- the list from an index on, at an element
@@ -35,6 +35,19 @@ module _ {X Y : Type 0} (f : X → List Y) (xs : List X) where
   -- all were gathered
   pub gathered_all : (k : ℕ) (acc whole : List Y) → None ≡ slice_get xs k → acc ++ flat_map f (drop k xs) ≡ whole → acc ≡ whole
   gathered_all k acc whole past so_far = sym (append-nil acc) ∙ ap (λ l. acc ++ flat_map f l) (sym (past_index xs k past)) ∙ so_far
+
+-- elements that a loop over a list gathers, those to come standing behind them
+module _ {X Y : Type 0} (f : X → List Y) (xs : List X) (i : ℕ) where
+  pub gathers_read : (d : X) (acc acc' whole : List Y) → i < length xs → acc' ≡ acc ++ f (get_or xs i d) → acc ++ flat_map f (drop i xs) ≡ whole
+      → acc' ++ flat_map f (drop (i + 1) xs) ≡ whole
+  gathers_read d acc acc' whole within more so_far =
+      ap (λ l. l ++ flat_map f (drop (i + 1) xs)) more
+      ∙ append_assoc acc (f (get_or xs i d)) (flat_map f (drop (i + 1) xs))
+      ∙ ap (λ l. acc ++ l) (sym (at_drop_more (flat_map f) xs i d within))
+      ∙ so_far
+
+  pub gathers_all : (acc whole : List Y) → length xs ≤ i → acc ++ flat_map f (drop i xs) ≡ whole → acc ≡ whole
+  gathers_all acc whole past so_far = sym (append-nil acc) ∙ ap (λ l. acc ++ l) (sym (at_drop_all (flat_map f) xs i past)) ∙ so_far
 
 module _ {X Y : Type 0} (f : X → Y) (xs : List X) where
   -- one element more was listed

@@ -1,10 +1,12 @@
 -- One definition more that a glob was recorded with.
-use Rattle.std.proofs.Common.{◌≡◌, inl, inr, ◌+◌, true, false, cond, List, [], ◌∷◌, ◌++◌, Option, Some, None, refl, sym, ap, ◌∙◌}
+use Rattle.std.proofs.Common.{◌≡◌, ◌<◌, ◌≤◌, ℕ, Bool, inl, inr, ◌+◌, drop, get_or, length, true, false, cond, List, [], ◌∷◌, ◌++◌, Option, Some, None, refl, sym, ap, ◌∙◌}
 use Rattle.std.specs.Prelude.{unwrap_or}
+use Rattle.std.specs.Prelude.{◌||◌}
 use Rattle.std.proofs.lemmas.Bool.{cases_Bool}
+use Rattle.std.proofs.lemmas.List.{at_drop_all, at_drop_more}
 use Rattle.def_ids.specs.declared.ids.Def.{Def}
 use Rattle.def_ids.specs.declared.ids.GlobId.{GlobId}
-use Rattle.def_ids.specs.Equality.{glob_eq}
+use Rattle.def_ids.specs.Equality.{def_eq, glob_eq}
 use Rattle.def_bindings.specs.IdLaws.{glob-eq}
 use Rattle.def_modules.specs.KeyedLists.{PushesUnder}
 use Rattle.def_rules.specs.Globs.{Targets, is_among, with_def, with_target}
@@ -33,3 +35,18 @@ module _ (glob : GlobId) (d : Def) (old : Targets) where
 
       one : (g : GlobId) → new g ≡ with_target glob d old g
       one g = pushed g ∙ ap (λ l. cond (glob_eq glob g) (Some l) (old g)) (sym last)
+
+-- a search for a definition in a list, from an index on
+module _ (d : Def) (defs : List Def) (i : ℕ) where
+  -- it is the one at the index
+  pub found_at : (other : Def) → i < length defs → def_eq (get_or defs i other) d ≡ true → is_among d (drop i defs) ≡ is_among d defs → true ≡ is_among d defs
+  found_at other within same so_far = sym (ap (λ b. b || is_among d (drop (i + 1) defs)) same) ∙ sym (at_drop_more (is_among d) defs i other within) ∙ so_far
+
+  -- it is another one
+  pub passed_at : (other : Def) → i < length defs → def_eq (get_or defs i other) d ≡ false → is_among d (drop i defs) ≡ is_among d defs
+      → is_among d (drop (i + 1) defs) ≡ is_among d defs
+  passed_at other within apart so_far = sym (ap (λ b. b || is_among d (drop (i + 1) defs)) apart) ∙ sym (at_drop_more (is_among d) defs i other within) ∙ so_far
+
+  -- none is left
+  pub none_from : length defs ≤ i → is_among d (drop i defs) ≡ is_among d defs → false ≡ is_among d defs
+  none_from past so_far = sym (at_drop_all (is_among d) defs i past) ∙ so_far

@@ -87,17 +87,6 @@ pub fn edges_of(alloc: Global, table: &Table) -> Result<Vec<Edge>, AllocError>
     Ok(edges)
 }
 
-/// The definitions of a list.
-fn copy_of(alloc: Global, defs: &[Def]) -> Result<Vec<Def>, AllocError>
-    ensures { IfOk result (λ list. list.items ≡ defs.now) }
-{
-    let mut list = Vec::new(alloc);
-    'defs: for def in defs {
-        list.push(*def)?;
-    }
-    Ok(list)
-}
-
 /// What each glob was recorded with, in order.
 pub fn targets_of(
     alloc: Global,
@@ -110,7 +99,7 @@ pub fn targets_of(
     let mut number = 0;
     let _ = targets.len();
     'targets: while let Some((glob, defs)) = targets.get_index(number) {
-        let copy = copy_of(alloc, defs.as_slice())?;
+        let copy = defs.as_slice().to_vec(alloc)?;
         list.push((*glob, copy))?;
         number += 1;
     }

@@ -11,6 +11,7 @@ use Rattle.item_tree.specs.declared.tree.TreeFault.TheVariants.{ChildOutOfRange,
 use Rattle.item_tree.specs.Trees.{IsSound, children_at, children_of, count_in, occurrences, list_at}
 use Rattle.item_tree.specs.TreesLaws.{children_there}
 use Rattle.item_tree.specs.TextOrder.{IsRising, AreRising, IsWithin, IsCut, AreCut, IsInTextOrder}
+use Rattle.item_tree.proofs.TreesLemmas.{children_past}
 
 -- a number of a rising list is in range
 pub rising_at : (bound low : ℕ) (list : List ModItemId) (k : ℕ) (c : ModItemId) → IsRising bound low list → slice_get list k ≡ Some c → (low ≤ c.0) × (c.0 < bound)
@@ -245,3 +246,7 @@ sound_in_text_order items top ordered (ChildNotAfterParent i) fault =
 sound_in_text_order items top ordered (TwoParents i) fault =
     let one = once items top ordered.rising ordered.top_rising ordered.cut ordered.top_cut i in
     omega (arith, one, fault.1)
+
+-- no list of children at or behind the end is anything but empty, so the items are cut from there on
+pub cut_past : (items : List ItemNode) → AreCut items (length items)
+cut_past items j past = subst (IsCut items (j + 1)) (sym (children_past items j past)) (λ k c at. let none : ⊥ = cc in absurd none)

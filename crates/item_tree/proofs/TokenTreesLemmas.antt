@@ -1,10 +1,11 @@
 -- Flat lists of token trees, as they are read and as they are built.
-use Rattle.std.proofs.Common.{◌≡◌, ℕ, zero, suc, ◌-◌, ◌<◌, ◌≤◌, set, get_or, List, [], ◌∷◌, ◌++◌, length, map, take, drop, refl, ap, sym, subst, ◌∙◌, append_assoc, arith, length-append}
+use Rattle.std.proofs.Common.{◌≡◌, ℕ, zero, suc, ◌-◌, ◌<◌, ◌≤◌, set, get_or, List, [], ◌∷◌, ◌++◌, length, map, take, drop, refl, ap, sym, subst, ◌∙◌, append_assoc, arith, inl, inr, length-append}
+use Rattle.std.proofs.lemmas.Bool.{cases_lt}
 use Rattle.item_tree.specs.declared.tt.Token.{Token}
 use Rattle.item_tree.specs.declared.tt.Token.TheVariants.{Leaf, Open, Close}
-use Rattle.item_tree.specs.TokenTrees.{TokenTrees, no_trees, leaf, subtree, Piece, word, opening, closing, TtElement, group, elements, written, depth, depth_from, read, first_or_none, trees_read, trees_read_written}
+use Rattle.item_tree.specs.TokenTrees.{TokenTrees, no_trees, leaf, subtree, Piece, word, opening, closing, TtElement, group, token, elements, written, depth, depth_from, read, first_or_none, trees_read, trees_read_written}
 use Rattle.item_tree.specs.FlatTrees.{flat, piece_of, trees_of, IsFlat, HasOpen, IsBegun}
-use Rattle.std.proofs.lemmas.List.{map-append, take_all}
+use Rattle.std.proofs.lemmas.List.{drop_all, map-append, take_all}
 use Rattle.std.proofs.Math.Seq.{set-append_seam, take-append_seam, drop-append_seam}
 
 -- the flat list of trees, as a text, is the text of these trees
@@ -234,6 +235,21 @@ elements_begin len tokens list front back e b f g =
     ap (λ l. elements (trees_of l)) e ∙ ap elements b.same
     ∙ ap (λ t. group t ∷ elements b.behind) (sym (read_when front b.inside f))
     ∙ ap (λ t. group (trees_of front) ∷ elements t) (sym (read_when back b.behind g))
+
+-- a list that begins with a leaf
+pub flat_behind : (l : _) (tokens list : List Token) → IsFlat list → list ≡ Leaf l ∷ tokens → IsFlat tokens
+flat_behind l tokens list is e = let at_leaf : IsFlat (Leaf l ∷ tokens) = subst IsFlat e is in cc
+
+pub elements_leaf : (l : _) (tokens list : List Token) → list ≡ Leaf l ∷ tokens → elements (trees_of list) ≡ token l ∷ elements (trees_of tokens)
+elements_leaf l tokens list e = ap (λ t. elements (trees_of t)) e
+
+-- the inside is within the tokens
+pub begins_within : (len : ℕ) (tokens : List Token) → Begins len tokens → len ≤ length tokens
+begins_within len tokens b =
+    elim (cases_lt (length tokens) len) [
+      | inl over ↦ absurd (omega (arith, ap length (sym (drop_all len tokens (omega (arith, over))) ∙ b.back)))
+      | inr within ↦ within
+    ]
 
 pub fewer : (xs ys : List TtElement) (x : TtElement) → xs ≡ x ∷ ys → length ys < length xs
 fewer xs ys x e = omega (arith, ap length e)

@@ -41,6 +41,10 @@ module _ {R A : Type 0} (list : R → List A) (old new : ModuleId → Option R) 
       → lists_by new list ≡ listed_as (lists_by old list) at (f (lists_by old list at))
   lists-changed f was row before after is = λ i q. listed old new at (Some was) row before after (λ o. option_map_or list o []) f is q i
 
+  -- a list is begun
+  pub lists-begun : (row : R) → old at ≡ None → ChangesRow old new at row → lists_by new list ≡ listed_as (lists_by old list) at (list row)
+  lists-begun row before after = λ i q. listed old new at None row before after (λ o. option_map_or list o []) (λ before. list row) refl q i
+
 -- a list written as it was
 pub listed_as-same : {A : Type 0} (f : ModuleId → A) (at : ModuleId) → listed_as f at (f at) ≡ f
 listed_as-same f at = λ i q. same q i

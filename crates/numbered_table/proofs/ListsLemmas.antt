@@ -2,14 +2,16 @@
 use Rattle.std.proofs.Common.{◌≡◌, ◌∙◌, ap, sym, refl, arith, inl, inr, ℕ, suc, zero, ◌<◌, ◌==◌, Bool, true, false, cond, ◌&&◌, List, [], ◌∷◌, ◌++◌, length, set, get_or, is_some, Option, Some, None, Vec, slice_get}
 use Rattle.std.proofs.lemmas.Bool.{cases_Bool, eqb-true, eq-eqb, false≢true}
 use Rattle.std.specs.Global.{Global}
-use Rattle.std.proofs.lemmas.Option.{slice_get_cases, get_or_from_slice_get}
-use Rattle.std.specs.Option.{option_map, option_map_or, option_and_then}
+use Rattle.std.proofs.lemmas.Option.{slice_get_cases, slice_get_read, get_or_from_slice_get}
+use Rattle.indexmap.specs.IndexMap.{IndexMap, get}
+use Rattle.std.specs.Option.{option_eq, option_map, option_map_or, option_and_then}
+use Rattle.tree_ids.specs.declared.ids.BlockId.{BlockId}
 use Rattle.def_ids.specs.declared.ids.MapId.{MapId}
 use Rattle.def_ids.specs.declared.ids.ModuleId.{ModuleId}
-use Rattle.def_ids.specs.Ids.{is_same_map, is_same_module}
+use Rattle.def_ids.specs.Ids.{is_same_block, is_same_map, is_same_module}
 use Rattle.def_bindings.specs.Content.{listed_as}
 use Rattle.def_bindings.specs.IdLaws.{cases_module, same_map_equal, same_map_itself}
-use Rattle.numbered_table.specs.Lists.{row_in, row_items, with_row}
+use Rattle.numbered_table.specs.Lists.{lists_in, row_in, row_items, with_row}
 use Rattle.numbered_table.proofs.ByModuleLemmas.{ChangesRow, listed_as-same}
 
 -- one more row without a list
@@ -179,3 +181,31 @@ module _ {K : Type 0} (map : MapId) (rows : List (Option (Vec K Global))) (m : M
       itself : (o : Option (List K)) → option_map (λ xs. xs) o ≡ o
       itself None = refl
       itself (Some x) = refl
+
+-- maps as the code compares them
+same_block : (a b : Option BlockId) → option_eq (λ x y. x.0 == y.0) a b ≡ is_same_block a b
+same_block None None = refl
+same_block None (Some b) = refl
+same_block (Some a) None = refl
+same_block (Some a) (Some b) = refl
+
+pub same_map : (a b : MapId) → is_same_map a b ≡ ((a.krate.0 == b.krate.0) && option_eq (λ x y. x.0 == y.0) a.block b.block)
+same_map a b = ap (λ t. (a.krate.0 == b.krate.0) && t) (sym (same_block a.block b.block))
+
+-- what is in a module's row, where it is looked for
+module _ {K : Type 0} (map : MapId) (rows : List (Option (Vec K Global))) (m : ModuleId) where
+  pub no-row : is_same_map m.map map ≡ false → None ≡ row_in map rows m
+  no-row apart = ap (λ b. cond b (option_and_then row_items (slice_get rows m.index)) None) (sym apart)
+
+  pub row-read : (read : List (Option (Vec K Global))) (row : Option (Vec K Global)) → is_same_map m.map map ≡ true → read ≡ rows → m.index < length read → row ≡ get_or read m.index row
+      → row_items row ≡ row_in map rows m
+  row-read read row own is inside there =
+      sym (ap (λ b. cond b (option_and_then row_items (slice_get rows m.index)) None) own
+      ∙ ap (λ rs. option_and_then row_items (slice_get rs m.index)) (sym is)
+      ∙ ap (option_and_then row_items) (slice_get_read read (length read) m.index row refl inside there))
+
+-- a module without a row, and with nothing among those that are looked up, has no list
+pub no-list : {K S : Type 0} (rows : ModuleId → Option (List K)) (others : IndexMap ModuleId (Vec K Global) S) (at : ModuleId) → rows at ≡ None → get is_same_module others at ≡ None
+    → with_row rows (lists_in others) at ≡ []
+no-list rows others at none nothing =
+    ap (λ r. option_map_or (λ xs. xs) r (lists_in others at)) none ∙ ap (λ o. option_map_or (λ v. v.items) o []) nothing

@@ -28,3 +28,7 @@ OnErr_from (Err e) h = h
 pub at_ok : {T E : Type 0} (r : Result T E) {P : Type 0} → IsOk r → OnOk r P → P
 at_ok (Ok x) h p = p
 at_ok (Err e) h p = absurd (search rules)
+
+pub at_err : {T E : Type 0} (r : Result T E) {P : Type 0} (e : E) → r ≡ Err e → OnErr r P → P
+at_err (Ok x) e is p = cc
+at_err (Err x) e is p = p

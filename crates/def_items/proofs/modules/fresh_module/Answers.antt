@@ -1,7 +1,7 @@
 use Rattle.std.proofs.Common.{Some, ap, refl, sym, ◌∙◌}
 use Rattle.std.proofs.lemmas.Option.{slice_get_past, slice_get_read}
 use Rattle.def_modules.specs.Scopes.{empty_module, with_textual_of}
-use Rattle.def_items.proofs.TextualLemmas.{textual_missing, textual_there}
+use Rattle.def_modules.proofs.TextualLemmas.{textual_missing, textual_there}
 use Rattle.def_items.proofs.modules.fresh_module.Goals as goal
 
 pub returns-in_default : goal.returns-in_default

@@ -1,46 +1,79 @@
-use Rattle.std.proofs.Common.{Some, ap, refl, ◌∙◌}
+use Rattle.std.proofs.Common.{Some, ap, refl, sym, ◌∙◌}
+use Rattle.std.proofs.lemmas.Bool.{false≢true}
+use Rattle.std.proofs.lemmas.Result.{IfOk-from_err}
 use Rattle.def_ids.specs.declared.ids.Def.TheVariants as def
 use Rattle.def_ids.specs.declared.ids.ItemContainerId.TheVariants as contained
 use Rattle.def_interner.specs.Session.{EnumItem, TraitItem, TypeAliasItem, UnionItem, in_container}
+use Rattle.def_items.specs.Numbered.{is_declaring}
 use Rattle.def_rules.specs.Rules.{rule_of}
 use Rattle.def_items.proofs.numbered.number_item.Goals as goal
 
-pub returns-in_ok-id-in-Union-clause-declared : goal.returns-in_ok-id-in-Union-clause-declared
-returns-in_ok-id-in-Union-clause-declared c = (
-  UnionItem,
-  (λ n. def.Union (record { 0 = n })),
-  c.in_ok-id-in-Union.id.0,
-  refl,
-  c.in_ok-id-in-Union.ensures.shown ∙ ap (λ p. Some (in_container (contained.Module c.args.site.now.module_id) p)) c.position.ensures,
-  ap rule_of c.in-Union.is,
-)
+pub returns-in_ok-id-in-Union : goal.returns-in_ok-id-in-Union
+returns-in_ok-id-in-Union c = record {
+  declared = (
+    UnionItem,
+    (λ n. def.Union (record { 0 = n })),
+    c.in_ok-id-in-Union.id.0,
+    refl,
+    c.in_ok-id-in-Union.ensures.shown ∙ ap (λ p. Some (in_container (contained.Module c.args.site.now.module_id) p)) c.position.ensures,
+    ap rule_of c.in-Union.is,
+  );
+  same = λ none. absurd (false≢true (sym none ∙ ap is_declaring c.in-Union.is));
+  session = c.in_ok-id-in-Union.ensures.adds;
+}
 
-pub returns-in_ok-id-in-Enum-clause-declared : goal.returns-in_ok-id-in-Enum-clause-declared
-returns-in_ok-id-in-Enum-clause-declared c = (
-  EnumItem,
-  (λ n. def.Enum (record { 0 = n })),
-  c.in_ok-id-in-Enum.id.0,
-  refl,
-  c.in_ok-id-in-Enum.ensures.shown ∙ ap (λ p. Some (in_container (contained.Module c.args.site.now.module_id) p)) c.position-in-Enum.ensures,
-  ap rule_of c.in-Enum.is,
-)
+pub returns-in_ok-id-in-Enum : goal.returns-in_ok-id-in-Enum
+returns-in_ok-id-in-Enum c = record {
+  declared = (
+    EnumItem,
+    (λ n. def.Enum (record { 0 = n })),
+    c.in_ok-id-in-Enum.id.0,
+    refl,
+    c.in_ok-id-in-Enum.ensures.shown ∙ ap (λ p. Some (in_container (contained.Module c.args.site.now.module_id) p)) c.position-in-Enum.ensures,
+    ap rule_of c.in-Enum.is,
+  );
+  same = λ none. absurd (false≢true (sym none ∙ ap is_declaring c.in-Enum.is));
+  session = c.in_ok-id-in-Enum.ensures.adds;
+}
 
-pub returns-in_ok-id-in-Trait-clause-declared : goal.returns-in_ok-id-in-Trait-clause-declared
-returns-in_ok-id-in-Trait-clause-declared c = (
-  TraitItem,
-  (λ n. def.Trait (record { 0 = n })),
-  c.in_ok-id-in-Trait.id.0,
-  refl,
-  c.in_ok-id-in-Trait.ensures.shown ∙ ap (λ p. Some (in_container (contained.Module c.args.site.now.module_id) p)) c.position-in-Trait.ensures,
-  ap rule_of c.in-Trait.is,
-)
+pub returns-in_ok-id-in-Trait : goal.returns-in_ok-id-in-Trait
+returns-in_ok-id-in-Trait c = record {
+  declared = (
+    TraitItem,
+    (λ n. def.Trait (record { 0 = n })),
+    c.in_ok-id-in-Trait.id.0,
+    refl,
+    c.in_ok-id-in-Trait.ensures.shown ∙ ap (λ p. Some (in_container (contained.Module c.args.site.now.module_id) p)) c.position-in-Trait.ensures,
+    ap rule_of c.in-Trait.is,
+  );
+  same = λ none. absurd (false≢true (sym none ∙ ap is_declaring c.in-Trait.is));
+  session = c.in_ok-id-in-Trait.ensures.adds;
+}
 
-pub returns-in_ok-id-in-TypeAlias-clause-declared : goal.returns-in_ok-id-in-TypeAlias-clause-declared
-returns-in_ok-id-in-TypeAlias-clause-declared c = (
-  TypeAliasItem,
-  (λ n. def.TypeAlias (record { 0 = n })),
-  c.in_ok-id-in-TypeAlias.id.0,
-  refl,
-  c.in_ok-id-in-TypeAlias.ensures.shown ∙ ap (λ p. Some (in_container (c.args.site.now.container) p)) c.position-in-TypeAlias.ensures,
-  ap rule_of c.in-TypeAlias.is,
-)
+pub returns-in_ok-id-in-TypeAlias : goal.returns-in_ok-id-in-TypeAlias
+returns-in_ok-id-in-TypeAlias c = record {
+  declared = (
+    TypeAliasItem,
+    (λ n. def.TypeAlias (record { 0 = n })),
+    c.in_ok-id-in-TypeAlias.id.0,
+    refl,
+    c.in_ok-id-in-TypeAlias.ensures.shown ∙ ap (λ p. Some (in_container c.args.site.now.container p)) c.position-in-TypeAlias.ensures,
+    ap rule_of c.in-TypeAlias.is,
+  );
+  same = λ none. absurd (false≢true (sym none ∙ ap is_declaring c.in-TypeAlias.is));
+  session = c.in_ok-id-in-TypeAlias.ensures.adds;
+}
+
+-- where nothing is numbered, locations alone were added
+
+pub returns-in_err-id-in-Union : goal.returns-in_err-id-in-Union
+returns-in_err-id-in-Union c = record { declared = IfOk-from_err _ _ c.from_residual.ensures.0; same = IfOk-from_err _ _ c.from_residual.ensures.0; session = c.in_err-id-in-Union.ensures.adds }
+
+pub returns-in_err-id-in-Enum : goal.returns-in_err-id-in-Enum
+returns-in_err-id-in-Enum c = record { declared = IfOk-from_err _ _ c.from_residual-in_err-id-in-Enum.ensures.0; same = IfOk-from_err _ _ c.from_residual-in_err-id-in-Enum.ensures.0; session = c.in_err-id-in-Enum.ensures.adds }
+
+pub returns-in_err-id-in-Trait : goal.returns-in_err-id-in-Trait
+returns-in_err-id-in-Trait c = record { declared = IfOk-from_err _ _ c.from_residual-in_err-id-in-Trait.ensures.0; same = IfOk-from_err _ _ c.from_residual-in_err-id-in-Trait.ensures.0; session = c.in_err-id-in-Trait.ensures.adds }
+
+pub returns-in_err-id-in-TypeAlias : goal.returns-in_err-id-in-TypeAlias
+returns-in_err-id-in-TypeAlias c = record { declared = IfOk-from_err _ _ c.from_residual-in_err-id-in-TypeAlias.ensures.0; same = IfOk-from_err _ _ c.from_residual-in_err-id-in-TypeAlias.ensures.0; session = c.in_err-id-in-TypeAlias.ensures.adds }

@@ -1,6 +1,7 @@
-use Rattle.std.proofs.Common.{arith, rules}
+use Rattle.std.proofs.Common.{arith, sym, ◌∙◌}
+use Rattle.std.proofs.lemmas.Bool.{false≢true}
 use Rattle.item_tree.proofs.TextOrderLemmas.{sound_in_text_order}
-use Rattle.item_tree.proofs.TreesLemmas.{sound_from_below}
+use Rattle.item_tree.proofs.TreesLemmas.{sound_from_below, top_fault}
 use Rattle.item_tree.proofs.tree.first_fault.Goals as goal
 
 pub returns-then-is_in_text_order-clause-none : goal.returns-then-is_in_text_order-clause-none
@@ -10,10 +11,10 @@ pub returns-clause-none : goal.returns-clause-none
 returns-clause-none c =
     sound_from_below _ _
     (λ fault below. c.loop-i.invariant fault (omega (arith, below, c.loop-i-test.false)))
-    (λ wrong. let yes = c.is_any_from.ensures.1 wrong in cc)
+    (λ wrong. false≢true (sym c.if-is_any_from.false ∙ c.is_any_from.ensures.1 wrong))
 
 pub loop-i-init : goal.loop-i-init
-loop-i-init c = search rules
+loop-i-init c = λ fault below. absurd (omega (arith, below))
 
 pub returns-then-is_any_from-clause-some : goal.returns-then-is_any_from-clause-some
-returns-then-is_any_from-clause-some c = search rules
+returns-then-is_any_from-clause-some c = top_fault _ _ (c.is_any_from.ensures.0 c.if-is_any_from.true) (λ fault below. c.loop-i.invariant fault (omega (arith, below, c.loop-i-test.false)))

@@ -1,4 +1,4 @@
-use Rattle.std.proofs.Common.{◌≡◌, ◌∙◌, ◌<◌, Some, ap, arith, cond, length, refl, set, subst, sym}
+use Rattle.std.proofs.Common.{◌∙◌, ◌<◌, Some, ap, arith, cond, length, refl, set, subst, sym}
 use Rattle.def_ids.specs.Ids.{is_same_module}
 use Rattle.numbered_table.specs.Lists.{row_in}
 use Rattle.numbered_table.proofs.ListsLemmas.{row-set}

@@ -1,6 +1,6 @@
 use Rattle.std.proofs.Common.{refl}
 use Rattle.std.specs.Prelude.{option_to_list}
-use Rattle.def_globs.proofs.TurnsLemmas.{stays_reached, copied_noted}
+use Rattle.def_globs.proofs.TurnsLemmas.{stays_reached, copied_begins, copied_ends, copied_noted}
 use Rattle.def_globs.proofs.globs.wave.copy_all.Goals as goal
 
 pub returns-in_err-note-clause-stays : goal.returns-in_err-note-clause-stays
@@ -20,3 +20,16 @@ loop-slot-preserved g c =
     let content = g.T.BindingTable.content in
     copied_noted (g.O.VisOrder.order c.args.order.now) c.args.source c.args.edge c.args.slots.now (content c.args.table.now) c.loop-slot.slot-index _ _ (option_to_list c.in_ok-copied.copied)
     c.loop-slot.changed.items c.note.new.changed.items (content c.loop-slot.table) (content c.copy_slot.new.table) c.loop-slot-test.true refl c.in_ok-copied.ensures.done c.in_ok-note.ensures.done c.loop-slot.invariant
+
+pub loop-slot-init : goal.loop-slot-init
+loop-slot-init g c =
+    copied_begins (g.O.VisOrder.order c.args.order.now) c.args.source c.args.edge c.args.slots.now (g.T.BindingTable.content c.args.table.now) c.new-changed.result.items c.new-changed.ensures.items
+
+pub returns-clause-done : goal.returns-clause-done
+returns-clause-done g c =
+    let content = g.T.BindingTable.content in
+    copied_ends (g.O.VisOrder.order c.args.order.now) c.args.source c.args.edge c.args.slots.now (content c.args.table.now) c.loop-slot.slot-index c.loop-slot.changed.items
+    (content c.loop-slot.table) c.loop-slot-test.false c.loop-slot.invariant
+
+pub returns-clause-stays : goal.returns-clause-stays
+returns-clause-stays g c = c.loop-slot.invariant.stays

@@ -1,6 +1,6 @@
-use Rattle.std.proofs.Common.{rules, ap, ◌∙◌, ◌∷◌, sym}
+use Rattle.std.proofs.Common.{ap, ◌∙◌, ◌∷◌, sym}
 use Rattle.item_tree.specs.TokenTrees.{elements}
-use Rattle.item_tree.proofs.TokenTreesLemmas.{flat_when, begins_when, after_close, elements_begin, fewer, Begins}
+use Rattle.item_tree.proofs.TokenTreesLemmas.{flat_when, flat_behind, begins_when, begins_within, after_close, elements_begin, elements_leaf, fewer, Begins}
 use Rattle.item_tree.proofs.tt.TtIterIterator.next.Goals as goal
 
 pub begun : (c : goal.After-self-in-Open-1) → Begins c.in-Open.len c.in_ok-first.behind.now
@@ -21,4 +21,18 @@ returns-in-Open-clause-steps c =
 pub returns-in-Open-clause-goes : goal.returns-in-Open-clause-goes
 returns-in-Open-clause-goes c =
     let less = fewer _ _ _ (returns-in-Open-clause-steps c) in
-    search (rules, less)
+    record { on = λ finite. (tt, tt, less); keeps = tt; rests = λ finite. tt }
+
+pub split_at-requires : goal.split_at-requires
+split_at-requires c = begins_within _ _ (begins_when _ _ _ c.self.invariant (c.in_ok-first.ensures.cases.0 ∙ ap (λ t. t ∷ c.in_ok-first.behind.now) c.in-Open.is))
+
+pub invariant_of-self : goal.invariant_of-self
+invariant_of-self c = flat_behind _ _ _ c.self.invariant (c.in_ok-first.ensures.cases.0 ∙ ap (λ t. t ∷ c.in_ok-first.behind.now) c.in-Leaf.is)
+
+pub returns-in-Leaf-clause-steps : goal.returns-in-Leaf-clause-steps
+returns-in-Leaf-clause-steps c = ap elements (sym c.self.view_is) ∙ elements_leaf _ _ _ (c.in_ok-first.ensures.cases.0 ∙ ap (λ t. t ∷ c.in_ok-first.behind.now) c.in-Leaf.is)
+
+pub returns-in-Leaf-clause-goes : goal.returns-in-Leaf-clause-goes
+returns-in-Leaf-clause-goes c =
+    let less = fewer _ _ _ (returns-in-Leaf-clause-steps c) in
+    record { on = λ finite. (tt, tt, less); keeps = tt; rests = λ finite. tt }

@@ -1,11 +1,11 @@
-use Rattle.std.proofs.Common.{ap, arith, rules, sym, ◌<◌, ◌∙◌}
+use Rattle.std.proofs.Common.{ap, arith, sym, ◌<◌, ◌∙◌}
 use Rattle.std.specs.HashMap.{spare}
 use Rattle.std.specs.Map.{keys_of}
 use Rattle.indexmap.specs.IndexMap.{insert_entry}
 use Rattle.numbered_table.specs.Lists.{lists_of}
 use Rattle.numbered_table.specs.Numbers.{own_entries, numbers_from, is_placed, placed_at}
 use Rattle.numbered_table.proofs.NumbersLemmas.{distinct-own_entries, own-insert_entry, numbered-present, numbered-new}
-use Rattle.numbered_table.proofs.ResultLemmas.{at_ok, none_there}
+use Rattle.numbered_table.proofs.ResultLemmas.{at_ok, none_there, OnErr_from}
 use Rattle.numbered_table.proofs.keyed.Keyed.set.Goals as goal
 
 pub invariant_of-self : goal.invariant_of-self
@@ -54,4 +54,19 @@ pub returns-clause-distinct : goal.returns-clause-distinct
 returns-clause-distinct g c = distinct-own_entries g.K.PartialEq.eq c.args.module c.args.self.now.entries.entries c.len-number.ensures.unique
 
 pub returns-in_err-insert-clause-distinct : goal.returns-in_err-insert-clause-distinct
-returns-in_err-insert-clause-distinct g c = search rules
+returns-in_err-insert-clause-distinct g c = distinct-own_entries g.K.PartialEq.eq c.args.module c.args.self.now.entries.entries c.len-number.ensures.unique
+
+pub invariant_of-self-in-Break-1 : goal.invariant_of-self-in-Break-1
+invariant_of-self-in-Break-1 g c =
+    let same = c.in_err-reserve.ensures.entries ∙ c.replace.ensures.same c.if-replace.false in
+    record { numbered = λ m. c.args.self.now.numbered m ∙ sym (ap (λ es. numbers_from m 0 (keys_of es)) same) }
+
+pub returns-in_err-reserve-clause-refused : goal.returns-in_err-reserve-clause-refused
+returns-in_err-reserve-clause-refused g c = OnErr_from c.from_residual.result (ap own_entries (c.in_err-reserve.ensures.entries ∙ c.replace.ensures.same c.if-replace.false))
+
+pub returns-in_err-push-clause-refused : goal.returns-in_err-push-clause-refused
+returns-in_err-push-clause-refused g c = OnErr_from c.from_residual-in_err-push.result (ap own_entries (c.in_ok-reserve.ensures.entries ∙ c.replace.ensures.same c.if-replace.false))
+
+pub returns-in_err-insert-clause-refused : goal.returns-in_err-insert-clause-refused
+returns-in_err-insert-clause-refused g c =
+    OnErr_from c.from_residual-in_err-insert.result (ap own_entries (c.in_err-insert.ensures.err ∙ c.in_ok-reserve.ensures.entries ∙ c.replace.ensures.same c.if-replace.false))

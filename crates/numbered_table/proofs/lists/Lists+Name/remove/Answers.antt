@@ -1,11 +1,10 @@
-use Rattle.std.proofs.Common.{◌≡◌, ◌∙◌, [], ap, option_map, sym}
-use Rattle.std.specs.Option.{option_map_or}
+use Rattle.std.proofs.Common.{◌∙◌, None, ap, arith, option_map, sym}
 use Rattle.indexmap.specs.IndexMap.{get}
 use Rattle.def_ids.specs.Ids.{is_same_module}
 use Rattle.def_bindings.specs.Content.{listed_as, without_name}
 use Rattle.numbered_table.specs.Lists.{lists_in, lists_of, row_items, rows_of, with_row}
 use Rattle.numbered_table.proofs.ByModuleLemmas.{lists-changed, listed_as-same}
-use Rattle.numbered_table.proofs.ListsLemmas.{is-row, row-changed, other-changed}
+use Rattle.numbered_table.proofs.ListsLemmas.{held, is-row, no-list, row-changed, other-changed}
 use Rattle.numbered_table.proofs.ResultLemmas.{some_there, none_there}
 use Rattle.numbered_table.proofs.lists.Lists+Name.remove.Goals as goal
 
@@ -30,8 +29,12 @@ returns-in-None c =
     let l = c.args.self.now in
     let m = c.args.module in
     let none = none_there (is-row _ c.row.result (rows_of l m) _ c.row.ensures c.if-is_some.ensures) in
-    let empty : lists_of l m ≡ [] =
-    ap (λ r. option_map_or (λ xs. xs) r (lists_in l.others m)) none ∙ ap (λ o. option_map_or (λ v. v.items) o []) (sym c.in-None.ensures.value) in
+    let empty = no-list (rows_of l) l.others m none (sym c.in-None.ensures.value) in
     ap (λ o. with_row (rows_of l) (lists_in o)) c.get_mut.follows.holds-at-none
     ∙ sym (listed_as-same (lists_of l) m)
     ∙ ap (listed_as (lists_of l) m) (empty ∙ ap (λ xs. without_name xs c.args.name) (sym empty))
+
+pub index_mut-requires : goal.index_mut-requires
+index_mut-requires c =
+    let l = c.args.self.now in
+    omega (arith, l.rows.ok, (held l.map l.rows.items c.args.module (is-row _ c.row.result (rows_of l c.args.module) _ c.row.ensures c.if-is_some.ensures) None).1)

@@ -1,9 +1,10 @@
-use Rattle.std.proofs.Common.{◌∷◌, [], ◌++◌, ◌∙◌, ap, option_map, sym}
+use Rattle.std.proofs.Common.{None, ◌∷◌, [], ◌++◌, ◌∙◌, ap, arith, option_map, sym}
 use Rattle.indexmap.specs.IndexMap.{get}
 use Rattle.def_ids.specs.Ids.{is_same_module}
-use Rattle.numbered_table.specs.Lists.{lists_in, row_items, rows_of, with_row}
+use Rattle.def_bindings.specs.Content.{listed_as}
+use Rattle.numbered_table.specs.Lists.{lists_in, lists_of, row_items, rows_of, with_row}
 use Rattle.numbered_table.proofs.ByModuleLemmas.{lists-same, lists-changed}
-use Rattle.numbered_table.proofs.ListsLemmas.{is-row, row-changed, row-kept, other-changed}
+use Rattle.numbered_table.proofs.ListsLemmas.{held, is-row, no-list, row-changed, row-kept, other-changed}
 use Rattle.numbered_table.proofs.ResultLemmas.{some_there, none_there, OnOk_then, OnErr_then, OnErr_from}
 use Rattle.numbered_table.proofs.lists.Lists.push.Goals as goal
 
@@ -41,3 +42,25 @@ returns-in_ok-push-in-Some-clause-done g c =
 pub returns-in-None-clause-refused : goal.returns-in-None-clause-refused
 returns-in-None-clause-refused g c =
     OnErr_then c.begin.result c.begin.ensures.refused (λ same. same ∙ ap (λ o. with_row (rows_of c.args.self.now) (lists_in o)) c.get_mut.follows.holds-at-none)
+
+pub index_mut-requires : goal.index_mut-requires
+index_mut-requires g c =
+    let l = c.args.self.now in
+    omega (arith, l.rows.ok, (held l.map l.rows.items c.args.module (is-row _ c.row.result (rows_of l c.args.module) _ c.row.ensures c.if-is_some.ensures) None).1)
+
+pub begin-requires : goal.begin-requires
+begin-requires g c =
+    let l = c.args.self.now in
+    record {
+      row = none_there (is-row _ c.row.result (rows_of l c.args.module) _ c.row.ensures c.if-is_some.ensures);
+      other = ap (λ o. get is_same_module o c.args.module) c.get_mut.follows.holds-at-none ∙ sym c.in-None.ensures.value;
+    }
+
+pub returns-in-None-clause-done : goal.returns-in-None-clause-done
+returns-in-None-clause-done g c =
+    let l = c.args.self.now in
+    let none = none_there (is-row _ c.row.result (rows_of l c.args.module) _ c.row.ensures c.if-is_some.ensures) in
+    OnOk_then c.begin.result c.begin.ensures.done (λ begun.
+    begun
+    ∙ ap (λ o. listed_as (with_row (rows_of l) (lists_in o)) c.args.module (c.args.item ∷ [])) c.get_mut.follows.holds-at-none
+    ∙ ap (λ xs. listed_as (lists_of l) c.args.module (xs ++ c.args.item ∷ [])) (sym (no-list (rows_of l) l.others c.args.module none (sym c.in-None.ensures.value))))

@@ -7,7 +7,7 @@ use Rattle.numbered_table.specs.Lists.{lists_of}
 use Rattle.numbered_table.specs.Numbers.{is_placed, placed_at}
 use Rattle.numbered_table.specs.NumberedTable.{content_of}
 use Rattle.numbered_table.proofs.NumberedTableLemmas.{bindings-begun, bindings-kept, bindings-same, bound-beside, bound-nowhere, content-parts, vacant-nowhere, numbered-new, tied-beside, tied-same}
-use Rattle.numbered_table.proofs.ResultLemmas.{IfOk_both, OnErr_then}
+use Rattle.numbered_table.proofs.ResultLemmas.{at_err, IfOk_both, OnErr_from, OnErr_then}
 use Rattle.numbered_table.proofs.numbered_table.NumberedTable.bind_name.Goals as goal
 
 pub invariant_of-self-in-Occupied : goal.invariant_of-self-in-Occupied
@@ -66,3 +66,22 @@ returns-in_ok-push-in-Vacant-clause-done g c =
     let bindings = bindings-same m (with_entries t.bound _) (search rules) ∙ bindings-begun t.bound t.bound m c.args.module c.args.name c.args.ns c.args.binding.now c.of.result refl none after c.of.ensures in
     let names = numbered-new _ _ (lists_of t.names) t.tied c.args.module c.args.name c.args.ns c.args.binding.now (lists_of c.push.new.self) bindings (bound-nowhere t.bound c.args.module c.args.name none) c.in_ok-push-in-Vacant.ensures.done in
     (vacant-nowhere t.bound c.args.module c.args.name c.args.ns none, content-parts (content_of t) _ _ _ _ bindings names.0)
+
+pub invariant_of-self : goal.invariant_of-self
+invariant_of-self g c =
+    let t = c.args.self.now in
+    let same = bindings-same t.bound c.entry.follows.lender-at-none (at_err c.entry.result c.in_err-there.field-0.0 c.in_err-there.was c.entry.follows.holds-at-none).0 in
+    record { tied = tied-same _ _ _ _ same refl t.tied }
+
+pub returns-in_err-there-clause-refused : goal.returns-in_err-there-clause-refused
+unfolding content_of
+returns-in_err-there-clause-refused g c =
+    let t = c.args.self.now in
+    let same = bindings-same t.bound c.entry.follows.lender-at-none (at_err c.entry.result c.in_err-there.field-0.0 c.in_err-there.was c.entry.follows.holds-at-none).0 in
+    OnErr_from c.from_residual.result (content-parts (content_of t) _ _ _ _ same refl)
+
+pub returns-in_err-push-in-Vacant-clause-refused : goal.returns-in_err-push-in-Vacant-clause-refused
+unfolding content_of
+returns-in_err-push-in-Vacant-clause-refused g c =
+    let t = c.args.self.now in
+    OnErr_from c.from_residual-in_err-push-in-Vacant.result (content-parts (content_of t) _ _ _ _ (bindings-same t.bound (with_entries t.bound _) (search rules)) c.in_err-push-in-Vacant.ensures.refused)

@@ -1,17 +1,15 @@
-use Rattle.std.proofs.Common.{rules}
+use Rattle.std.proofs.Common.{ap, refl}
+use Rattle.std.specs.Prelude.{option_map}
+use Rattle.def_interner.specs.Session.{shown_item}
+use Rattle.def_interner.proofs.InternLemmas.{interned, refused}
+use Rattle.def_interner.proofs.TableLemmas.{grows_functions}
 use Rattle.def_interner.proofs.location.items.FunctionLocLocation.intern.Goals as goal
 
-pub returns-in_err-number-clause-injective : goal.returns-in_err-number-clause-injective
-returns-in_err-number-clause-injective c = search rules
+pub returns : goal.returns
+unfolding shown_item
+returns c =
+    let s = c.args.session.now in
+    interned (λ xs. record s { functions = xs }) c.in_ok-number.field-0 c.in_ok-number.ensures (ap (option_map _)) refl (grows_functions s c.args.self c.number.new.self)
 
-pub returns-in_err-number-clause-fresh : goal.returns-in_err-number-clause-fresh
-returns-in_err-number-clause-fresh c = search rules
-
-pub returns-clause-stored : goal.returns-clause-stored
-returns-clause-stored c = search rules
-
-pub returns-clause-injective : goal.returns-clause-injective
-returns-clause-injective c = search rules
-
-pub returns-clause-others : goal.returns-clause-others
-returns-clause-others c = search rules
+pub returns-in_err-number : goal.returns-in_err-number
+returns-in_err-number c = refused (λ xs. record c.args.session.now { functions = xs }) c.from_residual.result _ _ c.from_residual.ensures.0 c.in_err-number.ensures

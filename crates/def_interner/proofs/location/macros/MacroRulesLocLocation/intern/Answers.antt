@@ -1,11 +1,15 @@
-use Rattle.std.proofs.Common.{rules}
+use Rattle.std.proofs.Common.{ap, refl}
+use Rattle.std.specs.Prelude.{option_map}
+use Rattle.def_interner.specs.Session.{shown_macro}
+use Rattle.def_interner.proofs.InternLemmas.{interned, refused}
+use Rattle.def_interner.proofs.TableLemmas.{grows_macro_rules}
 use Rattle.def_interner.proofs.location.macros.MacroRulesLocLocation.intern.Goals as goal
 
-pub returns-in_err-number-clause-fresh : goal.returns-in_err-number-clause-fresh
-returns-in_err-number-clause-fresh c = search rules
+pub returns : goal.returns
+unfolding shown_macro
+returns c =
+    let s = c.args.session.now in
+    interned (λ xs. record s { macro_rules = xs }) c.in_ok-number.field-0 c.in_ok-number.ensures (ap (option_map _)) refl (grows_macro_rules s c.args.self c.number.new.self)
 
-pub returns-clause-stored : goal.returns-clause-stored
-returns-clause-stored c = search rules
-
-pub returns-clause-grown : goal.returns-clause-grown
-returns-clause-grown c = search rules
+pub returns-in_err-number : goal.returns-in_err-number
+returns-in_err-number c = refused (λ xs. record c.args.session.now { macro_rules = xs }) c.from_residual.result _ _ c.from_residual.ensures.0 c.in_err-number.ensures
