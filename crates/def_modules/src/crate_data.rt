@@ -1,7 +1,8 @@
 //! What is known of a crate.
-ghost use Rattle.std.specs.Prelude.{◌≡◌, IfOk};
+ghost use Rattle.std.specs.Prelude.{◌≡◌, IfOk, OnOk};
 ghost use Rattle.def_modules.specs.Maps.{crate_state};
 
+use crate::keyed_lists::no_items;
 use def_ids::{Edition, FunctionId, MacroId, ProcMacroId};
 use indexmap::{IndexMap, IndexSet};
 use std::alloc::AllocError;
@@ -51,56 +52,65 @@ impl DefMapCrateData {
     pub fn copied(&self) -> Result<DefMapCrateData, AllocError>
         ensures { IfOk result (λ copy. crate_state copy ≡ crate_state self.now) }
     {
-        let (registered_tools, exported_derives) = copied_exports(self)?;
-        let (fn_proc_macro_mapping, fn_proc_macro_mapping_back) = copied_pairs(self)?;
-        let unstable_features = copied_features(&self.unstable_features)?;
-        Ok(DefMapCrateData {
-            exported_derives,
-            fn_proc_macro_mapping,
-            fn_proc_macro_mapping_back,
-            registered_tools,
-            unstable_features,
-            rustc_coherence_is_core: self.rustc_coherence_is_core,
-            no_core: self.no_core,
-            no_std: self.no_std,
-            edition: self.edition,
-            recursion_limit: self.recursion_limit,
-        })
+        let mut copy = bare_copy(self);
+        copy_exports(&mut copy, self)?;
+        copy_pairs(&mut copy, self)?;
+        copy_features(&mut copy, self)?;
+        Ok(copy)
     }
 }
 
-/// A copy of the features.
-fn copied_features(features: &UnstableFeatures) -> Result<UnstableFeatures, AllocError>
-    ensures { IfOk result (λ copy. copy.names.keys ≡ features.now.names.keys) }
+/// What of it is in no list and no map, with these empty.
+fn bare_copy(from: &DefMapCrateData) -> DefMapCrateData
+    ensures flags { (result.rustc_coherence_is_core ≡ from.now.rustc_coherence_is_core)
+        × (result.no_core ≡ from.now.no_core) × (result.no_std ≡ from.now.no_std) }
+    ensures edition { result.edition ≡ from.now.edition }
+    ensures limit { result.recursion_limit ≡ from.now.recursion_limit }
 {
-    Ok(UnstableFeatures {
-        names: features.names.clone()?,
-    })
+    let alloc = *from.exported_derives.allocator();
+    DefMapCrateData {
+        exported_derives: IndexMap::new(alloc),
+        fn_proc_macro_mapping: IndexMap::new(alloc),
+        fn_proc_macro_mapping_back: IndexMap::new(alloc),
+        registered_tools: no_items(alloc),
+        unstable_features: UnstableFeatures {
+            names: IndexSet::new(alloc),
+        },
+        rustc_coherence_is_core: from.rustc_coherence_is_core,
+        no_core: from.no_core,
+        no_std: from.no_std,
+        edition: from.edition,
+        recursion_limit: from.recursion_limit,
+    }
 }
 
-/// Copies of the tools and of the exported helpers.
-fn copied_exports(
-    from: &DefMapCrateData,
-) -> Result<(Seq<Name>, IndexMap<MacroId, Seq<Name>>), AllocError>
-    ensures { IfOk result (λ copy. (copy.0 ≡ from.now.registered_tools) × (copy.1.entries ≡ from.now.exported_derives.entries)) }
+/// Copies the tools and the exported helpers.
+fn copy_exports(copy: &mut DefMapCrateData, from: &DefMapCrateData) -> Result<(), AllocError>
+    ensures tools { OnOk result (copy.new.registered_tools ≡ from.now.registered_tools) }
+    ensures exports { OnOk result (copy.new.exported_derives.entries ≡ from.now.exported_derives.entries) }
+    ensures rest { copy.new ≡ record copy.old { registered_tools = copy.new.registered_tools; exported_derives = copy.new.exported_derives } }
 {
-    let tools = from.registered_tools.clone()?;
-    Ok((tools, from.exported_derives.clone()?))
+    copy.registered_tools = from.registered_tools.clone()?;
+    copy.exported_derives = from.exported_derives.clone()?;
+    Ok(())
 }
 
-/// Copies of the macros of functions and of the functions of macros.
-fn copied_pairs(
-    from: &DefMapCrateData,
-) -> Result<
-    (
-        IndexMap<FunctionId, ProcMacroId>,
-        IndexMap<ProcMacroId, FunctionId>,
-    ),
-    AllocError,
->
-    ensures { IfOk result (λ copy. (copy.0.entries ≡ from.now.fn_proc_macro_mapping.entries)
-        × (copy.1.entries ≡ from.now.fn_proc_macro_mapping_back.entries)) }
+/// Copies the macros of functions and the functions of macros.
+fn copy_pairs(copy: &mut DefMapCrateData, from: &DefMapCrateData) -> Result<(), AllocError>
+    ensures macros { OnOk result (copy.new.fn_proc_macro_mapping.entries ≡ from.now.fn_proc_macro_mapping.entries) }
+    ensures functions { OnOk result (copy.new.fn_proc_macro_mapping_back.entries ≡ from.now.fn_proc_macro_mapping_back.entries) }
+    ensures rest { copy.new ≡ record copy.old { fn_proc_macro_mapping = copy.new.fn_proc_macro_mapping; fn_proc_macro_mapping_back = copy.new.fn_proc_macro_mapping_back } }
 {
-    let macros = from.fn_proc_macro_mapping.clone()?;
-    Ok((macros, from.fn_proc_macro_mapping_back.clone()?))
+    copy.fn_proc_macro_mapping = from.fn_proc_macro_mapping.clone()?;
+    copy.fn_proc_macro_mapping_back = from.fn_proc_macro_mapping_back.clone()?;
+    Ok(())
+}
+
+/// Copies the features.
+fn copy_features(copy: &mut DefMapCrateData, from: &DefMapCrateData) -> Result<(), AllocError>
+    ensures features { OnOk result (copy.new.unstable_features.names.keys ≡ from.now.unstable_features.names.keys) }
+    ensures rest { copy.new ≡ record copy.old { unstable_features = copy.new.unstable_features } }
+{
+    copy.unstable_features.names = from.unstable_features.names.clone()?;
+    Ok(())
 }
