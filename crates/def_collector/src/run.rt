@@ -99,31 +99,41 @@ fn begin<'a, D: SourceDatabase>(
 {
     let (data, table) = def_map.into_parts();
     let mut table = table;
+    let krate = data.tree.map.krate;
     let room = room_for(db, data.tree.map, tree_id);
-    table.reserve(room.names)?;
-    let unresolved_imports = Vec::with_capacity(alloc, room.imports)?;
-    let indeterminate_imports = Vec::with_capacity(alloc, room.imports)?;
-    let is_proc_macro = is_proc_macro_crate(db, data.tree.map.krate);
-    let deps = deps_by_name(alloc, db, data.tree.map.krate)?;
-    Ok(DefCollector {
+    table.reserve(room.names, room.globs)?;
+    let mut collector = DefCollector {
         alloc,
         def_map: data,
         table: Globs::new(alloc, table),
         targets: IndexMap::new(alloc),
         local_def_map: LocalDefMap::new(alloc),
         crate_local,
-        is_proc_macro,
-        deps,
+        is_proc_macro: is_proc_macro_crate(db, krate),
+        deps: LocalDefMap::new(alloc),
         missing_crates: MissingCrates::new(alloc),
         mod_dirs: ModDirs::new(alloc),
-        unresolved_imports,
-        indeterminate_imports,
+        unresolved_imports: Vec::new(alloc),
+        indeterminate_imports: Vec::new(alloc),
         item_attrs: ItemAttrs::new(alloc),
         deferred_builtin_derives: DeferredDerives::new(alloc),
         unresolved_macros: VecDeque::new(alloc),
         expansions: VecDeque::new(alloc),
         diagnostics: Vec::new(alloc),
-    })
+    };
+    make_room(&mut collector, room)?;
+    collector.deps = deps_by_name(alloc, db, krate)?;
+    Ok(collector)
+}
+
+/// Makes room for modules and imports, so that what is there is not copied while it grows.
+fn make_room<'a>(collector: &mut DefCollector<'a>, room: Room) -> Result<(), AllocError>
+    ensures state { (session : Interner) → state_of collector.new session ≡ state_of collector.old session }
+    ensures bare { collector.new.expansions ≡ collector.old.expansions }
+{
+    collector.def_map.reserve(room.modules)?;
+    collector.unresolved_imports.reserve(room.imports)?;
+    collector.indeterminate_imports.reserve(room.imports)
 }
 
 /// The room that a run begins with, by its first tree.
@@ -132,12 +142,18 @@ fn room_for<D: SourceDatabase>(db: &D, map: MapId, tree_id: TreeId) -> Room
         result.names ≤ option_map_or (λ t. length t.items * 3) tree 0 }
     ensures imports { let tree = (D.oracle db.now).item_tree (first_tree (D.oracle db.now) map tree_id) in
         result.imports ≤ option_map_or (λ t. imports_written t.items) tree 0 }
+    ensures modules { let tree = (D.oracle db.now).item_tree (first_tree (D.oracle db.now) map tree_id) in
+        result.modules ≤ option_map_or (λ t. length t.items) tree 0 }
+    ensures globs { let tree = (D.oracle db.now).item_tree (first_tree (D.oracle db.now) map tree_id) in
+        result.globs ≤ option_map_or (λ t. imports_written t.items) tree 0 }
 {
     match db.item_tree(first_tree(db, map, tree_id)) {
         Some(tree) => Room::of_tree(tree),
         None => Room {
             names: 0,
             imports: 0,
+            modules: 0,
+            globs: 0,
         },
     }
 }

@@ -4,32 +4,37 @@ ghost use Rattle.def_imports.specs.Room.{imports_of, imports_written};
 
 use item_tree::{ImportKind, ItemNode, ItemTree, ModItemKind, UseImport};
 
-/// How many names and imports to make room for, so that what is there is not copied while it grows.
+/// How much to make room for, so that what is there is not copied while it grows: names, imports,
+/// modules, and globs among the imports.
 #[derive(Clone, Copy)]
 pub struct Room {
     pub names: usize,
     pub imports: usize,
+    pub modules: usize,
+    pub globs: usize,
 }
 
 impl Room {
-    /// Room for the names and the imports of a tree: one name for each item, and thrice as many where it
-    /// has globs, each of which brings the names of a whole module. An entry is a small multiple of an
-    /// item in size, and so is the room of what is written.
+    /// Room for a tree: one name for each item, and thrice as many where it has globs, each of which
+    /// brings the names of a whole module. An entry is a small multiple of an item in size, and so is the
+    /// room of what is written.
     pub fn of_tree(tree: &ItemTree) -> Room
         ensures names { result.names ≤ length tree.now.items * 3 }
         ensures imports { result.imports ≤ imports_written tree.now.items }
+        ensures modules { result.modules ≤ length tree.now.items }
+        ensures globs { result.globs ≤ imports_written tree.now.items }
     {
         let nodes = tree.items.as_slice();
-        let imports = imports_in(nodes);
-        if has_glob(nodes) {
-            return Room {
-                names: nodes.len().saturating_mul(3),
-                imports,
-            };
-        }
+        let globs = globs_in(nodes);
         Room {
-            names: nodes.len(),
-            imports,
+            names: if globs == 0 {
+                nodes.len()
+            } else {
+                nodes.len().saturating_mul(3)
+            },
+            imports: imports_in(nodes),
+            modules: modules_in(nodes),
+            globs,
         }
     }
 }
@@ -58,14 +63,39 @@ fn imports_in(nodes: &[ItemNode]) -> usize
     found
 }
 
-/// Whether one of these items has a glob.
-fn has_glob(nodes: &[ItemNode]) -> bool {
-    for node in nodes {
-        for import in imports_of_item(node) {
-            if import.kind == ImportKind::Glob {
-                return true;
-            }
+/// How many of these imports are globs.
+fn globs_among(imports: &[UseImport]) -> usize
+    ensures { result ≤ length imports.now }
+{
+    let mut found = 0usize;
+    for import in imports {
+        if import.kind == ImportKind::Glob {
+            found = found.saturating_add(1);
         }
     }
-    false
+    found
+}
+
+/// How many globs items have, or fewer where they are too many to be counted.
+fn globs_in(nodes: &[ItemNode]) -> usize
+    ensures { result ≤ imports_written nodes.now }
+{
+    let mut found = 0usize;
+    for node in nodes {
+        found = found.saturating_add(globs_among(imports_of_item(node)));
+    }
+    found
+}
+
+/// How many items are modules.
+fn modules_in(nodes: &[ItemNode]) -> usize
+    ensures { result ≤ length nodes.now }
+{
+    let mut found = 0usize;
+    for node in nodes {
+        if let ModItemKind::Mod { .. } = &node.kind {
+            found = found.saturating_add(1);
+        }
+    }
+    found
 }

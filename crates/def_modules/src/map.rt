@@ -63,6 +63,13 @@ fn add_parent(tree: &mut ModuleTree, parent: usize) -> Result<(), AllocError>
 }
 
 impl MapData {
+    /// Makes room for more modules, so that as many are added with no copy of those that are there.
+    pub fn reserve(&mut self, modules: usize) -> Result<(), AllocError>
+        ensures { map_state self.new ≡ map_state self.old }
+    {
+        self.modules.reserve(modules)
+    }
+
     /// Adds a module under its parent. Where the parent is not there, the module has none.
     pub fn push_module(&mut self, parent: usize, module: ModuleData) -> Result<usize, AllocError>
         ensures state { OnOk result (map_state self.new ≡ pushed (map_state self.old) parent (module_state «module»)) }

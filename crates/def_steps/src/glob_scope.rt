@@ -3,6 +3,7 @@ ghost use Rattle.std.specs.Prelude.{◌≡◌, ◌++◌, Some, IfOk, OnOk, optio
 ghost use Rattle.std.specs.List.{flat_map};
 ghost use Rattle.def_bindings.specs.ModuleTree.{chain_in};
 ghost use Rattle.def_bindings.specs.Visibility.{order_over};
+ghost use Rattle.def_bindings.specs.declared.visibility.Visibility.TheVariants.{Module};
 ghost use Rattle.def_map.specs.Answers.{variant_found};
 ghost use Rattle.def_map.specs.PerNs.{kept};
 ghost use Rattle.def_sources.specs.Tables.{bound_by};
@@ -42,14 +43,29 @@ impl<'a> GlobScope<'a> {
         }
     }
 
+    /// Whether the glob sees the visibility of a binding, given whether it sees what is visible in the
+    /// module alone. Most bindings are public, or visible there alone.
+    fn sees_binding(&self, inside: bool, vis: Visibility) -> bool
+        requires { inside ≡ glob_sees (order_over (chain_in self.now.order.now)) self.now.own self.now.glob.importer (Module self.now.source) }
+        ensures { result ≡ glob_sees (order_over (chain_in self.now.order.now)) self.now.own self.now.glob.importer vis }
+    {
+        match vis {
+            Visibility::Public => true,
+            Visibility::Module(limit) if limit == self.source => inside,
+            _ => self.sees(vis),
+        }
+    }
+
     /// Appends the entry of what the module binds in a namespace, if the glob sees it.
     fn push_seen(
         &self,
         entries: &mut Vec<Entry<Visibility>>,
+        inside: bool,
         name: Name,
         ns: Namespace,
         item: Option<&Item>,
     ) -> Result<(), AllocError>
+        requires { inside ≡ glob_sees (order_over (chain_in self.now.order.now)) self.now.own self.now.glob.importer (Module self.now.source) }
         ensures { OnOk result (let o = order_over (chain_in self.now.order.now) in
             entries.new.items ≡ entries.old.items
             ++ brought o self.now.glob name ns
@@ -58,7 +74,7 @@ impl<'a> GlobScope<'a> {
         let Some(item) = item else {
             return Ok(());
         };
-        if !self.sees(item.vis) {
+        if !self.sees_binding(inside, item.vis) {
             return Ok(());
         }
         push_item(entries, self.order, self.glob, name, ns, item)
@@ -67,25 +83,55 @@ impl<'a> GlobScope<'a> {
     /// Appends the entries of a name that may stand in several namespaces, in types, values and
     /// macros. It stands apart, since most names stand in one.
     #[inline(never)]
-    fn push_each(&self, entries: &mut Vec<Entry<Visibility>>, name: Name) -> Result<(), AllocError>
+    fn push_each(
+        &self,
+        entries: &mut Vec<Entry<Visibility>>,
+        inside: bool,
+        name: Name,
+    ) -> Result<(), AllocError>
+        requires { inside ≡ glob_sees (order_over (chain_in self.now.order.now)) self.now.own self.now.glob.importer (Module self.now.source) }
         ensures { OnOk result (entries.new.items ≡ entries.old.items
             ++ name_entries (order_over (chain_in self.now.order.now)) self.now.glob self.now.own (bound_by self.now.table.now) self.now.source name) }
     {
         let found = self.table.bindings(self.source, name);
-        self.push_seen(entries, name, Namespace::Types, found.types.as_ref())?;
-        self.push_seen(entries, name, Namespace::Values, found.values.as_ref())?;
-        self.push_seen(entries, name, Namespace::Macros, found.macros.as_ref())
+        self.push_seen(
+            entries,
+            inside,
+            name,
+            Namespace::Types,
+            found.types.as_ref(),
+        )?;
+        self.push_seen(
+            entries,
+            inside,
+            name,
+            Namespace::Values,
+            found.values.as_ref(),
+        )?;
+        self.push_seen(
+            entries,
+            inside,
+            name,
+            Namespace::Macros,
+            found.macros.as_ref(),
+        )
     }
 
     /// Appends the entries of a name. The binding of one that stands in one namespace is lent.
-    fn push_name(&self, entries: &mut Vec<Entry<Visibility>>, name: Name) -> Result<(), AllocError>
+    fn push_name(
+        &self,
+        entries: &mut Vec<Entry<Visibility>>,
+        inside: bool,
+        name: Name,
+    ) -> Result<(), AllocError>
+        requires { inside ≡ glob_sees (order_over (chain_in self.now.order.now)) self.now.own self.now.glob.importer (Module self.now.source) }
         ensures { OnOk result (entries.new.items ≡ entries.old.items
             ++ name_entries (order_over (chain_in self.now.order.now)) self.now.glob self.now.own (bound_by self.now.table.now) self.now.source name) }
     {
         match self.table.lone(self.source, name) {
             LoneBinding::Nothing => Ok(()),
-            LoneBinding::Lone(ns, item) => self.push_seen(entries, name, ns, Some(item)),
-            LoneBinding::Unsaid => self.push_each(entries, name),
+            LoneBinding::Lone(ns, item) => self.push_seen(entries, inside, name, ns, Some(item)),
+            LoneBinding::Unsaid => self.push_each(entries, inside, name),
         }
     }
 
@@ -118,10 +164,11 @@ impl<'a> GlobScope<'a> {
             entries.new.items ≡ entries.old.items
             ++ flat_map (name_entries (order_over (chain_in self.now.order.now)) self.now.glob self.now.own content self.now.source) (content.names self.now.source)) }
     {
-        let mut index = 0;
-        'names: while let Some(name) = self.table.name_at(self.source, index) {
-            self.push_name(entries, name)?;
-            index += 1;
+        let inside = self.sees(Visibility::Module(self.source));
+        let names = self.table.names(self.source);
+        entries.reserve(names.len())?;
+        'names: for name in names {
+            self.push_name(entries, inside, *name)?;
         }
         Ok(())
     }

@@ -50,6 +50,13 @@ impl<K: Copy + Eq + Hash, W: Copy> Keyed<K, W> {
         }
     }
 
+    /// Makes room for more values.
+    pub fn reserve(&mut self, values: usize) -> Result<(), AllocError>
+        ensures { own_entries self.new.entries.entries ≡ own_entries self.old.entries.entries }
+    {
+        self.entries.reserve(values)
+    }
+
     /// The key and the value at this place of a module, in order.
     pub fn at(&self, module: ModuleId, index: usize) -> Option<(K, W)>
         ensures entry { result ≡ slice_get (own_entries self.now.entries.entries «module») index }

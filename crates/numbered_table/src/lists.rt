@@ -112,18 +112,25 @@ impl<K: Copy> Lists<K> {
         }
     }
 
+    /// The list of a module.
+    pub fn of(&self, module: ModuleId) -> &[K]
+        ensures { result.now ≡ lists_of self.now «module» }
+    {
+        if let Some(row) = self.row(module) {
+            return row;
+        }
+        match self.others.get(&module) {
+            Some(list) => list.as_slice(),
+            None => &[],
+        }
+    }
+
     /// The element at this place of a module's list.
     pub fn at(&self, module: ModuleId, index: usize) -> Option<K>
         ensures item { result ≡ slice_get (lists_of self.now «module») index }
         ensures few { length (lists_of self.now «module») < 2 ^ 64 }
     {
-        if let Some(row) = self.row(module) {
-            return row.get(index).copied();
-        }
-        match self.others.get(&module) {
-            Some(list) => list.as_slice().get(index).copied(),
-            None => None,
-        }
+        self.of(module).get(index).copied()
     }
 
     /// Whether a module that has no row may have one.

@@ -122,11 +122,19 @@ impl<V: Copy> NumberedTable<V> {
         })
     }
 
-    /// Makes room for more names, so that as many are bound with no copy of what is there.
-    pub fn reserve(&mut self, names: usize) -> Result<(), AllocError>
+    /// Makes room for more names and edges, so that as many are added with no copy of what is there.
+    pub fn reserve(&mut self, names: usize, edges: usize) -> Result<(), AllocError>
         ensures { content_of self.new ≡ content_of self.old }
     {
-        self.bound.reserve(names)
+        self.bound.reserve(names)?;
+        self.edges.reserve(edges)
+    }
+
+    /// The names of a module, in first-bound order.
+    pub fn names(&self, module: ModuleId) -> &[Name]
+        ensures { result.now ≡ (content_of self.now).names «module» }
+    {
+        self.names.of(module)
     }
 
     /// Binds a name where nothing is bound, and answers whether that was so. A refused call changes

@@ -1,37 +1,25 @@
-use Rattle.std.proofs.Common.{◌<◌, ◌^◌, arith, refl, length}
+use Rattle.std.proofs.Common.{ap, refl, ◌∙◌, ◌++◌}
+use Rattle.std.specs.List.{flat_map}
 use Rattle.def_bindings.specs.ModuleTree.{chain_in}
 use Rattle.def_bindings.specs.Visibility.{order_over}
 use Rattle.def_sources.specs.Tables.{bound_by}
 use Rattle.def_rules.specs.Globs.{name_entries}
-use Rattle.def_steps.proofs.GatherLemmas.{gathered_all, gathered_more, within_index}
+use Rattle.def_steps.proofs.GatherLemmas.{gathers_all, gathers_read}
 use Rattle.def_steps.proofs.glob_scope.GlobScope.push_names.Goals as goal
 
 pub names-init : goal.names-init
 names-init c = refl
 
-pub overflow_add-index : goal.overflow_add-index
-overflow_add-index c =
-    let names = (bound_by c.args.self.now.table.now).names c.args.self.now.source in
-    let h : c.names.index < length names = within_index names c.names.index c.in-Some.name c.in-Some.ensures.name in
-    let few : length names < 2 ^ 64 = c.in-Some.ensures.few in
-    omega arith
-
-pub names-smaller : goal.names-smaller
-names-smaller c =
-    let names = (bound_by c.args.self.now.table.now).names c.args.self.now.source in
-    let h : c.names.index < length names = within_index names c.names.index c.in-Some.name c.in-Some.ensures.name in
-    omega arith
-
 pub names-preserved : goal.names-preserved
 names-preserved c =
     let self = c.args.self.now in
-    let content = bound_by self.table.now in
-    gathered_more (name_entries (order_over (chain_in self.order.now)) self.glob self.own content self.source) (content.names self.source) c.names.index c.in-Some.name
-    c.names.entries.items c.push_name.new.entries.items _ c.in-Some.ensures.name c.in_ok-push_name.ensures c.names.invariant
+    gathers_read (name_entries (order_over (chain_in self.order.now)) self.glob self.own (bound_by self.table.now) self.source) c.names-names.result.now c.names.name-index _
+    c.names.entries.items c.push_name.new.entries.items _ c.names-test.true c.in_ok-push_name.ensures c.names.invariant
 
 pub returns : goal.returns
 returns c =
     let self = c.args.self.now in
-    let content = bound_by self.table.now in
-    gathered_all (name_entries (order_over (chain_in self.order.now)) self.glob self.own content self.source) (content.names self.source) c.names.index
-    c.names.entries.items _ c.in_default.ensures.name c.names.invariant
+    let entries_of = name_entries (order_over (chain_in self.order.now)) self.glob self.own (bound_by self.table.now) self.source in
+    gathers_all entries_of c.names-names.result.now c.names.name-index c.names.entries.items _ c.names-test.false c.names.invariant
+    ∙ ap (λ l. l ++ flat_map entries_of c.names-names.result.now) c.in_ok-reserve.ensures.items
+    ∙ ap (λ l. c.args.entries.now.items ++ flat_map entries_of l) c.names-names.ensures

@@ -1,4 +1,4 @@
-use Rattle.std.proofs.Common.{◌≡◌, ◌++◌, ◌-◌, drop, length}
+use Rattle.std.proofs.Common.{◌≡◌, ◌++◌, drop}
 use Rattle.std.specs.List.{flat_map}
 use Rattle.def_bindings.specs.ModuleTree.{chain_in}
 use Rattle.def_bindings.specs.Visibility.{order_over}
@@ -11,7 +11,4 @@ abbrev pub invariant-names : goal.invariant-names
 invariant-names l =
     let content = bound_by l.self.table.now in
     let entries_of = name_entries (order_over (chain_in l.self.order.now)) l.self.glob l.self.own content l.self.source in
-    l.entries.items ++ flat_map entries_of (drop l.index (content.names l.self.source)) ≡ l.initial.entries.items ++ flat_map entries_of (content.names l.self.source)
-
-abbrev pub decreases-names : goal.decreases-names
-decreases-names l = length ((bound_by l.self.table.now).names l.self.source) - l.index
+    l.entries.items ++ flat_map entries_of (drop l.name-index l.names) ≡ l.initial.entries.items ++ flat_map entries_of l.names
