@@ -38,12 +38,11 @@ fn fresh_module(
 ) -> Result<ModuleData, AllocError>
     ensures { IfOk result (λ data_of. module_state data_of ≡ fresh_module (map_state def_map.now) added.parent.index added.name added.vis origin) }
 {
-    let mut data = ModuleData::new(alloc, Some(added.name), origin, added.vis);
-    let Some(around) = def_map.modules.get(added.parent.index) else {
-        return Ok(data);
-    };
-    data.inherit_legacy_macros(around)?;
-    Ok(data)
+    let name = Some(added.name);
+    match def_map.modules.get(added.parent.index) {
+        Some(around) => ModuleData::within(alloc, name, origin, added.vis, around),
+        None => ModuleData::new(alloc, name, origin, added.vis),
+    }
 }
 
 /// Brings the textual macros of the module of a list into another one, if they are handed on. On

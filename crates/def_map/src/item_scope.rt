@@ -62,7 +62,7 @@ impl<'a> ItemScope<'a> {
     pub fn legacy_macros(&self) -> &'a IndexMap<Name, Seq<MacroId>>
         ensures { textual_of result.now ≡ (scope_state self.now).textual }
     {
-        &self.module_data.scope.legacy_macros
+        self.module_data.scope.legacy_macros.as_ref()
     }
 
     /// Whether an import left over would have bound this name.

@@ -1,8 +1,11 @@
 -- Maps read by key after a write.
 use Rattle.std.proofs.Common.{subst, sym, rules, ℕ, ◌≡◌, Bool, true, false, cond, List, [], ◌∷◌, ◌++◌, Option, Some, None, refl, ap, ◌∙◌}
+use mathlib.Core.Logic.{◌⊎◌, inl, inr}
+use Rattle.std.specs.List.{AllZip}
 use Rattle.std.specs.Prelude.{IsSome, reverse, unwrap_or}
 use Rattle.std.specs.Option.{option_map_or}
 use Rattle.std.proofs.lemmas.List.{reverse-append}
+use Rattle.std.proofs.lemmas.List.Elements.{same_from_all_zip}
 use Rattle.std.specs.Prelude.{option_map}
 use Rattle.indexmap.specs.IndexMap.{IndexMap, get}
 use Rattle.indexmap.specs.IndexSet.{IndexSet, contains}
@@ -38,6 +41,21 @@ textual-shadowed old new name id after = λ i q. at q i
 
     at : (q : Name) → textual_of new q ≡ with_first (textual_of old) name id q
     at q = ap (λ o. option_map_or reverse o []) (after q) ∙ by (is_name name q) (get is_name old q)
+
+-- a list under its name, and a copy of both
+abbrev IsCopied : Name × List MacroId → Name × List MacroId → Type 0
+IsCopied p q = (q.0 ≡ p.0) × AllZip (λ (x y : MacroId). y ≡ x) p.1 q.1
+
+-- lists that are a map's own, or a copy of them, are those of the map
+own-entries : {S : Type 0} (old new : IndexMap Name (List MacroId) S) → (new ≡ old) ⊎ AllZip IsCopied old.entries new.entries → new.entries ≡ old.entries
+own-entries old new (inl same) = ap (λ m. m.entries) same
+own-entries old new (inr copied) =
+    same_from_all_zip IsCopied old.entries new.entries copied
+    (λ p q is i. (is.0 i, same_from_all_zip (λ (x y : MacroId). y ≡ x) p.1 q.1 is.1 (λ x y same. same) i))
+
+-- and so they show the same textual macros
+pub own-textual : {S : Type 0} (old new : IndexMap Name (List MacroId) S) → (new ≡ old) ⊎ AllZip IsCopied old.entries new.entries → textual_of new ≡ textual_of old
+own-textual old new own = let same = own-entries old new own in rw same refl
 
 -- the derives after one is recorded
 pub derives-set : {S : Type 0} (old new : IndexMap DeriveKey DeriveMacroInvocation S) (position : Position) (attr : AttrId) (d : DeriveMacroInvocation) (eq : DeriveKey → DeriveKey → Bool) → eq ≡ derive_key_eq

@@ -32,7 +32,7 @@ impl ModuleData {
     fn last_legacy_macros(&self, alloc: Global) -> Result<Vec<(Name, MacroId)>, AllocError>
         ensures { IfOk result (λ last. AreLastOf (module_state self.now).textual last.items) }
     {
-        let macros = &self.scope.legacy_macros;
+        let macros = self.scope.legacy_macros.as_ref();
         let mut last = Vec::new(alloc);
         for i in 0..macros.len() {
             if let Some((name, of_name)) = macros.get_index(i) {

@@ -1,23 +1,32 @@
 //! What paths and the collector read of a map's data.
 ghost use Rattle.std.specs.Prelude.{◌≡◌};
 ghost use Rattle.def_modules.specs.Maps.{map_state, facts_of, first_of_list, limit_of, features_of};
+ghost use Rattle.def_modules.specs.ScopeMaps.{textual_of};
 ghost use Rattle.def_modules.specs.Scopes.{module_state};
 
 use crate::crate_data::UnstableFeatures;
 use crate::map::MapData;
 use crate::module_data::ModuleData;
 use def_ids::{MacroId, ModuleId};
-use tree_ids::Name;
+use indexmap::IndexMap;
+use tree_ids::{Name, Seq};
+
+/// The last of the macros of a name.
+fn last_macro(macros: &IndexMap<Name, Seq<MacroId>>, name: Name) -> Option<MacroId>
+    ensures { result ≡ first_of_list (textual_of macros.now name) }
+{
+    match macros.get(&name) {
+        Some(macros) => macros.as_slice().last().copied(),
+        None => None,
+    }
+}
 
 impl ModuleData {
     /// The last textual macro of a name.
     pub fn last_legacy_macro(&self, name: Name) -> Option<MacroId>
         ensures { result ≡ first_of_list ((module_state self.now).textual name) }
     {
-        match self.scope.legacy_macros.get(&name) {
-            Some(macros) => macros.as_slice().last().copied(),
-            None => None,
-        }
+        last_macro(self.scope.legacy_macros.as_ref(), name)
     }
 }
 

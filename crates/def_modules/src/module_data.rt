@@ -1,6 +1,6 @@
 //! A module of a map, and what its scope holds beside its bindings.
 ghost use Rattle.std.specs.Prelude.{◌≡◌, OnOk, IfOk};
-ghost use Rattle.def_modules.specs.ScopeMaps.{derive_state, with_call};
+ghost use Rattle.def_modules.specs.ScopeMaps.{derive_state, textual_of, with_call};
 
 use crate::keyed_lists::{no_items, push_under};
 use def_bindings::Visibility;
@@ -8,6 +8,7 @@ use def_ids::{BuiltinDeriveImplId, ConstId, Def, ExternBlockId, ExternCrateId, I
 use either::Either;
 use indexmap::{IndexMap, IndexSet};
 use std::alloc::{AllocError, Global};
+use std::rc::Rc;
 use tree_ids::{AttrId, FileAstId, FileId, InFile, MacroCallId, Name, Seq, TreeId};
 
 /// An item's place in its file.
@@ -61,8 +62,9 @@ pub struct Invocation {
 /// What a module's scope holds beside its bindings. Lists are in the order of recording.
 pub struct ScopeData {
     pub declarations: Seq<Def>,
-    /// The textual macros of each name; the last one shadows the others.
-    pub legacy_macros: IndexMap<Name, Seq<MacroId>>,
+    /// The textual macros of each name; the last one shadows the others. Modules share those of the
+    /// module around them until one defines its own.
+    pub legacy_macros: Rc<IndexMap<Name, Seq<MacroId>>>,
     pub extern_crates: Seq<ExternCrateId>,
     pub extern_blocks: Seq<ExternBlockId>,
     pub unnamed_consts: Seq<ConstId>,
@@ -126,26 +128,18 @@ impl DeriveMacroInvocation {
     }
 }
 
-/// A copy of textual macros.
-fn copied_macros(
-    macros: &IndexMap<Name, Seq<MacroId>>,
-) -> Result<IndexMap<Name, Seq<MacroId>>, AllocError>
-    ensures { IfOk result (λ copy. copy.entries ≡ macros.now.entries) }
-{
-    macros.clone()
-}
-
 impl ModuleData {
     ghost use Rattle.def_modules.specs.Scopes.{module_state, empty_module, declared_in, with_child, with_textual, with_extern_crate, with_extern_block, with_unnamed_const, with_impl, with_derive_impl, with_derive, called_at, with_textual_of, with_invocation, marked_failed};
 
-    /// A module with nothing in it.
-    pub fn new(
+    /// A module with nothing in it but these textual macros.
+    fn with_legacy_macros(
         alloc: Global,
         name: Option<Name>,
         origin: ModuleOrigin,
         visibility: Visibility,
+        legacy_macros: Rc<IndexMap<Name, Seq<MacroId>>>,
     ) -> ModuleData
-        ensures { module_state result ≡ empty_module name origin visibility }
+        ensures { module_state result ≡ with_textual_of (textual_of legacy_macros.value) (empty_module name origin visibility) }
     {
         ModuleData {
             name,
@@ -154,7 +148,7 @@ impl ModuleData {
             children: IndexMap::new(alloc),
             scope: ScopeData {
                 declarations: no_items(alloc),
-                legacy_macros: IndexMap::new(alloc),
+                legacy_macros,
                 extern_crates: no_items(alloc),
                 extern_blocks: no_items(alloc),
                 unnamed_consts: no_items(alloc),
@@ -165,6 +159,34 @@ impl ModuleData {
                 failed: IndexSet::new(alloc),
             },
         }
+    }
+
+    /// A module with nothing in it.
+    pub fn new(
+        alloc: Global,
+        name: Option<Name>,
+        origin: ModuleOrigin,
+        visibility: Visibility,
+    ) -> Result<ModuleData, AllocError>
+        ensures { IfOk result (λ made. module_state made ≡ empty_module name origin visibility) }
+    {
+        let none = Rc::new(alloc, IndexMap::new(alloc))?;
+        Ok(ModuleData::with_legacy_macros(alloc, name, origin, visibility, none))
+    }
+
+    /// A module with nothing in it but the textual macros of the module around it. They are shared.
+    pub fn within(
+        alloc: Global,
+        name: Option<Name>,
+        origin: ModuleOrigin,
+        visibility: Visibility,
+        around: &ModuleData,
+    ) -> Result<ModuleData, AllocError>
+        ensures { IfOk result (λ made. module_state made
+            ≡ with_textual_of (module_state around.now).textual (empty_module name origin visibility)) }
+    {
+        let shared = around.scope.legacy_macros.clone()?;
+        Ok(ModuleData::with_legacy_macros(alloc, name, origin, visibility, shared))
     }
 
     /// Adds a declaration behind the others.
@@ -191,8 +213,8 @@ impl ModuleData {
     ) -> Result<(), AllocError>
         ensures { OnOk result (module_state self.new ≡ with_textual name macro_id (module_state self.old)) }
     {
-        push_under(&mut self.scope.legacy_macros, name, macro_id)?;
-        Ok(())
+        let own = Rc::make_mut(&mut self.scope.legacy_macros)?;
+        push_under(own, name, macro_id)
     }
 
     /// Records an `extern crate` item.
@@ -267,14 +289,6 @@ impl ModuleData {
         if let Some(derive) = self.scope.derives.get_mut(&DeriveKey { position, attr }) {
             derive.set_call(pos, call);
         }
-    }
-
-    /// Takes over the textual macros of a module around this one, in the place of its own.
-    pub fn inherit_legacy_macros(&mut self, parent: &ModuleData) -> Result<(), AllocError>
-        ensures { OnOk result (module_state self.new ≡ with_textual_of (module_state parent.now).textual (module_state self.old)) }
-    {
-        self.scope.legacy_macros = copied_macros(&parent.scope.legacy_macros)?;
-        Ok(())
     }
 
     /// Records a macro call at its position.

@@ -4,7 +4,7 @@ use Rattle.std.specs.Prelude.{unwrap_or, option_map}
 use Rattle.std.specs.Option.{option_map_or}
 use Rattle.std.proofs.lemmas.Bool.{eq-eqb}
 use Rattle.std.proofs.lemmas.List.{reverse-reverse}
-use Rattle.indexmap.specs.IndexMap.{get}
+use Rattle.indexmap.specs.IndexMap.{IndexMap, get}
 use Rattle.tree_ids.specs.declared.ids.HirFileId.{HirFileId}
 use Rattle.tree_ids.specs.declared.ids.HirFileId.TheVariants.{File, Macro}
 use Rattle.tree_ids.specs.declared.name.Name.{Name}
@@ -35,13 +35,17 @@ derive_key-refl k = rw (file-refl k.position.file, eq-eqb k.position.value.0 k.p
 invocation-refl : (k : Invocation) → invocation_eq k k ≡ true
 invocation-refl k = rw (file-refl k.position.file, eq-eqb k.position.value.0 k.position.value.0 refl, eq-eqb k.call.0 k.call.0 refl) refl
 
+-- no name has an item
+abbrev pub HasNone : {X S : Type 0} → IndexMap Name (List X) S → Type 0
+HasNone lists = (k : Name) → unwrap_or (get is_name lists k) [] ≡ []
+
 -- a module holds nothing
 pub record IsBare (m : ModuleData) (made : ModuleOrigin) : Type 0 where
   pub name : m.name ≡ None
   pub origin : m.origin ≡ made
   pub vis : m.visibility ≡ Public
   pub children : m.children.entries ≡ []
-  pub textual : (k : Name) → unwrap_or (get is_name m.scope.legacy_macros k) [] ≡ []
+  pub textual : HasNone m.scope.legacy_macros.value
   pub declarations : m.scope.declarations ≡ []
   pub extern_crates : m.scope.extern_crates ≡ []
   pub unnamed_consts : m.scope.unnamed_consts ≡ []
@@ -75,7 +79,7 @@ module _ (m : ModuleData) (origin : ModuleOrigin) where
         origin = b.origin i;
         vis = b.vis i;
         children = keys_none is_name name-refl m.children b.children i;
-        textual = λ k. shown_none (get is_name m.scope.legacy_macros k) (b.textual k) i;
+        textual = λ k. shown_none (get is_name m.scope.legacy_macros.value k) (b.textual k) i;
         declarations = b.declarations i;
         extern_crates = b.extern_crates i;
         unnamed_consts = b.unnamed_consts i;
@@ -94,7 +98,7 @@ module _ (m : ModuleData) (origin : ModuleOrigin) where
     origin = λ i. (h i).origin;
     vis = λ i. (h i).vis;
     children = no_keys is_name name-refl m.children (λ i. (h i).children);
-    textual = λ k. none_shown (get is_name m.scope.legacy_macros k) (λ i. (h i).textual k);
+    textual = λ k. none_shown (get is_name m.scope.legacy_macros.value k) (λ i. (h i).textual k);
     declarations = λ i. (h i).declarations;
     extern_crates = λ i. (h i).extern_crates;
     unnamed_consts = λ i. (h i).unnamed_consts;

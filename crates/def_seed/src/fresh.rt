@@ -64,7 +64,7 @@ fn is_bare_root(root: &ModuleData, block: Option<BlockId>) -> bool
         is_root_origin(root.origin, block),
         is_public(root.visibility),
         root.children.is_empty(),
-        are_lists_empty(&root.scope.legacy_macros),
+        are_lists_empty(root.scope.legacy_macros.as_ref()),
         root.scope.declarations.is_empty(),
         root.scope.extern_crates.is_empty(),
         root.scope.unnamed_consts.is_empty(),

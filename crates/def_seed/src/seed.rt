@@ -43,7 +43,7 @@ fn root_modules(alloc: Global, origin: ModuleOrigin) -> Result<Vec<ModuleData>, 
     ensures { IfOk result (λ modules. map module_state modules.items ≡ empty_module None origin Public ∷ []) }
 {
     let mut modules = Vec::new(alloc);
-    modules.push(ModuleData::new(alloc, None, origin, Visibility::Public))?;
+    modules.push(ModuleData::new(alloc, None, origin, Visibility::Public)?)?;
     Ok(modules)
 }
 

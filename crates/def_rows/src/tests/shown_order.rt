@@ -70,7 +70,10 @@ fn has_key<K: PartialEq + Copy, V>(entry: Option<(&K, &V)>, key: K) -> bool {
 /// Whether the maps of a module have this key at a place.
 fn module_has_at(module: &ModuleData, place: usize, key: usize) -> bool {
     has_key(module.children.get_index(place), Name(key))
-        && has_key(module.scope.legacy_macros.get_index(place), Name(key))
+        && has_key(
+            module.scope.legacy_macros.as_ref().get_index(place),
+            Name(key),
+        )
         && has_key(module.scope.derives.get_index(place), derive_of(key))
 }
 
@@ -112,7 +115,7 @@ fn define(map: &mut MapData, module: usize, names: &[usize]) -> Result<(), Alloc
 
 /// Two modules, of which the second takes over the textual macros of the first.
 fn with_imported_macros(alloc: Global, map: &mut MapData) -> Result<(), AllocError> {
-    let module = ModuleData::new(alloc, None, ModuleOrigin::CrateRoot, Visibility::Public);
+    let module = ModuleData::new(alloc, None, ModuleOrigin::CrateRoot, Visibility::Public)?;
     map.push_module(0, module)?;
     define(map, 0, &[50, 30, 40, 50])?;
     define(map, 1, &[40])?;
@@ -125,7 +128,10 @@ fn last_has_macros(map: &MapData, keys: &[usize]) -> bool {
         return false;
     };
     for (place, key) in keys.iter().enumerate() {
-        if !has_key(module.scope.legacy_macros.get_index(place), Name(*key)) {
+        if !has_key(
+            module.scope.legacy_macros.as_ref().get_index(place),
+            Name(*key),
+        ) {
             return false;
         }
     }

@@ -1,7 +1,7 @@
-use Rattle.std.proofs.Common.{ap, sym, ◌∙◌, length, [], ◌∷◌}
+use Rattle.std.proofs.Common.{ap, subst, sym, ◌∙◌, length, [], ◌∷◌}
 use Rattle.std.proofs.lemmas.List.{nil_from_length}
 use Rattle.def_seed.specs.Fresh.{root_origin}
-use Rattle.def_seed.proofs.BareLemmas.{IsBare, bare_state, state_bare}
+use Rattle.def_seed.proofs.BareLemmas.{HasNone, IsBare, bare_state, state_bare}
 use Rattle.def_seed.proofs.FreshLemmas.{all_true, true_all, seq_empty, empty_seq, none_value, value_none}
 use Rattle.def_seed.proofs.fresh.is_bare_root.Goals as goal
 
@@ -17,7 +17,7 @@ returns c =
             origin = c.is_root_origin.ensures.0 all.1.0;
             vis = c.is_public.ensures.0 all.1.1.0;
             children = nil_from_length m.children.entries (c.is_empty.ensures.0 all.1.1.1.0);
-            textual = c.are_lists_empty.ensures.0 all.1.1.1.1.0;
+            textual = subst HasNone c.as_ref.ensures (c.are_lists_empty.ensures.0 all.1.1.1.1.0);
             declarations = seq_empty m.scope.declarations c.is_empty-2.result c.is_empty-2.ensures all.1.1.1.1.1.0;
             extern_crates = seq_empty m.scope.extern_crates c.is_empty-3.result c.is_empty-3.ensures all.1.1.1.1.1.1.0;
             unnamed_consts = seq_empty m.scope.unnamed_consts c.is_empty-4.result c.is_empty-4.ensures all.1.1.1.1.1.1.1.0;
@@ -40,7 +40,7 @@ returns c =
                 (
                   c.is_empty.ensures.1 (ap length bare.children),
                   (
-                    c.are_lists_empty.ensures.1 bare.textual,
+                    c.are_lists_empty.ensures.1 (subst HasNone (sym c.as_ref.ensures) bare.textual),
                     (
                       empty_seq m.scope.declarations c.is_empty-2.result c.is_empty-2.ensures bare.declarations,
                       (

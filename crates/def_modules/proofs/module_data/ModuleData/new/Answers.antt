@@ -1,7 +1,10 @@
-use Rattle.std.proofs.Common.{refl}
+use Rattle.std.proofs.Common.{ap, refl, ◌∙◌}
+use Rattle.def_modules.specs.ScopeMaps.{textual_of}
+use Rattle.def_modules.specs.Scopes.{empty_module, with_textual_of}
 use Rattle.def_modules.proofs.module_data.ModuleData.new.Goals as goal
 
 pub returns : goal.returns
 returns c =
-    rw (c.new.ensures.empty, c.new-2.ensures.empty, c.new-3.ensures.empty, c.new-4.ensures.empty, c.new-5.ensures.empty)
-    (rw (c.no_items.ensures, c.no_items-2.ensures, c.no_items-3.ensures, c.no_items-4.ensures, c.no_items-5.ensures, c.no_items-6.ensures) refl)
+    c.with_legacy_macros.ensures
+    ∙ ap (λ macros. with_textual_of (textual_of macros) (empty_module c.args.name c.args.origin c.args.visibility)) c.in_ok-none.ensures.ok
+    ∙ rw c.new.ensures.empty refl
