@@ -3,11 +3,11 @@ ghost use Rattle.std.specs.Prelude.{◌≡◌, ◌++◌, Some, IfOk, OnOk, optio
 ghost use Rattle.std.specs.List.{flat_map};
 ghost use Rattle.def_bindings.specs.ModuleTree.{chain_in};
 ghost use Rattle.def_bindings.specs.Visibility.{order_over};
-ghost use Rattle.def_bindings.specs.declared.visibility.Visibility.TheVariants.{Module};
 ghost use Rattle.def_map.specs.Answers.{variant_found};
 ghost use Rattle.def_map.specs.PerNs.{kept};
 ghost use Rattle.def_sources.specs.Tables.{bound_by};
-ghost use Rattle.def_rules.specs.Globs.{brought, glob_sees, name_entries, scope_entries, unnamed_entry, variant_entries};
+ghost use Rattle.def_rules.specs.Globs.{brought, name_entries, scope_entries, unnamed_entry, variant_entries};
+ghost use Rattle.def_steps.specs.GlobScopes.{scope_sees, sees_inside};
 
 use crate::answer::is_public;
 use def_bindings::{
@@ -34,7 +34,7 @@ pub struct GlobScope<'a> {
 impl<'a> GlobScope<'a> {
     /// Whether the glob sees this visibility.
     fn sees(&self, vis: Visibility) -> bool
-        ensures { result ≡ glob_sees (order_over (chain_in self.now.order.now)) self.now.own self.now.glob.importer vis }
+        ensures { result ≡ scope_sees self.now vis }
     {
         if self.own {
             self.order.visible(vis, self.glob.importer)
@@ -46,8 +46,8 @@ impl<'a> GlobScope<'a> {
     /// Whether the glob sees the visibility of a binding, given whether it sees what is visible in the
     /// module alone. Most bindings are public, or visible there alone.
     fn sees_binding(&self, inside: bool, vis: Visibility) -> bool
-        requires { inside ≡ glob_sees (order_over (chain_in self.now.order.now)) self.now.own self.now.glob.importer (Module self.now.source) }
-        ensures { result ≡ glob_sees (order_over (chain_in self.now.order.now)) self.now.own self.now.glob.importer vis }
+        requires { inside ≡ sees_inside self.now }
+        ensures { result ≡ scope_sees self.now vis }
     {
         match vis {
             Visibility::Public => true,
@@ -65,11 +65,11 @@ impl<'a> GlobScope<'a> {
         ns: Namespace,
         item: Option<&Item>,
     ) -> Result<(), AllocError>
-        requires { inside ≡ glob_sees (order_over (chain_in self.now.order.now)) self.now.own self.now.glob.importer (Module self.now.source) }
+        requires { inside ≡ sees_inside self.now }
         ensures { OnOk result (let o = order_over (chain_in self.now.order.now) in
             entries.new.items ≡ entries.old.items
             ++ brought o self.now.glob name ns
-            (kept (λ item. glob_sees o self.now.own self.now.glob.importer item.vis) (option_copied item.entry))) }
+            (kept (λ item. scope_sees self.now item.vis) (option_copied item.entry))) }
     {
         let Some(item) = item else {
             return Ok(());
@@ -89,7 +89,7 @@ impl<'a> GlobScope<'a> {
         inside: bool,
         name: Name,
     ) -> Result<(), AllocError>
-        requires { inside ≡ glob_sees (order_over (chain_in self.now.order.now)) self.now.own self.now.glob.importer (Module self.now.source) }
+        requires { inside ≡ sees_inside self.now }
         ensures { OnOk result (entries.new.items ≡ entries.old.items
             ++ name_entries (order_over (chain_in self.now.order.now)) self.now.glob self.now.own (bound_by self.now.table.now) self.now.source name) }
     {
@@ -117,18 +117,20 @@ impl<'a> GlobScope<'a> {
         )
     }
 
-    /// Appends the entries of a name. The binding of one that stands in one namespace is lent.
+    /// Appends the entries of a name, which the table keeps near a number. The binding of one that stands
+    /// in one namespace is lent.
     fn push_name(
         &self,
         entries: &mut Vec<Entry<Visibility>>,
         inside: bool,
+        near: &mut usize,
         name: Name,
     ) -> Result<(), AllocError>
-        requires { inside ≡ glob_sees (order_over (chain_in self.now.order.now)) self.now.own self.now.glob.importer (Module self.now.source) }
+        requires { inside ≡ sees_inside self.now }
         ensures { OnOk result (entries.new.items ≡ entries.old.items
             ++ name_entries (order_over (chain_in self.now.order.now)) self.now.glob self.now.own (bound_by self.now.table.now) self.now.source name) }
     {
-        match self.table.lone(self.source, name) {
+        match self.table.lone_near(self.source, name, near) {
             LoneBinding::Nothing => Ok(()),
             LoneBinding::Lone(ns, item) => self.push_seen(entries, inside, name, ns, Some(item)),
             LoneBinding::Unsaid => self.push_each(entries, inside, name),
@@ -167,8 +169,9 @@ impl<'a> GlobScope<'a> {
         let inside = self.sees(Visibility::Module(self.source));
         let names = self.table.names(self.source);
         entries.reserve(names.len())?;
+        let mut near = 0;
         'names: for name in names {
-            self.push_name(entries, inside, *name)?;
+            self.push_name(entries, inside, &mut near, *name)?;
         }
         Ok(())
     }
@@ -199,6 +202,7 @@ impl<'a> GlobScope<'a> {
 }
 
 /// Appends the entry of what a glob brings in a namespace.
+#[inline(always)]
 fn push_item(
     entries: &mut Vec<Entry<Visibility>>,
     order: &ModuleTree,

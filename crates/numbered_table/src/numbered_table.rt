@@ -1,7 +1,7 @@
 //! A table that keeps the names of all modules in one index.
 #![tactic(auto, unfolding(crate::specs::NumberedTable::content_of))]
 
-ghost use Rattle.std.specs.Prelude.{◌≡◌, ◌↔◌, IsTrue, None, is_none, OnOk, OnErr, IfOk, option_copied};
+ghost use Rattle.std.specs.Prelude.{◌≡◌, ◌↔◌, IsTrue, None, Some, is_none, OnOk, OnErr, IfOk, IfSome, option_copied};
 ghost use Rattle.numbered_table.specs.BoundName.{stands_for, written_in};
 ghost use Rattle.def_bindings.specs.Content.{AreTied, bound_as, is_bound};
 ghost use Rattle.numbered_table.specs.Lists.{lists_of};
@@ -57,6 +57,48 @@ fn bound_at<V>(
     })
 }
 
+/// What the entry with this number among all stands for, where it is that of this name.
+fn bound_numbered<V>(
+    bound: &IndexMap<Placed<Name>, BoundName<V>>,
+    number: usize,
+    module: ModuleId,
+    name: Name,
+) -> Option<&BoundName<V>>
+    ensures { IfSome result (λ there. name_of bound.now «module» name ≡ Some there.now) }
+{
+    match bound.get_index(number) {
+        Some((placed, there)) if placed.at == module && placed.key == name => Some(there),
+        _ => None,
+    }
+}
+
+/// What a name of a module stands for, if it stands for something. It is looked for at the number
+/// `near` first, which is then the one after it.
+fn bound_near<'a, V>(
+    bound: &'a IndexMap<Placed<Name>, BoundName<V>>,
+    module: ModuleId,
+    name: Name,
+    near: &mut usize,
+) -> Option<&'a BoundName<V>>
+    ensures { option_copied result ≡ name_of bound.now «module» name }
+{
+    if let Some(there) = bound_numbered(bound, *near, module, name) {
+        *near = near.saturating_add(1);
+        return Some(there);
+    }
+    let placed = Placed {
+        at: module,
+        key: name,
+    };
+    match bound.get_full(&placed) {
+        Some((number, _, there)) => {
+            *near = number.saturating_add(1);
+            Some(there)
+        }
+        None => None,
+    }
+}
+
 /// Takes a binding out, and answers whether its name has another.
 fn take_out<V: Copy>(
     names: &mut IndexMap<Placed<Name>, BoundName<V>>,
@@ -106,6 +148,7 @@ impl<V: Copy> NumberedTable<V> {
     ghost use Rattle.std.specs.Prelude.{◌<◌, ◌^◌, length, slice_get};
     ghost use Rattle.def_bindings.specs.declared.bindings.Slot.TheVariants.{Named};
     ghost use Rattle.def_bindings.specs.Content.{empty};
+    ghost use Rattle.def_bindings.specs.NameBindings.{bound_in, said};
     ghost use Rattle.numbered_table.specs.NumberedTable.{all_edges, content_of};
     ghost use Rattle.def_bindings.specs.Puts.{written};
 
@@ -135,6 +178,18 @@ impl<V: Copy> NumberedTable<V> {
         ensures { result.now ≡ (content_of self.now).names «module» }
     {
         self.names.of(module)
+    }
+
+    /// What a name stands for, in short where it can be said. Names that are read in the order in which
+    /// they were bound mostly follow each other among all: `near` is where this one is looked for first,
+    /// and then where the next one is.
+    pub fn lone_near(&self, module: ModuleId, name: Name, near: &mut usize) -> LoneBinding<'_, V>
+        ensures { IfSome (said result) (λ all. (content_of self.now).binding «module» name ≡ bound_in all) }
+    {
+        match bound_near(&self.bound, module, name, near) {
+            Some(bound) => bound.lone(),
+            None => LoneBinding::Nothing,
+        }
     }
 
     /// Binds a name where nothing is bound, and answers whether that was so. A refused call changes

@@ -26,7 +26,7 @@ invariant_of-self-in-Break-branch-3 g c =
     record { tied = tied-same _ _ _ _ (bindings-same t.bound (with_entries t.bound _) (search rules)) c.in_err-push-in-Vacant.ensures.refused t.tied }
 
 pub invariant_of-self-in-Vacant : goal.invariant_of-self-in-Vacant
-unfolding entry_value content_of
+unfolding entry_value content_of map_with_value
 invariant_of-self-in-Vacant g c =
     let t = c.args.self.now in
     let none = sym c.in_ok-there.ensures.value ∙ ap entry_value c.in-Vacant.is in
@@ -57,7 +57,7 @@ returns-in-Occupied-clause-refused g c =
     content-parts (content_of t) _ _ _ _ (bindings-same m (with_entries t.bound _) (search rules) ∙ bindings-kept t.bound m c.args.module c.args.name c.into_mut.result.now c.bind_beside.new.bound there after same) refl)
 
 pub returns-in_ok-push-in-Vacant-clause-done : goal.returns-in_ok-push-in-Vacant-clause-done
-unfolding entry_value content_of
+unfolding entry_value content_of map_with_value
 returns-in_ok-push-in-Vacant-clause-done g c =
     let t = c.args.self.now in
     let none = sym c.in_ok-there.ensures.value ∙ ap entry_value c.in-Vacant.is in
