@@ -38,6 +38,7 @@ pub enum AttrUse {
 
 /// The attribute whose macro an item waits for, with its number: the first that is neither builtin
 /// nor a tool's, behind the one that was passed over. At the greatest depth there is none.
+#[inline(always)]
 pub fn awaited_attr<'a, D: SourceDatabase>(
     db: &D,
     def_map: &MapData,

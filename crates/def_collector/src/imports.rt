@@ -148,6 +148,7 @@ fn try_whole<'a, D: SourceDatabase>(
 }
 
 /// Records an import with what its path gives, if it is ready with that. Answers whether it was.
+#[inline(always)]
 fn record_ready<'a, D: SourceDatabase>(
     collector: &mut DefCollector<'a>,
     db: &D,

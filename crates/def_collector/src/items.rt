@@ -22,8 +22,9 @@ use def_parts::Site;
 use item_tree::{ItemNode, ModItemId, ModItemKind, Seq};
 use std::alloc::AllocError;
 
-/// Lets the derives that are deferred for an item give their impls, where it is a struct, a union or an
-/// enum. On `Err` nothing but safety is promised.
+/// Lets the derives that are deferred for an item give their impls, if any are deferred for some item.
+/// On `Err` nothing but safety is promised.
+#[inline(always)]
 pub(crate) fn give_deferred<'a, D: SourceDatabase>(
     collector: &mut DefCollector<'a>,
     db: &D,
@@ -38,6 +39,23 @@ pub(crate) fn give_deferred<'a, D: SourceDatabase>(
     if collector.deferred_builtin_derives.is_empty() {
         return Ok(());
     }
+    give_those_of(collector, db, session, site, node)
+}
+
+/// Lets the derives that are deferred for an item give their impls, where it is a struct, a union or an
+/// enum. On `Err` nothing but safety is promised.
+#[inline(never)]
+fn give_those_of<'a, D: SourceDatabase>(
+    collector: &mut DefCollector<'a>,
+    db: &D,
+    session: &mut Interner,
+    site: &Site,
+    node: &ItemNode,
+) -> Result<(), AllocError>
+    ensures gave { OnOk result (
+        GaveImpls (D.oracle db.now) (state_of collector.old session.old) (site_of site.now) node.now (state_of collector.new session.new)) }
+    ensures session { AddsLocations (session_of session.old) (session_of session.new) }
+{
     let Some(adt) = number_adt(session, site, node)? else {
         return Ok(());
     };
@@ -58,6 +76,43 @@ pub(crate) fn give_deferred<'a, D: SourceDatabase>(
 /// it opens one. On `Err` nothing but safety is promised.
 #[inline(always)]
 pub(crate) fn collect_item<'a, D: SourceDatabase>(
+    collector: &mut DefCollector<'a>,
+    db: &'a D,
+    session: &mut Interner,
+    site: &Site,
+    node: &'a ItemNode,
+    opened: &mut Option<ItemList<'a>>,
+) -> Result<(), AllocError>
+    requires { opened.old ≡ None }
+    ensures handled { OnOk result (
+        Handled (D.oracle db.now) (state_of collector.old session.old) (state_of collector.new session.new)
+        (site_of site.now) node.now (inner_of (D.oracle db.now) opened.new)) }
+    ensures known { OnOk result (AreKnown (D.oracle db.now) opened.new) }
+    ensures session { AddsLocations (session_of session.old) (session_of session.new) }
+{
+    if opens_list(&node.kind) {
+        collect_any(collector, db, session, site, node, opened)
+    } else {
+        collect_leaf(collector, db, session, site, node)
+    }
+}
+
+/// Whether an item of this kind opens a list of items.
+fn opens_list(kind: &ModItemKind) -> bool
+    ensures { result ≡ opens_list kind.now }
+{
+    match kind {
+        ModItemKind::Mod { .. } => true,
+        ModItemKind::ExternBlock { .. } => true,
+        ModItemKind::MacroCall { .. } => true,
+        _ => false,
+    }
+}
+
+/// Handles an item of any kind. It stands apart, since most items open no list, and need no room for
+/// one. On `Err` nothing but safety is promised.
+#[inline(never)]
+fn collect_any<'a, D: SourceDatabase>(
     collector: &mut DefCollector<'a>,
     db: &'a D,
     session: &mut Interner,

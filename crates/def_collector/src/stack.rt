@@ -148,6 +148,7 @@ fn visit<'a, D: SourceDatabase>(
 
 /// Lets an item wait for the macro of an attribute, where it has one that may be a macro. On `Err`
 /// nothing but safety is promised.
+#[inline(always)]
 fn queue_awaited<'a, D: SourceDatabase>(
     collector: &mut DefCollector<'a>,
     db: &D,

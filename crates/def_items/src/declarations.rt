@@ -1,5 +1,5 @@
 //! Names that items declare: each definition is recorded in its module, and put there.
-ghost use Rattle.std.specs.Prelude.{◌≡◌, ◌∷◌, [], OnOk};
+ghost use Rattle.std.specs.Prelude.{◌≡◌, ◌∷◌, [], Some, OnOk};
 ghost use Rattle.def_map.specs.Oracle.{Oracle};
 ghost use Rattle.def_items.specs.Parts.{with_parts};
 ghost use Rattle.def_laws.specs.Performs.{Performs, Updated};
@@ -68,8 +68,8 @@ pub fn define(
     Ok(())
 }
 
-/// Declares a struct in types, and its constructor in values, which is at most as visible as the
-/// struct. On `Err` nothing but safety is promised.
+/// Declares a struct in types, and its constructor in values, where it has one. On `Err` nothing but
+/// safety is promised.
 pub fn define_struct(
     def_map: &mut MapData,
     table: &mut Globs<Table>,
@@ -81,19 +81,32 @@ pub fn define_struct(
         let effect = struct_effect (with_parts s def_map.old table.old) module_id defined.name defined.def defined.vis ctor_vis in
         Performs oracle effect.tasks effect.state (with_parts s def_map.new table.new)) }
 {
+    match ctor_vis {
+        Some(ctor_vis) => define_with_ctor(def_map, table, module_id, defined, ctor_vis),
+        None => define(def_map, table, module_id, Namespace::Types, defined),
+    }
+}
+
+/// Declares a struct in types, and in values its constructor, which is at most as visible as the
+/// struct. It stands apart, since most structs have no constructor to declare. On `Err` nothing but
+/// safety is promised.
+#[inline(never)]
+fn define_with_ctor(
+    def_map: &mut MapData,
+    table: &mut Globs<Table>,
+    module_id: ModuleId,
+    defined: Definition,
+    ctor_vis: Visibility,
+) -> Result<(), AllocError>
+    ensures { OnOk result ((oracle : Oracle) (s : State) →
+        let effect = struct_effect (with_parts s def_map.old table.old) module_id defined.name defined.def defined.vis (Some ctor_vis) in
+        Performs oracle effect.tasks effect.state (with_parts s def_map.new table.new)) }
+{
     let module = module_id.index;
     def_map.declare(module, defined.def)?;
     let types = defined.entry(Namespace::Types);
-    match ctor_vis {
-        Some(ctor_vis) => {
-            let vis = lesser_or_import(&def_map.tree, ctor_vis, defined.vis);
-            let values = Definition { vis, ..defined }.entry(Namespace::Values);
-            put(def_map, table, module_id, &[types, values])?;
-            Ok(())
-        }
-        None => {
-            put(def_map, table, module_id, &[types])?;
-            Ok(())
-        }
-    }
+    let vis = lesser_or_import(&def_map.tree, ctor_vis, defined.vis);
+    let values = Definition { vis, ..defined }.entry(Namespace::Values);
+    put(def_map, table, module_id, &[types, values])?;
+    Ok(())
 }

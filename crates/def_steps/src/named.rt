@@ -76,6 +76,7 @@ pub fn named_entries(
 }
 
 /// The entry of what an import gives in types, if it gives something there.
+#[inline(always)]
 fn types_entry(
     order: &ModuleTree,
     brought: Brought,
@@ -108,6 +109,7 @@ fn entry_in(
 }
 
 /// The entry of a definition that an import gives in a namespace, if it keeps that namespace.
+#[inline(always)]
 fn entry(
     order: &ModuleTree,
     brought: Brought,

@@ -7,7 +7,7 @@ use Rattle.def_collector.specs.Collector.{state_of}
 use Rattle.def_collector.specs.Walk.{inner_of}
 use Rattle.def_rules.specs.State.{State}
 use Rattle.def_collector.proofs.VisitLemmas.{none_known, opens_none}
-use Rattle.def_collector.proofs.items.collect_item.Goals as goal
+use Rattle.def_collector.proofs.items.collect_any.Goals as goal
 
 pub returns-in_ok-opened-in-Mod-clause-handled : goal.returns-in_ok-opened-in-Mod-clause-handled
 returns-in_ok-opened-in-Mod-clause-handled g c =
