@@ -15,7 +15,7 @@ use tree_ids::Name;
 /// Bindings, names, unnamed traits and glob edges by module, however they are kept. What is read is
 /// copied. A table that finds all bindings of a name, an unnamed trait or an edge by one look-up, or
 /// that binds where it has looked, has bodies of its own for `bindings`, `lone`, `module_at`,
-/// `unnamed_vis`, `edge_to` and `bind`.
+/// `unnamed_vis`, `edge_to` and `bind`, and one that grows its lists for `expect_names`.
 pub trait BindingTable {
     type Vis: Copy;
 
@@ -96,6 +96,12 @@ pub trait BindingTable {
         }
         None
     }
+
+    /// Says how many names a module without names may get, so that a table can make room for them when
+    /// the first one comes. A table may ignore it.
+    fn expect_names(&mut self, _module: ModuleId, _names: usize)
+        ensures { content self.new ≡ content self.old }
+    {}
 
     fn set(
         &mut self,

@@ -96,7 +96,7 @@ fn collect_inline_module<'a, D: SourceDatabase>(
     let dir = site
         .dir
         .descend_into_definition(text, item.node.path_attr())?;
-    let child = push_module(collector, item, inline_origin(item))?;
+    let child = push_module(collector, item, inline_origin(item), children.len())?;
     let Some(dir) = dir else {
         return Ok(None);
     };
@@ -145,7 +145,7 @@ fn collect_outline_module<'a, D: SourceDatabase>(
             let candidates = texts_of(collector.alloc, candidates.as_slice())?;
             let kind = DefDiagnosticKind::UnresolvedModule { candidates };
             report(&mut collector.diagnostics, site, item.node, kind)?;
-            push_module(collector, item, inline_origin(item))?;
+            push_module(collector, item, inline_origin(item), 0)?;
             Ok(None)
         }
     }
@@ -180,7 +180,8 @@ fn collect_file_module<'a, D: SourceDatabase>(
         file: found.file,
         is_mod_rs: found.is_mod_rs,
     };
-    let child = push_module(collector, item, origin)?;
+    let items = top_items(tree);
+    let child = push_module(collector, item, origin, items.len())?;
     let handed_on = hands_on(item.node, tree);
     Ok(Some(ItemList {
         site: Site {
@@ -191,17 +192,18 @@ fn collect_file_module<'a, D: SourceDatabase>(
             dir: found.dir,
         },
         tree,
-        items: top_items(tree),
+        items,
         into: into_if(handed_on, item.site.module_id),
     }))
 }
 
 /// Adds the module of an item as a child of the one that the item stands in, and declares it in
-/// types. Answers the module. On `Err` nothing but safety is promised.
+/// types, with room for so many items. Answers the module. On `Err` nothing but safety is promised.
 fn push_module<'a>(
     collector: &mut DefCollector<'a>,
     item: ModuleItem<'_>,
     origin: ModuleOrigin,
+    room: usize,
 ) -> Result<ModuleId, AllocError>
     ensures child { IfOk result (λ child. (session : Interner) → child ≡ module_rules.next_module (state_of collector.old session)) }
     ensures added { OnOk result ((session : Interner) →
@@ -214,6 +216,7 @@ fn push_module<'a>(
         parent: item.site.module_id,
         name: item.name,
         vis: item.vis,
+        items: room,
     };
     let table = &mut collector.table;
     push_child_module(

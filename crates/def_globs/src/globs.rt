@@ -81,6 +81,13 @@ impl<T: BindingTable> Globs<T> {
         table
     }
 
+    /// Says how many names a module without names may get.
+    pub fn expect_names(&mut self, module: ModuleId, names: usize)
+        ensures { T.content self.new ≡ T.content self.old }
+    {
+        self.table.expect_names(module, names);
+    }
+
     /// Begins to watch which names change.
     pub fn watch(&mut self)
         ensures { self.new ≡ self.old }

@@ -21,12 +21,14 @@ use def_map::{MapData, ModuleData, ModuleOrigin, Table};
 use item_tree::{ItemNode, ItemTree, Name, sym};
 use std::alloc::{AllocError, Global};
 
-/// A module that is to be added: the one that it is a child of, its name, and how visible it is.
+/// A module that is to be added: the one that it is a child of, its name, how visible it is, and how
+/// many items it begins with, for which room is made.
 #[derive(Clone, Copy)]
 pub struct ChildModule {
     pub parent: ModuleId,
     pub name: Name,
     pub vis: Visibility,
+    pub items: usize,
 }
 
 /// A module with nothing in it but the textual macros of the one that it is a child of.
@@ -40,7 +42,7 @@ fn fresh_module(
 {
     let name = Some(added.name);
     match def_map.modules.get(added.parent.index) {
-        Some(around) => ModuleData::within(alloc, name, origin, added.vis, around),
+        Some(around) => ModuleData::within(alloc, name, origin, added.vis, around, added.items),
         None => ModuleData::new(alloc, name, origin, added.vis),
     }
 }
@@ -130,5 +132,6 @@ pub fn push_child_module(
         added.parent,
         &[declared.entry(Namespace::Types)],
     )?;
+    table.expect_names(child, added.items);
     Ok(child)
 }

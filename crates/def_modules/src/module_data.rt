@@ -1,5 +1,5 @@
 //! A module of a map, and what its scope holds beside its bindings.
-ghost use Rattle.std.specs.Prelude.{◌≡◌, OnOk, IfOk};
+ghost use Rattle.std.specs.Prelude.{◌≡◌, [], OnOk, IfOk};
 ghost use Rattle.def_modules.specs.ScopeMaps.{derive_state, textual_of, with_call};
 
 use crate::keyed_lists::{no_items, push_under};
@@ -128,17 +128,33 @@ impl DeriveMacroInvocation {
     }
 }
 
+/// A list has room for so many elements once it has one, and to ask for less would be in vain.
+const FIRST_ROOM: usize = 4;
+
+/// A list with nothing in it, and with room for so many elements.
+fn room_for(alloc: Global, elements: usize) -> Result<Seq<Def>, AllocError>
+    ensures { IfOk result (λ made. made ≡ []) }
+{
+    let mut list = Vec::new(alloc);
+    if FIRST_ROOM < elements {
+        list.reserve(elements)?;
+    }
+    Ok(Seq::from_vec(list))
+}
+
 impl ModuleData {
     ghost use Rattle.def_modules.specs.Scopes.{module_state, empty_module, declared_in, with_child, with_textual, with_extern_crate, with_extern_block, with_unnamed_const, with_impl, with_derive_impl, with_derive, called_at, with_textual_of, with_invocation, marked_failed};
 
-    /// A module with nothing in it but these textual macros.
+    /// A module with nothing in it but these textual macros, and with this list for its declarations.
     fn with_legacy_macros(
         alloc: Global,
         name: Option<Name>,
         origin: ModuleOrigin,
         visibility: Visibility,
         legacy_macros: Rc<IndexMap<Name, Seq<MacroId>>>,
+        declarations: Seq<Def>,
     ) -> ModuleData
+        requires { declarations ≡ [] }
         ensures { module_state result ≡ with_textual_of (textual_of legacy_macros.value) (empty_module name origin visibility) }
     {
         ModuleData {
@@ -147,7 +163,7 @@ impl ModuleData {
             visibility,
             children: IndexMap::new(alloc),
             scope: ScopeData {
-                declarations: no_items(alloc),
+                declarations,
                 legacy_macros,
                 extern_crates: no_items(alloc),
                 extern_blocks: no_items(alloc),
@@ -171,22 +187,26 @@ impl ModuleData {
         ensures { IfOk result (λ made. module_state made ≡ empty_module name origin visibility) }
     {
         let none = Rc::new(alloc, IndexMap::new(alloc))?;
-        Ok(ModuleData::with_legacy_macros(alloc, name, origin, visibility, none))
+        let declarations = no_items(alloc);
+        Ok(ModuleData::with_legacy_macros(alloc, name, origin, visibility, none, declarations))
     }
 
     /// A module with nothing in it but the textual macros of the module around it. They are shared.
+    /// It has room for the declarations of so many items.
     pub fn within(
         alloc: Global,
         name: Option<Name>,
         origin: ModuleOrigin,
         visibility: Visibility,
         around: &ModuleData,
+        items: usize,
     ) -> Result<ModuleData, AllocError>
         ensures { IfOk result (λ made. module_state made
             ≡ with_textual_of (module_state around.now).textual (empty_module name origin visibility)) }
     {
+        let declarations = room_for(alloc, items)?;
         let shared = around.scope.legacy_macros.clone()?;
-        Ok(ModuleData::with_legacy_macros(alloc, name, origin, visibility, shared))
+        Ok(ModuleData::with_legacy_macros(alloc, name, origin, visibility, shared, declarations))
     }
 
     /// Adds a declaration behind the others.

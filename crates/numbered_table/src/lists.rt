@@ -1,5 +1,5 @@
 //! Lists by module.
-ghost use Rattle.std.specs.Prelude.{◌≡◌, ◌∷◌, [], ◌++◌, ◌+◌, ◌<◌, ◌≤◌, ◌^◌, None, Some, length, slice_get, option_map, OnOk, OnErr, IsTrue, cond, true};
+ghost use Rattle.std.specs.Prelude.{◌≡◌, ◌∷◌, [], ◌++◌, ◌+◌, ◌<◌, ◌≤◌, ◌^◌, None, Some, length, slice_get, option_map, IfOk, OnOk, OnErr, IsTrue, cond, true};
 ghost use Rattle.indexmap.specs.IndexMap.{get};
 ghost use Rattle.def_ids.specs.declared.ids.ModuleId.{ModuleId};
 ghost use Rattle.def_ids.specs.Ids.{is_same_module, is_same_map};
@@ -18,6 +18,8 @@ pub struct Lists<K> {
     alloc: Global,
     /// How many lists were begun.
     begun: usize,
+    /// A module that may have no list yet, and how many elements that is to have room for.
+    expected: Option<(ModuleId, usize)>,
     /// The map whose modules have rows.
     map: MapId,
     rows: Vec<Option<Vec<K>>>,
@@ -26,6 +28,9 @@ pub struct Lists<K> {
 
 /// How many rows there may be for each list, so that no index asks for room without bound.
 const ROWS_FOR_EACH: usize = 8;
+
+/// A list has room for so many elements once it has one, and to ask for less would be in vain.
+const FIRST_ROOM: usize = 4;
 
 /// Makes rows without lists until there are so many.
 fn pad<K: Copy>(rows: &mut Vec<Option<Vec<K>>>, len: usize) -> Result<(), AllocError>
@@ -90,6 +95,7 @@ impl<K: Copy> Lists<K> {
         Lists {
             alloc,
             begun: 0,
+            expected: None,
             map: MapId {
                 krate: Crate(0),
                 block: None,
@@ -147,6 +153,29 @@ impl<K: Copy> Lists<K> {
         module.map == self.map && module.index < most
     }
 
+    /// Says how many elements the list of a module may get. Where it has none yet, one with so much
+    /// room is begun, if no other module's is said meanwhile.
+    pub fn expect(&mut self, module: ModuleId, elements: usize)
+        ensures { lists_of self.new ≡ lists_of self.old }
+    {
+        if FIRST_ROOM < elements {
+            self.expected = Some((module, elements));
+        }
+    }
+
+    /// A list for a module that has none, with the room that was said.
+    fn first_list(&self, module: ModuleId) -> Result<Vec<K>, AllocError>
+        ensures { IfOk result (λ list. list.items ≡ []) }
+    {
+        let mut list = Vec::new(self.alloc);
+        if let Some((expected, elements)) = self.expected {
+            if expected == module {
+                list.reserve(elements)?;
+            }
+        }
+        Ok(list)
+    }
+
     /// Begins the list of a module that has none.
     fn begin(&mut self, module: ModuleId, item: K) -> Result<(), AllocError>
         requires row { rows_of self.old «module» ≡ None }
@@ -155,7 +184,7 @@ impl<K: Copy> Lists<K> {
             ≡ listed_as (lists_of self.old) «module» (item ∷ [])) }
         ensures refused { OnErr result (lists_of self.new ≡ lists_of self.old) }
     {
-        let mut list = Vec::new(self.alloc);
+        let mut list = self.first_list(module)?;
         list.push(item)?;
         self.begun = self.begun.saturating_add(1);
         if self.takes_row(module) {
@@ -165,6 +194,7 @@ impl<K: Copy> Lists<K> {
     }
 
     /// Adds an element at the end of a module's list.
+    #[inline(always)]
     pub fn push(&mut self, module: ModuleId, item: K) -> Result<(), AllocError>
         ensures done { OnOk result (lists_of self.new
             ≡ listed_as (lists_of self.old) «module» (lists_of self.old «module» ++ item ∷ [])) }

@@ -327,6 +327,10 @@ impl<V: Copy> BindingTable for NumberedTable<V> {
         }
     }
 
+    fn expect_names(&mut self, module: ModuleId, names: usize) {
+        self.names.expect(module, names);
+    }
+
     fn set(
         &mut self,
         module: ModuleId,

@@ -25,9 +25,9 @@ returns-clause-done g c =
     let oracle = g.D.SourceDatabase.oracle c.args.db.now in
     let found = found_in c.args.found in
     file_opened oracle (state_of c.args.collector.now session) (state_of c.push_module.new.collector session) (site_of c.args.item.site.now) c.args.item.node.now c.args.item.name c.args.item.vis
-    found c.in_ok-child.child c.top_items.result.now (behind c.in_ok-child.child c.into_if.result)
+    found c.in_ok-child.child c.top_items-items.result.now (behind c.in_ok-child.child c.into_if.result)
     (c.in_default.ensures ∙ cfg_of oracle (file_tree found) c.item_tree-tree.result c.item_tree-tree.ensures) (c.in_ok-child.ensures.child session)
-    (c.top_items.ensures ∙ tops_of oracle (file_tree found) c.item_tree-tree.result c.item_tree-tree.ensures)
+    (c.top_items-items.ensures ∙ tops_of oracle (file_tree found) c.item_tree-tree.result c.item_tree-tree.ensures)
     (c.into_if.ensures c.in_ok-child.child
     ∙ ap (λ b. bring_if b c.in_ok-child.child (site_of c.args.item.site.now).scope)
     (c.hands_on-handed_on.ensures ∙ ap (λ l. is_macro_use (item.attrs_of c.args.item.node.now.attrs) || is_macro_use l) (attrs_of oracle (file_tree found) c.item_tree-tree.result c.item_tree-tree.ensures)))

@@ -8,7 +8,7 @@ pub returns-then-takes_row-clause-done : goal.returns-then-takes_row-clause-done
 returns-then-takes_row-clause-done g c =
     let l = c.args.self.now in
     let t = c.takes_row.new.self in
-    let one : c.push.new.self.items ≡ c.args.item ∷ [] = ◌∙◌ {b = c.new-list.result.items ++ c.args.item ∷ []} c.in_ok-push.ensures.items (ap (λ xs. xs ++ c.args.item ∷ []) c.new-list.ensures.items) in
+    let one : c.push.new.self.items ≡ c.args.item ∷ [] = ◌∙◌ {b = c.in_ok-list.list.items ++ c.args.item ∷ []} c.in_ok-push.ensures.items (ap (λ xs. xs ++ c.args.item ∷ []) c.in_ok-list.ensures) in
     OnOk_then _ c.set_row.ensures.done
     (λ row. begun-row (rows_of t) (lists_in t.others) c.args.module (rows_of l) (row_in t.map c.set_row.new.rows.items) (lists_in l.others) c.push.new.self.items (c.args.item ∷ [])
     (row t.map c.args.module (c.if-takes_row.ensures.map refl) refl)
@@ -26,7 +26,7 @@ pub returns-clause-done : goal.returns-clause-done
 returns-clause-done g c =
     let l = c.args.self.now in
     let t = c.takes_row.new.self in
-    let one : c.push.new.self.items ≡ c.args.item ∷ [] = ◌∙◌ {b = c.new-list.result.items ++ c.args.item ∷ []} c.in_ok-push.ensures.items (ap (λ xs. xs ++ c.args.item ∷ []) c.new-list.ensures.items) in
+    let one : c.push.new.self.items ≡ c.args.item ∷ [] = ◌∙◌ {b = c.in_ok-list.list.items ++ c.args.item ∷ []} c.in_ok-push.ensures.items (ap (λ xs. xs ++ c.args.item ∷ []) c.in_ok-list.ensures) in
     OnOk_then _ c.begin_other.ensures.done
     (λ other. begun-other (rows_of t) (lists_in t.others) c.args.module (rows_of l) (lists_in l.others) (lists_in c.begin_other.new.others) c.push.new.self.items (c.args.item ∷ [])
     c.requires.row other
