@@ -76,6 +76,7 @@ fn as_binding<V: Copy>(item: TraitId, vis: V) -> Binding<V>
 }
 
 /// What a module binds at a slot.
+#[inline(always)]
 pub fn held_at<T: BindingTable>(table: &T, module: ModuleId, slot: Slot) -> Option<Binding<T::Vis>>
     ensures { result ≡ held (T.content table.now) «module» slot }
 {
@@ -145,6 +146,7 @@ fn put_over<T: BindingTable, O: VisOrder<Vis = T::Vis>>(
 }
 
 /// Puts an offer at a place, and answers whether that changed it. A refused call changes nothing.
+#[inline(always)]
 pub fn put_at<T: BindingTable, O: VisOrder<Vis = T::Vis>>(
     table: &mut T,
     order: &O,

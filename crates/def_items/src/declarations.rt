@@ -52,6 +52,7 @@ pub fn put(
 }
 
 /// Declares a definition in one namespace. On `Err` nothing but safety is promised.
+#[inline(always)]
 pub fn define(
     def_map: &mut MapData,
     table: &mut Globs<Table>,
