@@ -27,11 +27,12 @@ pub fn record_woken<'a, D: SourceDatabase>(
         [] (state_of collector.old session.now) [] (state_of collector.new session.now)) }
     ensures turns { OnOk result (turns_left (state_of collector.new session.now) ≤ turns_left (state_of collector.old session.now)) }
 {
-    let mut turns = Turns::new(collector.alloc);
     let unresolved = collector.unresolved_imports.len();
-    let imports = unresolved.saturating_add(collector.indeterminate_imports.len());
+    let indeterminate = collector.indeterminate_imports.len();
+    let mut turns = Turns::new(collector.alloc, unresolved);
+    turns.wake_list(ImportList::Indeterminate, indeterminate)?;
+    let imports = unresolved.saturating_add(indeterminate);
     let mut watchers = Watchers::new(collector.alloc, imports)?;
-    wake_all(collector, &mut turns)?;
     collector.table.watch();
     'woken: while record_next(collector, db, session, &mut turns, &mut watchers)? {}
     collector.table.unwatch();

@@ -1,1 +1,2 @@
 pub mod GlobLemmas
+pub mod TurnsLemmas

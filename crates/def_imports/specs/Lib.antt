@@ -1,3 +1,4 @@
 pub mod GlobEntries
+pub mod Sweeps
 pub mod Turns
 pub mod Room

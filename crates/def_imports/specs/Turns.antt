@@ -1,17 +1,22 @@
 -- The turns of imports that woke.
-use Rattle.std.specs.Prelude.{◌≡◌, ℕ, ◌+◌, ◌<◌, ◌^◌, Bool, true, false, ◌∷◌, nat_lt}
-use Rattle.std.specs.BTreeSet.{btree_set_len, insert_key}
+use Rattle.std.specs.Prelude.{◌≡◌, ℕ, ◌+◌, ◌<◌, ◌^◌, Bool, true, false, List, ◌∷◌, ◌++◌, length, nat_lt}
+use Rattle.std.specs.BTreeSet.{insert_key}
 use Rattle.std.specs.declared.cmp.Ordering.{Ordering}
 use Rattle.std.specs.Ordering.{bool_cmp, nat_cmp, ordering_then}
 use Rattle.def_steps.specs.declared.import_lists.ImportList.{ImportList}
 use Rattle.def_steps.specs.declared.import_lists.ImportList.TheVariants.{Unresolved, Indeterminate}
 use Rattle.def_imports.specs.declared.turns.ImportAt.{ImportAt}
 use Rattle.def_imports.specs.declared.turns.Turn.{Turn}
-use Rattle.def_imports.specs.declared.turns.Turns.{Turns}
+use Rattle.def_imports.specs.declared.coming.Turns.{Turns}
+use Rattle.def_imports.specs.Sweeps.{swept}
+
+-- those that are to come, in their order
+abbrev pub coming_turns : Turns → List Turn
+coming_turns turns = swept turns.sweep ++ turns.coming.keys
 
 -- how many are to come
 abbrev pub turns_to_come : Turns → ℕ
-turns_to_come turns = btree_set_len turns.coming
+turns_to_come turns = length (coming_turns turns)
 
 -- whether a list is that of the imports that are indeterminate
 abbrev pub is_indeterminate : ImportList → Bool
@@ -34,7 +39,7 @@ pub record WakesAfter (last : Turn) (import : ImportAt) (turn : Turn) : Type 0 w
 
 -- one turn was the first of those that were to come, and is the last that came now: that of this import
 pub record IsNext (old new : Turns) (import : ImportAt) : Type 0 where
-  pub first : old.coming.keys ≡ new.last ∷ new.coming.keys
+  pub first : coming_turns old ≡ new.last ∷ coming_turns new
   pub list : is_indeterminate import.list ≡ new.last.is_indeterminate
   pub place : import.index ≡ new.last.index
 
@@ -46,5 +51,5 @@ turn_order first second = ordering_then (nat_cmp first.pass second.pass) (orderi
 pub record Wakes (old new : Turns) (import : ImportAt) : Type 0 where
   pub turn : Turn
   pub wakes : WakesAfter old.last import turn
-  pub comes : new.coming.keys ≡ insert_key turn_order old.coming.keys turn
+  pub comes : coming_turns new ≡ insert_key turn_order (coming_turns old) turn
   pub last : new.last ≡ old.last

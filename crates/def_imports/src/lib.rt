@@ -2,6 +2,7 @@
 //! wake where a name changes.
 #![tactic(auto)]
 
+mod coming;
 mod globs;
 mod imports;
 mod reads;
@@ -9,8 +10,9 @@ mod room;
 mod turns;
 mod watchers;
 
+pub use coming::Turns;
 pub use globs::{glob_entries, put_glob};
 pub use imports::{record_named, resolve_import, resolve_import_in_short};
 pub use room::Room;
-pub use turns::{ImportAt, Turns};
+pub use turns::ImportAt;
 pub use watchers::Watchers;

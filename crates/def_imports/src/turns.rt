@@ -2,6 +2,7 @@
 ghost use Rattle.std.specs.Prelude.{◌≡◌, ◌<◌, IfNone, IfSome, OnOk};
 ghost use Rattle.def_imports.specs.Turns.{WakesAfter, is_behind, is_indeterminate};
 
+use crate::coming::{Sweep, Turns};
 use def_steps::ImportList;
 use std::alloc::{AllocError, Global};
 use std::collections::BTreeSet;
@@ -17,9 +18,9 @@ pub struct ImportAt {
 /// then by their places.
 #[derive(Clone, Copy, PartialEq, Eq, PartialOrd, Ord)]
 pub struct Turn {
-    pass: usize,
-    is_indeterminate: bool,
-    index: usize,
+    pub(crate) pass: usize,
+    pub(crate) is_indeterminate: bool,
+    pub(crate) index: usize,
 }
 
 /// Whether a list is that of the imports that are indeterminate.
@@ -59,20 +60,16 @@ fn turn_after(last: Turn, import: ImportAt) -> Turn
     }
 }
 
-/// The turns that are to come, of imports that woke.
-#[derive(Drop)]
-pub struct Turns {
-    pub coming: BTreeSet<Turn>,
-    /// The turn that came last.
-    last: Turn,
-}
-
 impl Turns {
-    ghost use Rattle.def_imports.specs.Turns.{IsNext, Wakes, turns_to_come};
+    ghost use Rattle.def_imports.specs.Turns.{IsNext, Wakes, coming_turns, turns_to_come};
+    ghost use Rattle.def_imports.specs.Sweeps.{swept_turns};
 
-    /// No turns.
-    pub fn new(alloc: Global) -> Self {
+    /// A first turn for each of so many imports that are unresolved, and none for others.
+    pub fn new(alloc: Global, unresolved: usize) -> Self
+        ensures { coming_turns result ≡ swept_turns unresolved unresolved }
+    {
         Turns {
+            sweep: Sweep::new(unresolved),
             coming: BTreeSet::new(alloc),
             // Those that wake now have their turns in the pass after this.
             last: Turn {
@@ -89,7 +86,13 @@ impl Turns {
         ensures next { IfSome result (IsNext self.old self.new) }
         ensures none { IfNone result (turns_to_come self.old ≡ 0) }
     {
-        let turn = self.coming.pop_first()?;
+        let turn = match self.sweep {
+            Some(sweep) => {
+                self.sweep = sweep.others();
+                sweep.next()
+            }
+            None => self.coming.pop_first()?,
+        };
         self.last = turn;
         Some(ImportAt {
             list: if turn.is_indeterminate {
@@ -106,7 +109,13 @@ impl Turns {
     pub fn wake(&mut self, import: ImportAt) -> Result<(), AllocError>
         ensures woken { OnOk result (Wakes self.old self.new import) }
     {
-        self.coming.insert(turn_after(self.last, import))?;
+        let turn = turn_after(self.last, import);
+        if let Some(sweep) = self.sweep {
+            if sweep.has(turn) {
+                return Ok(());
+            }
+        }
+        self.coming.insert(turn)?;
         Ok(())
     }
 

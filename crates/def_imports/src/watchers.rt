@@ -1,8 +1,9 @@
 //! Which imports a changed name wakes.
 ghost use Rattle.std.specs.Prelude.{◌<◌};
 
+use crate::coming::Turns;
 use crate::reads::names_read;
-use crate::turns::{ImportAt, Turns};
+use crate::turns::ImportAt;
 use def_ids::ModuleId;
 use def_map::{SourceDatabase, Table, World};
 use def_steps::Import;
