@@ -1,16 +1,9 @@
-//! What no contract says, and no row: what is collected of scripted crates that no row can say, what the
-//! program prints, and the examples of use.
+//! What no contract says, and no row: how texts and rows are read, how a run over many calls ends, in
+//! which order maps are shown, what the program prints, and the examples of use.
 
-mod blocks;
-mod deep_blocks;
-mod dependencies;
 mod examples;
-mod files;
-mod late_names;
 mod limit;
-mod missing_answers;
 mod program;
 mod row_texts;
 mod shown_order;
 mod texts;
-mod vectors;

@@ -1,9 +1,9 @@
 //! What is recorded of a crate beside the lines that are shown, as lines of text: what its root file
 //! says, the macro calls and derives of its modules, and how its run ended.
 
-use def_ids::{BuiltinDeriveImplId, Def, GlobId, ModuleId};
+use def_ids::{BuiltinDeriveImplId, Def, GlobId, MapId, ModuleId};
 use def_interner::Interner;
-use def_map::{DefMap, DeriveCall, DeriveHelper, DeriveKey, ItemScope, Position};
+use def_map::{DefMap, DeriveCall, DeriveHelper, DeriveKey, ItemScope, Position, Visibility};
 use def_workspace::Collected;
 use item_tree::{Crate, HirFileId, MacroCallId, Name};
 use std::io::{self, Write};
@@ -232,6 +232,27 @@ fn write_all_helpers(
     Ok(())
 }
 
+/// Whether a visibility is that of a module of another map.
+fn is_outside(map: MapId, vis: Visibility) -> bool {
+    match vis {
+        Visibility::Module(id) => id.map != map,
+        _ => false,
+    }
+}
+
+/// How many bindings of a scope are seen in a module of another map.
+fn outside(map: MapId, scope: ItemScope<'_>) -> usize {
+    let mut count: usize = 0;
+    for (_, found) in scope.resolutions() {
+        for binding in [found.types, found.values, found.macros] {
+            if binding.is_some_and(|binding| is_outside(map, binding.vis)) {
+                count = count.saturating_add(1);
+            }
+        }
+    }
+    count
+}
+
 /// Writes what is recorded in a module.
 fn write_scope(
     session: &Interner,
@@ -240,6 +261,7 @@ fn write_scope(
     scope: ItemScope<'_>,
     out: &mut Vec<u8>,
 ) -> io::Result<()> {
+    write_count("outside", index, outside(map.id(), scope), out)?;
     write_count("calls", index, scope.invocations().len(), out)?;
     write_count("extern-crates", index, scope.extern_crates().len(), out)?;
     write_impls(index, scope.builtin_derive_impls(), out)?;

@@ -1,158 +1,153 @@
 //! Runs the rows of one text.
 
+use crate::collecting::collect;
 use crate::records::write_records;
-use anyhow::{Result, bail};
-use def_workspace::{Collected, CrateText, Fault, Vector, Workspace, print};
+use def_workspace::{Collected, Fault, Vector, Workspace, find, print};
 use fixtures::{Fixture, FixtureFault, Part, lists_of, read, rows_in, vector_of};
 use std::alloc::Global;
-use std::io;
+use std::io::{self, Write};
 
 /// How many rows a text has, and how many of them are wrong.
+#[derive(Clone, Copy)]
 pub struct Counts {
     pub rows: usize,
     pub wrong: usize,
 }
 
-/// What is read, or why it is not.
-fn or_why_not<T: Drop>(read: Result<T, FixtureFault>) -> Result<T> {
-    match read {
-        Ok(value) => Ok(value),
-        Err(FixtureFault::Memory) => bail!("out of memory"),
-        Err(FixtureFault::Line(line)) => bail!("line {line} cannot be read"),
-    }
-}
-
-/// The lines that are shown of a row, and those of what is recorded beside them.
-#[derive(Drop)]
-struct Written {
-    shown: Vec<u8>,
-    recorded: Vec<u8>,
-}
-
-impl Written {
-    /// No lines.
-    fn new(alloc: Global) -> Written {
-        Written {
-            shown: Vec::new(alloc),
-            recorded: Vec::new(alloc),
-        }
-    }
-
-    /// Writes the lines of what is collected of a crate.
-    fn write(&mut self, workspace: &Workspace, collected: &Collected) -> Result<(), Fault> {
-        let session = &workspace.session;
-        print(workspace.alloc, session, collected, &mut self.shown)?;
-        Ok(write_records(session, collected, &mut self.recorded)?)
-    }
-}
-
-/// Collects crates, each over those before it, and writes the lines of the last one.
-fn write_last(
-    workspace: &mut Workspace,
-    crates: &[CrateText<'_>],
-    written: &mut Written,
+/// Writes the lines of what is collected of a row.
+fn write_collected(
+    row: &Fixture<'_>,
+    workspace: &Workspace,
+    collected: &Collected,
+    lines: &mut Vec<u8>,
 ) -> Result<(), Fault> {
-    let Some((last, others)) = crates.split_last() else {
-        return Ok(());
-    };
-    for other in others {
-        workspace.collect_dependency(other)?;
+    print(workspace.alloc, &workspace.session, collected, lines)?;
+    if row.records.is_some() {
+        writeln!(lines, "recorded:")?;
+        write_records(&workspace.session, collected, lines)?;
     }
-    let collected = workspace.collect(last)?;
-    written.write(workspace, &collected)
+    Ok(())
 }
 
-/// Collects the crates of a workspace, and writes the lines of the last one.
-fn write_vector(alloc: Global, vector: &Vector<'_>, written: &mut Written) -> Result<(), Fault> {
+/// Collects the crates of the workspace of a row, and writes the lines of the last one.
+fn write_vector(
+    alloc: Global,
+    row: &Fixture<'_>,
+    vector: &Vector<'_>,
+    lines: &mut Vec<u8>,
+) -> Result<(), Fault> {
     let mut workspace = Workspace::new(alloc, vector)?;
-    write_last(&mut workspace, vector.crates, written)
-}
-
-/// Collects the workspace of a row, and writes its lines.
-fn write_row(alloc: Global, row: &Fixture<'_>, written: &mut Written) -> Result<(), Fault> {
-    let lists = lists_of(alloc, row)?;
-    write_vector(alloc, &vector_of(row, &lists), written)
-}
-
-/// The lines of a row, which begins on this line.
-fn lines_of(alloc: Global, row: &Fixture<'_>, line: usize) -> Result<Written> {
-    let mut written = Written::new(alloc);
-    match write_row(alloc, row, &mut written) {
-        Ok(()) => Ok(written),
-        Err(Fault::Text { tree: _, byte }) => {
-            bail!("a text of the row on line {line} cannot be read from byte {byte} on")
-        }
-        Err(Fault::Memory | Fault::Output) => bail!("out of memory"),
+    match collect(&mut workspace, row, vector.crates)? {
+        Some(collected) => write_collected(row, &workspace, &collected, lines),
+        None => Ok(writeln!(lines, "no block")?),
     }
 }
 
-/// Whether lines are those that are wanted, and the last one is ended.
-fn are_wanted(lines: &[u8], wanted: &str) -> bool {
-    match lines {
-        [] => wanted.is_empty(),
-        [before @ .., b'\n'] => !wanted.is_empty() && *before == *wanted.as_bytes(),
-        _ => false,
+/// Writes the lines of a row, whose workspace is its own or has a name.
+fn write_row(alloc: Global, row: &Fixture<'_>, lines: &mut Vec<u8>) -> Result<(), Fault> {
+    let Some(name) = row.vector else {
+        let lists = lists_of(alloc, row)?;
+        return write_vector(alloc, row, &vector_of(row, &lists), lines);
+    };
+    match find(name) {
+        Some(vector) => write_vector(alloc, row, vector, lines),
+        None => Ok(writeln!(lines, "no workspace")?),
+    }
+}
+
+/// Writes the lines of a row. Where a text of it cannot be read, its line says from which byte on.
+fn write_lines(alloc: Global, row: &Fixture<'_>, lines: &mut Vec<u8>) -> Result<(), Fault> {
+    match write_row(alloc, row, lines) {
+        Err(Fault::Text { tree: _, byte }) => Ok(writeln!(lines, "unreadable {byte}")?),
+        written => written,
+    }
+}
+
+/// Writes lines, of which the last one has no end.
+fn write_ended(text: &str, lines: &mut Vec<u8>) -> io::Result<()> {
+    if text.is_empty() {
+        Ok(())
+    } else {
+        writeln!(lines, "{text}")
+    }
+}
+
+/// Writes the lines that a row wants.
+fn write_wanted(row: &Fixture<'_>, lines: &mut Vec<u8>) -> io::Result<()> {
+    write_ended(row.shows, lines)?;
+    match row.records {
+        Some(records) => {
+            writeln!(lines, "recorded:")?;
+            write_ended(records, lines)
+        }
+        None => Ok(()),
     }
 }
 
 /// Writes the name of a row that is wrong, the lines that are wanted, and those that it has.
-fn report<W: io::Write>(
-    name: &str,
-    which: &str,
-    lines: &[u8],
-    wanted: &str,
-    out: &mut W,
-) -> io::Result<()> {
-    writeln!(out, "{name}\nwanted:\n{wanted}\n{which}:")?;
+fn report<W: io::Write>(name: &str, wanted: &[u8], lines: &[u8], out: &mut W) -> io::Result<()> {
+    writeln!(out, "{name}\nwanted:")?;
+    out.write_all(wanted)?;
+    writeln!(out, "shown:")?;
     out.write_all(lines)
 }
 
-/// Answers whether the lines of a row are those that are wanted, and reports it where they are not.
-fn expect<W: io::Write>(
-    name: &str,
-    which: &str,
-    lines: &[u8],
-    wanted: &str,
-    out: &mut W,
-) -> io::Result<bool> {
-    let are_wanted = are_wanted(lines, wanted);
-    if !are_wanted {
-        report(name, which, lines, wanted, out)?;
+/// Answers whether a row has the lines that it wants, and reports it where it has not.
+fn has_wanted<W: io::Write>(alloc: Global, row: &Fixture<'_>, out: &mut W) -> Result<bool, Fault> {
+    let mut lines = Vec::new(alloc);
+    let mut wanted = Vec::new(alloc);
+    write_lines(alloc, row, &mut lines)?;
+    write_wanted(row, &mut wanted)?;
+    let is_right = lines.as_slice() == wanted.as_slice();
+    if !is_right {
+        report(row.name, wanted.as_slice(), lines.as_slice(), out)?;
     }
-    Ok(are_wanted)
+    Ok(is_right)
 }
 
-/// Answers whether the lines of a row are those that it wants.
-fn has_lines<W: io::Write>(row: &Fixture<'_>, written: &Written, out: &mut W) -> io::Result<bool> {
-    let is_shown = expect(row.name, "shown", written.shown.as_slice(), row.shows, out)?;
-    let is_recorded = match row.records {
-        Some(records) => {
-            let recorded = written.recorded.as_slice();
-            expect(row.name, "recorded", recorded, records, out)?
-        }
-        None => true,
-    };
-    Ok(is_shown && is_recorded)
+/// Reports why a row is not read.
+fn report_fault<W: io::Write>(fault: FixtureFault, out: &mut W) -> Result<(), Fault> {
+    match fault {
+        FixtureFault::Memory => Err(Fault::Memory),
+        FixtureFault::Line(line) => Ok(writeln!(out, "line {line} cannot be read")?),
+    }
 }
 
 /// Runs a row, and answers whether it is right.
-fn is_right<W: io::Write>(alloc: Global, part: Part<'_>, out: &mut W) -> Result<bool> {
-    let row = or_why_not(read(alloc, part))?;
-    let written = lines_of(alloc, &row, part.line)?;
-    Ok(has_lines(&row, &written, out)?)
-}
-
-/// Runs the rows of a text, and reports those that are wrong.
-pub fn run_text<W: io::Write>(alloc: Global, text: &str, out: &mut W) -> Result<Counts> {
-    let rows = or_why_not(rows_in(alloc, text))?;
-    let mut wrong: usize = 0;
-    for row in rows.as_slice() {
-        if !is_right(alloc, *row, out)? {
-            wrong = wrong.saturating_add(1);
+fn is_right<W: io::Write>(alloc: Global, part: Part<'_>, out: &mut W) -> Result<bool, Fault> {
+    match read(alloc, part) {
+        Ok(row) => has_wanted(alloc, &row, out),
+        Err(fault) => {
+            report_fault(fault, out)?;
+            Ok(false)
         }
     }
-    Ok(Counts {
-        rows: rows.len(),
-        wrong,
-    })
+}
+
+/// Runs the rows that are left of a text.
+fn run_rows<W: io::Write>(alloc: Global, rows: Part<'_>, out: &mut W) -> Result<Counts, Fault> {
+    let mut left = rows;
+    let mut counts = Counts { rows: 0, wrong: 0 };
+    for _ in 0..rows.text.len() {
+        let Some(row) = left.next_row() else {
+            break;
+        };
+        counts.rows = counts.rows.saturating_add(1);
+        if !is_right(alloc, row, out)? {
+            counts.wrong = counts.wrong.saturating_add(1);
+        }
+    }
+    Ok(counts)
+}
+
+/// Runs the rows of a text, and reports those that are wrong. A text that cannot be cut into rows
+/// counts as one that is wrong.
+pub fn run_text<W: io::Write>(alloc: Global, text: &str, out: &mut W) -> Result<Counts, Fault> {
+    match rows_in(text) {
+        Ok(rows) => run_rows(alloc, rows, out),
+        Err(fault) => {
+            report_fault(fault, out)?;
+            Ok(Counts { rows: 0, wrong: 1 })
+        }
+    }
 }

@@ -4,7 +4,7 @@ use def_ids::{Def, StructId};
 use def_interner::Interner;
 use def_workspace::Collected;
 use item_tree::Name;
-use std::process::Abort;
+use std::alloc::{AllocError, Global};
 use std::test::Fail;
 use uses::oracle::database;
 use uses::reading::{first_left_over, type_at_path, type_in_scope};
@@ -13,45 +13,53 @@ use uses::{blocks, dependencies, two_files};
 /// The one struct of each example.
 const STRUCT: Def = Def::Struct(StructId(0));
 
-/// Asserts that a name means the struct in each of the first modules.
-fn assert_struct(rt: &impl Abort, collected: &Collected, modules: usize, name: Name) {
+/// Whether a name means the struct in each of the first modules.
+fn is_struct(collected: &Collected, modules: usize, name: Name) -> bool {
     for module in 0..modules {
-        let found = type_in_scope(collected, module, name);
-        assert_eq!(rt; found, Some(STRUCT), "in {module}");
+        if type_in_scope(collected, module, name) != Some(STRUCT) {
+            return false;
+        }
     }
+    true
 }
 
-#[test]
-fn the_second_file_is_found(rt: HostRuntime) -> Result<(), Fail> {
-    let alloc = rt.alloc();
+/// Whether the second file of a crate is found.
+fn finds_second_file(alloc: Global) -> Result<bool, AllocError> {
     let mut session = Interner::new(alloc)?;
     let db = database(alloc, &mut session)?;
     let collected = two_files::collect(alloc, &mut session, &db)?;
-    assert_struct(&rt, &collected, 2, session.intern_name("S")?);
-    let path = &["a", "S"];
-    let found = type_at_path(alloc, &mut session, &db, &collected, path)?;
-    assert_eq!(rt; found, Some(STRUCT));
-    assert_eq!(rt; first_left_over(&session, &collected), Some("T"));
-    Ok(())
+    let name = session.intern_name("S")?;
+    let at_path = type_at_path(alloc, &mut session, &db, &collected, &["a", "S"])?;
+    Ok(
+        is_struct(&collected, 2, name)
+            && at_path == Some(STRUCT)
+            && first_left_over(&session, &collected) == Some("T"),
+    )
 }
 
-#[test]
-fn a_crate_takes_names_of_another(rt: HostRuntime) -> Result<(), Fail> {
-    let alloc = rt.alloc();
+/// Whether a crate takes a name of another one.
+fn takes_of_another(alloc: Global) -> Result<bool, AllocError> {
     let mut session = Interner::new(alloc)?;
     let collected = dependencies::collect(alloc, &mut session)?;
-    assert_struct(&rt, &collected, 1, session.intern_name("S")?);
-    assert!(rt; collected.outcome.imports.is_empty());
-    Ok(())
+    let name = session.intern_name("S")?;
+    Ok(is_struct(&collected, 1, name) && collected.outcome.imports.is_empty())
+}
+
+/// Whether a block sees the names around it.
+fn sees_around(alloc: Global) -> Result<bool, AllocError> {
+    let mut session = Interner::new(alloc)?;
+    let Some(collected) = blocks::collect(alloc, &mut session)? else {
+        return Ok(false);
+    };
+    let name = session.intern_name("T")?;
+    Ok(is_struct(&collected, 1, name))
 }
 
 #[test]
-fn a_block_sees_the_names_around_it(rt: HostRuntime) -> Result<(), Fail> {
+fn examples_find_what_they_name(rt: HostRuntime) -> Result<(), Fail> {
     let alloc = rt.alloc();
-    let mut session = Interner::new(alloc)?;
-    let Some(collected) = blocks::collect(alloc, &mut session)? else {
-        panic!(rt; "the block does not fit");
-    };
-    assert_struct(&rt, &collected, 1, session.intern_name("T")?);
+    assert!(rt; finds_second_file(alloc)?);
+    assert!(rt; takes_of_another(alloc)?);
+    assert!(rt; sees_around(alloc)?);
     Ok(())
 }

@@ -7,20 +7,6 @@ use def_workspace::{ALONE, CALL, CallText, Collected, Fault, Workspace};
 use item_tree::{FileId, HirFileId, MacroCallId, TreeId};
 use std::alloc::{AllocError, Global};
 
-/// How a run ended: whether it met the limit, how many calls the root records, and how many macros
-/// are left over.
-type End = (bool, Option<usize>, usize);
-
-fn end_of(collected: &Collected) -> End {
-    let outcome = &collected.outcome;
-    let root = collected.def_map.scope(0);
-    (
-        outcome.limit_met,
-        root.map(|scope| scope.invocations().len()),
-        outcome.macros.len(),
-    )
-}
-
 /// How many calls stand side by side.
 const SIDE_BY_SIDE: usize = 8300;
 
@@ -33,14 +19,14 @@ fn many_calls(alloc: Global) -> Result<String, AllocError> {
     Ok(text)
 }
 
-/// How a run over many calls ends, each of which gives nothing.
-fn end_of_many(alloc: Global) -> Result<End, Fault> {
-    let mut workspace = Workspace::new(alloc, &ALONE)?;
+/// Adds the file of many calls, each of which gives nothing.
+fn add_many(workspace: &mut Workspace) -> Result<(), Fault> {
     let file = TreeId {
         file: HirFileId::File(FileId(0)),
         block: None,
     };
-    workspace.add_text(file, many_calls(alloc)?.as_str())?;
+    let text = many_calls(workspace.alloc)?;
+    workspace.add_text(file, text.as_str())?;
     for number in 0..SIDE_BY_SIDE {
         let call = CallText {
             ast_id: number + 1,
@@ -49,13 +35,32 @@ fn end_of_many(alloc: Global) -> Result<End, Fault> {
         };
         workspace.add_call(MacroCallId(number), &call)?;
     }
-    Ok(end_of(&workspace.collect(&ALONE.crates[0])?))
+    Ok(())
+}
+
+/// What is collected of a crate in a file of many calls.
+fn collect_many(alloc: Global) -> Result<Collected, Fault> {
+    let mut workspace = Workspace::new(alloc, &ALONE)?;
+    add_many(&mut workspace)?;
+    Ok(workspace.collect(&ALONE.crates[0])?)
+}
+
+/// Whether a run ended without meeting the limit, with no macro left over, and so many calls are
+/// recorded in the root.
+fn ended_with(collected: &Collected, calls: usize) -> bool {
+    match collected.def_map.scope(0) {
+        Some(root) => {
+            root.invocations().len() == calls
+                && collected.outcome.macros.is_empty()
+                && !collected.outcome.limit_met
+        }
+        None => false,
+    }
 }
 
 /// All leave in one round, so the limit is not met.
 #[test]
 fn calls_that_stand_side_by_side_are_one_round(rt: HostRuntime) -> Result<(), Fault> {
-    let want = (false, Some(SIDE_BY_SIDE), 0);
-    assert_eq!(rt; end_of_many(rt.alloc())?, want);
+    assert!(rt; ended_with(&collect_many(rt.alloc())?, SIDE_BY_SIDE));
     Ok(())
 }

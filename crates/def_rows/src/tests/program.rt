@@ -59,59 +59,66 @@ static RUNS: [(&[&str], u8, &str, &str); 12] = [
     (&["show", "plain", "empty"], 2, "", USAGE),
 ];
 
+/// Whether a run over words ends with this status, and writes and says these texts.
+fn ends_with(words: &[&str], status: u8, out: &str, err: &str, alloc: Global) -> bool {
+    let mut written: Vec<u8> = Vec::new(alloc);
+    let mut said: Vec<u8> = Vec::new(alloc);
+    run(alloc, words, &mut written, &mut said) == status
+        && written.as_slice() == out.as_bytes()
+        && said.as_slice() == err.as_bytes()
+}
+
 #[test]
 fn shows_what_there_is_and_says_what_words_there_are(rt: HostRuntime) {
-    let alloc = rt.alloc();
     for (words, status, out, err) in &RUNS {
-        let mut written: Vec<u8> = Vec::new(alloc);
-        let mut said: Vec<u8> = Vec::new(alloc);
-        assert_eq!(rt; run(alloc, words, &mut written, &mut said), *status);
-        assert_eq!(rt; written.as_slice(), out.as_bytes());
-        assert_eq!(rt; said.as_slice(), err.as_bytes());
+        assert!(rt; ends_with(words, *status, out, err, rt.alloc()));
     }
 }
 
-/// The status of a run with so much room for each of the two texts.
-fn narrow_status(alloc: Global, words: &[&str], out: usize, err: usize) -> u8 {
-    run(
-        alloc,
-        words,
-        &mut Narrow { room: out },
-        &mut Narrow { room: err },
-    )
+/// Whether a run with so much room for its text ends by itself, and says nothing.
+fn is_refused(alloc: Global, room: usize) -> bool {
+    let mut said: Vec<u8> = Vec::new(alloc);
+    run(alloc, &["show", "plain"], &mut Narrow { room }, &mut said) == 1 && said.is_empty()
 }
 
 #[test]
 fn a_refused_write_ends_a_run(rt: HostRuntime) {
-    let alloc = rt.alloc();
-    let mut said: Vec<u8> = Vec::new(alloc);
     for room in 0..PLAIN.len() {
-        let mut out = Narrow { room };
-        assert_eq!(rt; run(alloc, &["show", "plain"], &mut out, &mut said), 1);
+        assert!(rt; is_refused(rt.alloc(), room));
     }
-    assert_eq!(rt; said.len(), 0);
+}
+
+/// Words, the room for the text of a run over them, and its status where it can say nothing.
+static NARROW: [(&[&str], usize, u8); 4] = [
+    (&["show", "plain"], PLAIN.len(), 0),
+    (&["list"], 62, 1),
+    (&["show", "nothing"], 0, 2),
+    (&[], 0, 2),
+];
+
+/// The status of a run with so much room for its text, and none for what it says.
+fn narrow_status(alloc: Global, words: &[&str], room: usize) -> u8 {
+    run(alloc, words, &mut Narrow { room }, &mut Narrow { room: 0 })
 }
 
 #[test]
 fn only_a_refused_write_to_the_output_changes_the_status(rt: HostRuntime) {
-    let rows: [(&[&str], usize, u8); 4] = [
-        (&["show", "plain"], PLAIN.len(), 0),
-        (&["list"], 62, 1),
-        (&["show", "nothing"], 0, 2),
-        (&[], 0, 2),
-    ];
-    for (words, room, status) in rows {
-        assert_eq!(rt; narrow_status(rt.alloc(), words, room, 0), status);
+    for (words, room, status) in &NARROW {
+        assert!(rt; narrow_status(rt.alloc(), words, *room) == *status);
     }
+}
+
+/// Whether a run over words that are no text writes nothing, and says which words there are.
+fn asks_for_nothing(alloc: Global) -> bool {
+    let mut written: Vec<u8> = Vec::new(alloc);
+    let mut said: Vec<u8> = Vec::new(alloc);
+    let args = Err(io::Error::from(io::ErrorKind::InvalidData));
+    run_args(alloc, args, &mut written, &mut said) == 2
+        && written.is_empty()
+        && said.as_slice() == USAGE.as_bytes()
 }
 
 #[test]
 fn words_that_are_no_text_ask_for_nothing(rt: HostRuntime) {
-    let alloc = rt.alloc();
-    let mut written: Vec<u8> = Vec::new(alloc);
-    let mut said: Vec<u8> = Vec::new(alloc);
-    let args = Err(io::Error::from(io::ErrorKind::InvalidData));
-    assert_eq!(rt; run_args(alloc, args, &mut written, &mut said), 2);
-    assert_eq!(rt; written.len(), 0);
-    assert_eq!(rt; said.as_slice(), USAGE.as_bytes());
+    assert!(rt; asks_for_nothing(rt.alloc()));
 }

@@ -1,12 +1,11 @@
-//! How rows are read: lines that few rows have, and texts that are no rows.
+//! How rows are read: lines that few rows have.
 #![tactic(auto)]
 
 use def_ids::{Edition, MacroId, ProcMacroId};
 use def_workspace::{CallText, CalledBy, DependencyText};
-use fixtures::{Fixture, FixtureFault, read, rows_in};
+use fixtures::{Fixture, read, rows_in};
 use item_tree::{HirFileId, MacroCallId};
 use std::alloc::Global;
-use std::process::Abort;
 
 /// A row of which each line says what few rows say.
 const RARE: &str = "# A comment.
@@ -28,14 +27,6 @@ module 0 - crate
 
 # The last one.
 ";
-
-/// The row of a text that has one, or the line that cannot be read.
-fn row_of(alloc: Global, text: &str) -> Result<Option<Fixture<'_>>, FixtureFault> {
-    match rows_in(alloc, text)?.first() {
-        Some(row) => Ok(Some(read(alloc, *row)?)),
-        None => Ok(None),
-    }
-}
 
 /// Whether a call is as the row says.
 fn is_rare_call(call: &CallText<'_>) -> bool {
@@ -81,49 +72,31 @@ fn has_rare_derives(row: &Fixture<'_>) -> bool {
     }
 }
 
-#[test]
-fn rare_lines_are_read(rt: HostRuntime) {
-    match row_of(rt.alloc(), RARE) {
-        Ok(Some(row)) => {
-            assert!(rt; has_rare_crates(&row));
-            assert!(rt; has_rare_derives(&row));
-            assert!(rt; row.derive_fast_path);
-            assert!(rt; row.calls.iter().all(is_rare_call));
-            assert_eq!(rt; row.records, Some("calls 0 1"));
-            assert_eq!(rt; row.shows, "module 0 - crate");
-        }
-        _ => panic!(rt; "no row"),
+/// Whether a row is as its lines say.
+fn is_rare(row: &Fixture<'_>) -> bool {
+    row.derive_fast_path
+        && row.records == Some("calls 0 1")
+        && row.shows == "module 0 - crate"
+        && row.calls.iter().all(is_rare_call)
+        && has_rare_crates(row)
+        && has_rare_derives(row)
+}
+
+/// Whether the first row of a text is as its lines say.
+fn has_rare_row(alloc: Global, text: &str) -> bool {
+    let Ok(mut rows) = rows_in(text) else {
+        return false;
+    };
+    let Some(row) = rows.next_row() else {
+        return false;
+    };
+    match read(alloc, row) {
+        Ok(row) => is_rare(&row),
+        Err(_) => false,
     }
 }
 
-/// Texts, and the line of each that cannot be read.
-static UNREADABLE: [(&str, usize); 12] = [
-    ("module 0 - crate\n", 1),
-    ("#\n\n== no sections", 3),
-    ("#\n\n== no lines\n-- file\nmod m {}\n", 4),
-    ("#\n\n== a crate\ncrate 0\n-- shows\n", 4),
-    (
-        "#\n\n== an edition\ncrate 0 root 0 edition 2019\n-- shows\n",
-        4,
-    ),
-    ("#\n\n== a dependency\n#\ndep d crate 1\n-- shows\n", 5),
-    ("#\n\n== a section\n-- file\n\n-- trait\n-- shows\n", 6),
-    ("#\n\n== a place\n-- call at 0\n-- shows\n", 4),
-    ("#\n\n== a macro\n-- call of m:0\n-- shows\n", 4),
-    ("#\n\n== a chain\n-- last\n-- shows\n", 4),
-    ("#\n\n== a number\ntype u8 4294967296\n-- shows\n", 4),
-    (
-        "#\n\n== an end\n-- shows\nmodule 0 - crate\n\nlimit met\n",
-        7,
-    ),
-];
-
 #[test]
-fn what_is_no_row_is_a_fault(rt: HostRuntime) {
-    for (text, want) in &UNREADABLE {
-        match row_of(rt.alloc(), text) {
-            Err(FixtureFault::Line(line)) => assert_eq!(rt; line, *want, "{text}"),
-            _ => panic!(rt; "{text}"),
-        }
-    }
+fn rare_lines_are_read(rt: HostRuntime) {
+    assert!(rt; has_rare_row(rt.alloc(), RARE));
 }

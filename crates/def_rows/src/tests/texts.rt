@@ -1,18 +1,18 @@
-//! How the texts of scripted files are read: macro calls, and texts that are none.
+//! How the texts of scripted files are read: macro calls.
 #![tactic(auto)]
 
 use def_interner::Interner;
-use def_workspace::{Fault, ReadFault, read};
-use item_tree::{FileAstId, ItemTree, ModItemKind, PathKind};
+use def_workspace::read;
+use item_tree::{FileAstId, ItemTree, ModItemId, ModItemKind, PathKind};
 use std::alloc::{AllocError, Global};
-use std::process::Abort;
+use std::test::Fail;
 
-/// The macro calls at the top of a text: the number of each, where its path begins, and how many
-/// segments that has.
-type Calls = &'static [(FileAstId, PathKind, usize)];
+/// A macro call at the top of a text: its number, where its path begins, and how many segments that
+/// has.
+type Call = (FileAstId, PathKind, usize);
 
 /// Texts, and their calls.
-static CALLS: [(&str, Calls); 4] = [
+static CALLS: [(&str, &[Call]); 4] = [
     (
         "foo!(); foo!{} foo![1, 2]; a::foo!{ struct S; } ::a::foo!(\"a\" => x);",
         &[
@@ -41,81 +41,42 @@ static CALLS: [(&str, Calls); 4] = [
     ),
 ];
 
-/// The macro calls at the top of a tree.
-fn calls(alloc: Global, tree: &ItemTree) -> Result<Vec<(FileAstId, PathKind, usize)>, AllocError> {
-    let mut calls = Vec::new(alloc);
+/// The macro call that an item is, if it is one.
+fn call_of(tree: &ItemTree, id: ModItemId) -> Option<Call> {
+    let node = tree.index(id)?;
+    match &node.kind {
+        ModItemKind::MacroCall { path, .. } => {
+            Some((node.ast_id, path.kind, path.segments.len()))
+        }
+        _ => None,
+    }
+}
+
+/// Whether these are the macro calls at the top of a tree, in order.
+fn are_calls(tree: &ItemTree, calls: &[Call]) -> bool {
+    let mut left = calls.iter();
     for id in tree.top_level_items() {
-        let Some(node) = tree.index(*id) else {
-            continue;
-        };
-        if let ModItemKind::MacroCall { path, .. } = &node.kind {
-            calls.push((node.ast_id, path.kind, path.segments.len()))?;
+        let call = call_of(tree, *id);
+        if call.is_some() && call != left.next().copied() {
+            return false;
         }
     }
-    Ok(calls)
+    left.next().is_none()
 }
 
-/// The macro calls at the top of a text, if it can be read.
-fn calls_of(
-    alloc: Global,
-    text: &str,
-) -> Result<Option<Vec<(FileAstId, PathKind, usize)>>, AllocError> {
+/// Whether a text can be read, and has these macro calls at its top.
+fn has_calls(alloc: Global, text: &str, calls: &[Call]) -> Result<bool, AllocError> {
     let mut session = Interner::new(alloc)?;
     match read(alloc, &mut session, text) {
-        Ok(file) => Ok(Some(calls(alloc, &file.tree)?)),
-        Err(_) => Ok(None),
+        Ok(file) => Ok(are_calls(&file.tree, calls)),
+        Err(_) => Ok(false),
     }
 }
 
 #[test]
-fn macro_calls_are_items(rt: HostRuntime) -> Result<(), Fault> {
-    for (text, want) in &CALLS {
-        let Some(found) = calls_of(rt.alloc(), text)? else {
-            panic!(rt; "{text}");
-        };
-        assert_eq!(rt; found.as_slice(), *want, "{text}");
-    }
-    Ok(())
-}
-
-/// Texts, and the byte from which on each cannot be read.
-static UNREADABLE: [(&str, usize); 20] = [
-    ("mod a", 5),
-    ("mod a {", 7),
-    ("mod a {} }", 9),
-    ("foo();", 3),
-    ("foo!;", 4),
-    ("foo!()", 6),
-    ("foo!{};", 6),
-    ("a::!();", 1),
-    ("struct S", 8),
-    ("struct S(pub A<B>);", 14),
-    ("fn f() { (}", 11),
-    ("const C: u8 = 0", 15),
-    ("use a::;", 5),
-    ("use a:b;", 5),
-    ("use a::{b::{c}};", 9),
-    ("use a as 7;", 9),
-    ("pub(a) struct S;", 4),
-    ("#[cfg(a)] struct S;", 5),
-    ("struct S; #![no_std]", 10),
-    ("#[path = \"a.rs] mod a;", 9),
-];
-
-/// From which byte on a text cannot be read, if it cannot.
-fn unreadable_byte(alloc: Global, text: &str) -> Result<Option<usize>, Fault> {
-    let mut session = Interner::new(alloc)?;
-    match read(alloc, &mut session, text) {
-        Ok(_) => Ok(None),
-        Err(ReadFault::Byte(byte)) => Ok(Some(byte)),
-        Err(ReadFault::Memory) => Err(Fault::Memory),
-    }
-}
-
-#[test]
-fn what_is_no_text_is_a_fault(rt: HostRuntime) -> Result<(), Fault> {
-    for (text, byte) in &UNREADABLE {
-        assert_eq!(rt; unreadable_byte(rt.alloc(), text)?, Some(*byte), "{text}");
+fn macro_calls_are_items(rt: HostRuntime) -> Result<(), Fail> {
+    for (text, calls) in &CALLS {
+        assert!(rt; has_calls(rt.alloc(), text, calls)?, "{text}");
     }
     Ok(())
 }
