@@ -4,7 +4,6 @@ use def_database::Database;
 use def_parts::ModDir;
 use item_tree::{FileId, HirFileId};
 use std::alloc::{AllocError, Global};
-use std::process::Abort;
 use std::test::Fail;
 
 /// The file in which the modules are declared.
@@ -86,15 +85,10 @@ fn resolve(
 }
 
 /// The directory of a module of the root that has a file at a path, and is not found as a `mod.rs`.
-fn found(
-    rt: &impl Abort,
-    alloc: Global,
-    path: &str,
-    declared: Declared,
-) -> Result<ModDir, AllocError> {
+fn found(alloc: Global, path: &str, declared: Declared) -> Result<Option<ModDir>, AllocError> {
     match resolve(&ModDir::root(alloc), Some(path), declared)? {
-        Ok((FOUND, false, dir)) => Ok(dir),
-        _ => panic!(rt; "{path} is not found"),
+        Ok((FOUND, false, dir)) => Ok(Some(dir)),
+        _ => Ok(None),
     }
 }
 
@@ -110,73 +104,81 @@ fn are_paths(files: &[String], paths: &[&str]) -> bool {
     files.next().is_none()
 }
 
-/// Whether files with these paths are looked for where there is none.
-fn are_sought(dir: &ModDir, declared: Declared, paths: &[&str]) -> Result<bool, AllocError> {
-    match resolve(dir, None, declared)? {
+/// Whether the files of a row are looked for where there is none.
+fn are_sought(dir: &ModDir, row: &Row) -> Result<bool, AllocError> {
+    match resolve(dir, None, row.declared)? {
         Ok(_) => Ok(false),
-        Err(files) => Ok(are_paths(files.as_slice(), paths)),
+        Err(files) => Ok(are_paths(files.as_slice(), row.sought)),
     }
 }
 
-/// Asserts where a directory is, and which files are looked for in it.
-fn assert_sought(rt: &impl Abort, dir: &ModDir, row: &Row) -> Result<(), AllocError> {
+/// Whether this is the directory of a row.
+fn is_there(dir: &ModDir, row: &Row) -> bool {
     let (path, depth, is_relative_above) = row.directory;
-    let is_there = dir.dir_path().as_str() == path
+    dir.dir_path().as_str() == path
         && dir.depth() == depth
-        && dir.root_non_dir_owner() == is_relative_above;
-    assert!(rt; is_there, "{}: {dir:?}", row.rule);
-    assert!(rt; are_sought(dir, row.declared, row.sought)?, "{}", row.rule);
-    Ok(())
+        && dir.root_non_dir_owner() == is_relative_above
 }
 
-/// The directory of an inline module.
-fn descend(rt: &impl Abort, dir: &ModDir, name: &str) -> Result<ModDir, AllocError> {
-    match dir.descend_into_definition(name, None)? {
-        Some(below) => Ok(below),
-        None => panic!(rt; "too deep below {dir:?}"),
-    }
-}
-
-/// The directory of inline modules, one in the other.
-fn inside(rt: &impl Abort, dir: ModDir, names: &[&str]) -> Result<ModDir, AllocError> {
+/// The directory of inline modules, one in the other, unless that is too deep.
+fn inside(dir: ModDir, names: &[&str]) -> Result<Option<ModDir>, AllocError> {
     let mut dir = dir;
     for name in names {
-        dir = descend(rt, &dir, name)?;
+        match dir.descend_into_definition(name, None)? {
+            Some(below) => dir = below,
+            None => return Ok(None),
+        }
     }
-    Ok(dir)
+    Ok(Some(dir))
+}
+
+/// The directory in which the inline modules of a row lie.
+fn outside(alloc: Global, row: &Row) -> Result<Option<ModDir>, AllocError> {
+    match row.file {
+        Some((path, declared)) => found(alloc, path, declared),
+        None => Ok(Some(ModDir::root(alloc))),
+    }
 }
 
 /// The directory of the inline modules of a row.
-fn directory(rt: &impl Abort, alloc: Global, row: &Row) -> Result<ModDir, AllocError> {
-    let dir = match row.file {
-        Some((path, declared)) => found(rt, alloc, path, declared)?,
-        None => ModDir::root(alloc),
-    };
-    inside(rt, dir, row.inside)
+fn directory(alloc: Global, row: &Row) -> Result<Option<ModDir>, AllocError> {
+    match outside(alloc, row)? {
+        Some(dir) => inside(dir, row.inside),
+        None => Ok(None),
+    }
 }
 
-/// Looks at a row.
-fn look_at(rt: &impl Abort, alloc: Global, row: &Row) -> Result<(), AllocError> {
-    let dir = directory(rt, alloc, row)?;
-    assert_sought(rt, &dir, row)
+/// Whether a row holds.
+fn holds(alloc: Global, row: &Row) -> Result<bool, AllocError> {
+    match directory(alloc, row)? {
+        Some(dir) => Ok(is_there(&dir, row) && are_sought(&dir, row)?),
+        None => Ok(false),
+    }
 }
 
 #[test]
 fn files_are_looked_for_in_directories(rt: HostRuntime) -> Result<(), Fail> {
     for row in &ROWS {
-        look_at(&rt, rt.alloc(), row)?;
+        assert!(rt; holds(rt.alloc(), row)?, "{}", row.rule);
     }
     Ok(())
 }
 
-/// Whether a directory lies in so many modules, and no inline module in it has one.
-fn is_deepest(dir: &ModDir, depth: u32) -> Result<bool, AllocError> {
-    Ok(dir.depth() == depth && dir.descend_into_definition("foo", None)?.is_none())
+/// How many inline modules the directory of so many lies in, unless that is too deep.
+fn depth_of(alloc: Global, names: &[&str]) -> Result<Option<u32>, AllocError> {
+    match inside(ModDir::root(alloc), names)? {
+        Some(dir) => Ok(Some(dir.depth())),
+        None => Ok(None),
+    }
 }
+
+/// Inline modules, and how many of them their directory lies in, unless that is too deep.
+static LIMITS: [(&[&str], Option<u32>); 2] = [(&["foo"; 32], Some(32)), (&["foo"; 33], None)];
 
 #[test]
 fn inline_modules_descend_to_a_limit(rt: HostRuntime) -> Result<(), Fail> {
-    let dir = inside(&rt, ModDir::root(rt.alloc()), &["foo"; 32])?;
-    assert!(rt; is_deepest(&dir, 32)?);
+    for (names, depth) in &LIMITS {
+        assert!(rt; depth_of(rt.alloc(), names)? == *depth);
+    }
     Ok(())
 }

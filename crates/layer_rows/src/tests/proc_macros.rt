@@ -21,14 +21,6 @@ static ROWS: [(&str, Option<(Name, &[Name])>); 3] = [
     ("t,", None),
 ];
 
-/// What arguments declare.
-fn read(alloc: Global, text: &str) -> Result<Option<(Name, Vec<Name>)>, AllocError> {
-    match trees_of(alloc, text)? {
-        Some(tokens) => parse_macro_name_and_helper_attrs(alloc, &tokens),
-        None => Ok(None),
-    }
-}
-
 /// Whether this is declared.
 fn is_read_as(found: &Option<(Name, Vec<Name>)>, want: &Option<(Name, &[Name])>) -> bool {
     match (found, want) {
@@ -40,10 +32,18 @@ fn is_read_as(found: &Option<(Name, Vec<Name>)>, want: &Option<(Name, &[Name])>)
     }
 }
 
+/// Whether arguments declare this.
+fn declare(alloc: Global, text: &str, want: &Option<(Name, &[Name])>) -> Result<bool, AllocError> {
+    match trees_of(alloc, text)? {
+        Some(tokens) => Ok(is_read_as(&parse_macro_name_and_helper_attrs(alloc, &tokens)?, want)),
+        None => Ok(false),
+    }
+}
+
 #[test]
 fn derive_arguments_are_read(rt: HostRuntime) -> Result<(), Fail> {
     for (text, want) in &ROWS {
-        assert!(rt; is_read_as(&read(rt.alloc(), text)?, want), "{text}");
+        assert!(rt; declare(rt.alloc(), text, want)?, "{text}");
     }
     Ok(())
 }

@@ -1,7 +1,7 @@
 //! Token trees: lists in lists, a tree that is deeper than a stack, and what is no tree.
 
 use item_tree::sym::ATTRIBUTES;
-use item_tree::{Leaf, Name, TopSubtree, TopSubtreeBuilder, TtIter};
+use item_tree::{Leaf, Name, TopSubtree, TopSubtreeBuilder, TtElement, TtIter};
 use std::alloc::{AllocError, Global};
 use std::test::Fail;
 
@@ -53,17 +53,9 @@ fn refused_in(alloc: Global, text: &str) -> Result<usize, AllocError> {
     add_all(&mut TopSubtreeBuilder::new(alloc), text)
 }
 
-/// The elements of a tree.
-fn elements(tree: &Option<TopSubtree>) -> Option<TtIter<'_>> {
-    match tree {
-        Some(tree) => Some(tree.iter()),
-        None => None,
-    }
-}
-
 /// What stands in the element at a place, if that is a list.
-fn inside(trees: Option<TtIter<'_>>, place: usize) -> Option<TtIter<'_>> {
-    let mut trees = trees?;
+fn inside(trees: TtIter<'_>, place: usize) -> Option<TtIter<'_>> {
+    let mut trees = trees;
     for _ in 0..place {
         let _ = trees.next();
     }
@@ -71,12 +63,20 @@ fn inside(trees: Option<TtIter<'_>>, place: usize) -> Option<TtIter<'_>> {
 }
 
 /// What stands so many lists deep, each of which is the element at this place.
-fn level(tree: &Option<TopSubtree>, place: usize, depth: usize) -> Option<TtIter<'_>> {
-    let mut level = elements(tree);
+fn level(tree: &TopSubtree, place: usize, depth: usize) -> Option<TtIter<'_>> {
+    let mut level = tree.iter();
     for _ in 0..depth {
-        level = inside(level, place);
+        level = inside(level, place)?;
     }
-    level
+    Some(level)
+}
+
+/// Whether an element is the identifier of this letter, or another element where that is a star.
+fn is_name(element: Option<TtElement<'_>>, letter: char) -> bool {
+    match element {
+        Some(element) => element.ident().unwrap_or(STAR) == name_of(letter),
+        None => false,
+    }
 }
 
 /// Whether elements are the identifiers of these letters, and other elements where a star is.
@@ -85,10 +85,7 @@ fn are_names(trees: Option<TtIter<'_>>, letters: &str) -> bool {
         return false;
     };
     for letter in letters.chars() {
-        let Some(element) = trees.next() else {
-            return false;
-        };
-        if element.ident().unwrap_or(STAR) != name_of(letter) {
+        if !is_name(trees.next(), letter) {
             return false;
         }
     }
@@ -104,19 +101,23 @@ static TEXTS: [(&str, usize, &[&str]); 3] = [
     ("(()", 0, &[]),
 ];
 
-/// Whether there is a tree with these names, or none where there are none.
-fn has_levels(tree: &Option<TopSubtree>, names: &[&str]) -> bool {
+/// Whether a tree has these names.
+fn has_levels(tree: &TopSubtree, names: &[&str]) -> bool {
     for (depth, letters) in names.iter().enumerate() {
         if !are_names(level(tree, 1, depth), letters) {
             return false;
         }
     }
-    tree.is_some() != names.is_empty()
+    !names.is_empty()
 }
 
 /// Whether a text closes a list so often where none is open, and has these names.
 fn is_read(alloc: Global, text: &str, refused: usize, names: &[&str]) -> Result<bool, AllocError> {
-    Ok(refused_in(alloc, text)? == refused && has_levels(&trees_of(alloc, text)?, names))
+    let is_right = match trees_of(alloc, text)? {
+        Some(tree) => has_levels(&tree, names),
+        None => names.is_empty(),
+    };
+    Ok(is_right && refused_in(alloc, text)? == refused)
 }
 
 #[test]
@@ -143,26 +144,29 @@ fn nested(alloc: Global, depth: usize, letter: char) -> Result<Option<TopSubtree
 /// Whether a tree is this identifier in so many lists.
 fn is_nested(
     alloc: Global,
-    tree: &Option<TopSubtree>,
+    tree: &TopSubtree,
     depth: usize,
     letter: char,
 ) -> Result<bool, AllocError> {
-    Ok(*tree == nested(alloc, depth, letter)?)
+    match nested(alloc, depth, letter)? {
+        Some(other) => Ok(*tree == other),
+        None => Ok(false),
+    }
 }
 
 /// Whether a copy of a tree is equal to it.
-fn is_copied(tree: &Option<TopSubtree>) -> Result<bool, AllocError> {
+fn is_copied(tree: &TopSubtree) -> Result<bool, AllocError> {
     Ok(tree.clone()? == *tree)
 }
 
 /// How long a tree is when it is shown.
-fn shown_len(alloc: Global, tree: &Option<TopSubtree>) -> Result<usize, AllocError> {
+fn shown_len(alloc: Global, tree: &TopSubtree) -> Result<usize, AllocError> {
     let shown = format!(in alloc; "{tree:?}")?;
     Ok(shown.len())
 }
 
 /// Whether a tree is the identifier a in so many lists, and is copied, compared and shown as one.
-fn is_deep(alloc: Global, tree: &Option<TopSubtree>, depth: usize) -> Result<bool, AllocError> {
+fn is_deep(alloc: Global, tree: &TopSubtree, depth: usize) -> Result<bool, AllocError> {
     Ok(
         are_names(level(tree, 0, depth), "a")
             && is_copied(tree)?
@@ -172,9 +176,16 @@ fn is_deep(alloc: Global, tree: &Option<TopSubtree>, depth: usize) -> Result<boo
     )
 }
 
+/// Whether the identifier a in so many lists is a tree, and is such a one.
+fn is_tree(alloc: Global, depth: usize) -> Result<bool, AllocError> {
+    match nested(alloc, depth, 'a')? {
+        Some(tree) => is_deep(alloc, &tree, depth),
+        None => Ok(false),
+    }
+}
+
 #[test]
 fn a_deep_tree_needs_no_stack(rt: HostRuntime) -> Result<(), Fail> {
-    let tree = nested(rt.alloc(), DEPTH, 'a')?;
-    assert!(rt; is_deep(rt.alloc(), &tree, DEPTH)?);
+    assert!(rt; is_tree(rt.alloc(), DEPTH)?);
     Ok(())
 }

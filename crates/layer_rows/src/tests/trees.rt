@@ -37,32 +37,61 @@ fn no_attrs(alloc: Global) -> AttrsOrCfg {
     })
 }
 
-/// The fault of a tree of modules with these children, if it has one.
-fn fault(
-    alloc: Global,
-    children: &[&[usize]],
-    top: &[usize],
-) -> Result<Option<TreeFault>, AllocError> {
+/// Modules with these children.
+fn modules(alloc: Global, children: &[&[usize]]) -> Result<Vec<ItemNode>, AllocError> {
     let mut items = Vec::new(alloc);
-    for list in children {
-        items.push(module(alloc, items.len(), list)?)?;
+    for (number, list) in children.iter().enumerate() {
+        items.push(module(alloc, number, list)?)?;
     }
-    Ok(ItemTree::new(items, ids(alloc, top)?, no_attrs(alloc)).err())
+    Ok(items)
 }
 
 /// The children of each module, the modules at the top, and the first fault of their tree.
-static FAULTS: [(&[&[usize]], &[usize], Option<TreeFault>); 5] = [
-    (&[&[5]], &[0], Some(TreeFault::ChildOutOfRange(0))),
-    (&[&[0]], &[0], Some(TreeFault::ChildNotAfterParent(0))),
-    (&[&[2], &[2], &[]], &[0, 1], Some(TreeFault::TwoParents(2))),
-    (&[&[]], &[1], Some(TreeFault::ChildOutOfRange(1))),
-    (&[&[1, 2], &[], &[]], &[0], None),
+struct Row {
+    children: &'static [&'static [usize]],
+    top: &'static [usize],
+    fault: Option<TreeFault>,
+}
+
+static ROWS: [Row; 5] = [
+    Row {
+        children: &[&[5]],
+        top: &[0],
+        fault: Some(TreeFault::ChildOutOfRange(0)),
+    },
+    Row {
+        children: &[&[0]],
+        top: &[0],
+        fault: Some(TreeFault::ChildNotAfterParent(0)),
+    },
+    Row {
+        children: &[&[2], &[2], &[]],
+        top: &[0, 1],
+        fault: Some(TreeFault::TwoParents(2)),
+    },
+    Row {
+        children: &[&[]],
+        top: &[1],
+        fault: Some(TreeFault::ChildOutOfRange(1)),
+    },
+    Row {
+        children: &[&[1, 2], &[], &[]],
+        top: &[0],
+        fault: None,
+    },
 ];
+
+/// Whether the tree of a row has its fault.
+fn holds(alloc: Global, row: &Row) -> Result<bool, AllocError> {
+    let items = modules(alloc, row.children)?;
+    let top = ids(alloc, row.top)?;
+    Ok(ItemTree::new(items, top, no_attrs(alloc)).err() == row.fault)
+}
 
 #[test]
 fn the_first_fault_is_named(rt: HostRuntime) -> Result<(), Fail> {
-    for (children, top, want) in &FAULTS {
-        assert_eq!(rt; fault(rt.alloc(), children, top)?, *want);
+    for row in &ROWS {
+        assert!(rt; holds(rt.alloc(), row)?);
     }
     Ok(())
 }

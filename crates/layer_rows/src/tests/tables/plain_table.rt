@@ -5,7 +5,7 @@ ghost use Rattle.std.specs.Prelude.{◌≡◌, OnErr, OnOk};
 ghost use Rattle.def_bindings.specs.Content.{with_binding, with_edge, with_unnamed};
 ghost use Rattle.scope_table.specs.ScopeTable.{content_of};
 
-use def_bindings::{Binding, BindingTable, EdgeTo, Namespace};
+use def_bindings::{Binding, BindingTable, EdgeTo, Namespace, Visibility};
 use def_ids::{ModuleId, TraitId};
 use item_tree::Name;
 use scope_table::ScopeTable;
@@ -14,7 +14,7 @@ use std::alloc::AllocError;
 /// A table whose `bindings`, `unnamed_vis` and `edge_to` are those that every table has.
 #[derive(Drop)]
 pub struct PlainTable {
-    pub table: ScopeTable<usize>,
+    pub table: ScopeTable<Visibility>,
 }
 
 impl BindingTable for PlainTable {
@@ -22,13 +22,13 @@ impl BindingTable for PlainTable {
     ghost use Rattle.scope_table.specs.ScopeTable.{content_of};
     ghost use Rattle.scope_table.specs.ScopeTableLaws.{are_sources, are_tied};
 
-    type Vis = usize;
+    type Vis = Visibility;
 
     ghost content = { λ t. content_of t.table };
 
     ghost sources = { λ t. keys t.table.rows };
 
-    fn binding(&self, module: ModuleId, name: Name, ns: Namespace) -> Option<Binding<usize>> {
+    fn binding(&self, module: ModuleId, name: Name, ns: Namespace) -> Option<Binding<Visibility>> {
         self.table.binding(module, name, ns)
     }
 
@@ -36,11 +36,11 @@ impl BindingTable for PlainTable {
         self.table.name_at(module, index)
     }
 
-    fn unnamed_at(&self, module: ModuleId, index: usize) -> Option<(TraitId, usize)> {
+    fn unnamed_at(&self, module: ModuleId, index: usize) -> Option<(TraitId, Visibility)> {
         self.table.unnamed_at(module, index)
     }
 
-    fn edge_at(&self, module: ModuleId, index: usize) -> Option<EdgeTo<usize>> {
+    fn edge_at(&self, module: ModuleId, index: usize) -> Option<EdgeTo<Visibility>> {
         self.table.edge_at(module, index)
     }
 
@@ -49,7 +49,7 @@ impl BindingTable for PlainTable {
         module: ModuleId,
         name: Name,
         ns: Namespace,
-        binding: Binding<usize>,
+        binding: Binding<Visibility>,
     ) -> Result<(), AllocError>
         ensures done { OnOk result (content_of self.new.table
             ≡ with_binding (content_of self.old.table) «module» name ns binding) }
@@ -62,7 +62,12 @@ impl BindingTable for PlainTable {
         self.table.remove(module, name, ns);
     }
 
-    fn set_unnamed(&mut self, module: ModuleId, item: TraitId, vis: usize) -> Result<(), AllocError>
+    fn set_unnamed(
+        &mut self,
+        module: ModuleId,
+        item: TraitId,
+        vis: Visibility,
+    ) -> Result<(), AllocError>
         ensures done { OnOk result (content_of self.new.table
             ≡ with_unnamed (content_of self.old.table) «module» item vis) }
         ensures refused { OnErr result (content_of self.new.table ≡ content_of self.old.table) }
@@ -70,7 +75,7 @@ impl BindingTable for PlainTable {
         self.table.set_unnamed(module, item, vis)
     }
 
-    fn set_edge(&mut self, module: ModuleId, edge: EdgeTo<usize>) -> Result<(), AllocError>
+    fn set_edge(&mut self, module: ModuleId, edge: EdgeTo<Visibility>) -> Result<(), AllocError>
         ensures done { OnOk result (content_of self.new.table
             ≡ with_edge (content_of self.old.table) «module» edge) }
         ensures refused { OnErr result (content_of self.new.table ≡ content_of self.old.table) }
