@@ -15,10 +15,9 @@ use item_tree::{Crate, Seq};
 use numbered_table::NumberedTable;
 use plain_table::PlainTable;
 use scope_table::ScopeTable;
-use scripts::{CALLS, CHAIN, SCRIPTS, Script};
+use scripts::{CHAIN, SCRIPTS, Script, Step};
 use std::alloc::{AllocError, Global};
 use std::test::Fail;
-use travels::travel;
 
 /// The map of the modules.
 const MAP: MapId = MapId {
@@ -78,74 +77,50 @@ fn record<T: BindingTable<Vis = Visibility>>(
     Ok(())
 }
 
-/// Makes the calls, and asks after each.
+/// Makes the calls of a script, and asks after each.
 fn call_all<T: BindingTable<Vis = Visibility>>(
     table: &mut T,
     script: &Script,
     found: &mut Vec<Answers>,
 ) -> Result<(), AllocError> {
-    for k in 0..CALLS {
+    for k in 0..script.calls() {
         call(table, k)?;
         record(table, script, found)?;
     }
     Ok(())
 }
 
-/// Makes the calls while names travel, and asks after each.
-fn travel_all<T: BindingTable<Vis = Visibility>>(
+/// Takes a step.
+fn take<T: BindingTable<Vis = Visibility>>(
+    globs: &mut Globs<T>,
+    order: &ModuleTree,
+    step: &Step,
+) -> Result<(), AllocError> {
+    match step {
+        Step::Edge(source, importer, vis, glob) => {
+            globs.add_edge(order, *source, *importer, *vis, *glob)
+        }
+        Step::List(place, first, None) => globs.update(order, *place, &[*first]),
+        Step::List(place, first, Some(second)) => globs.update(order, *place, &[*first, *second]),
+    }
+}
+
+/// Takes the steps of a script, and asks where it asks.
+fn take_all<T: BindingTable<Vis = Visibility>>(
     globs: &mut Globs<T>,
     order: &ModuleTree,
     script: &Script,
     found: &mut Vec<Answers>,
 ) -> Result<(), AllocError> {
-    for k in 0..CALLS {
-        travel(globs, order, k)?;
-        record(globs.table(), script, found)?;
-    }
-    Ok(())
-}
-
-/// Records the edges of a script.
-fn add_edges<T: BindingTable<Vis = Visibility>>(
-    globs: &mut Globs<T>,
-    order: &ModuleTree,
-    script: &Script,
-) -> Result<(), AllocError> {
-    for number in 0..CHAIN {
-        if let Some((source, importer, vis)) = script.edge(number) {
-            let source = script.module(source);
-            let importer = script.module(importer);
-            globs.add_edge(order, source, importer, vis, glob(number))?;
+    for number in 0..CHAIN + 1 {
+        if let Some(step) = script.step(number) {
+            take(globs, order, &step)?;
+        }
+        if script.asks_after(number) {
+            record(globs.table(), script, found)?;
         }
     }
     Ok(())
-}
-
-/// Gives modules the lists of a script.
-fn put_lists<T: BindingTable<Vis = Visibility>>(
-    globs: &mut Globs<T>,
-    order: &ModuleTree,
-    script: &Script,
-) -> Result<(), AllocError> {
-    for (index, list) in script.lists() {
-        globs.update(order, script.module(*index), list)?;
-    }
-    Ok(())
-}
-
-/// Lets names travel, and asks in the end.
-fn let_travel<T: BindingTable<Vis = Visibility>>(
-    globs: &mut Globs<T>,
-    order: &ModuleTree,
-    script: &Script,
-    found: &mut Vec<Answers>,
-) -> Result<(), AllocError> {
-    if matches!(script, Script::Travels) {
-        return travel_all(globs, order, script, found);
-    }
-    add_edges(globs, order, script)?;
-    put_lists(globs, order, script)?;
-    record(globs.table(), script, found)
 }
 
 /// What an empty table answers in the course of a script.
@@ -157,11 +132,9 @@ fn play<T: BindingTable<Vis = Visibility> + Drop>(
 ) -> Result<Vec<Answers>, AllocError> {
     let mut found = Vec::new(alloc);
     let mut table = table;
-    if matches!(script, Script::Calls) {
-        call_all(&mut table, script, &mut found)?;
-    } else {
-        let_travel(&mut Globs::new(alloc, table), order, script, &mut found)?;
-    }
+    call_all(&mut table, script, &mut found)?;
+    let mut globs = Globs::new(alloc, table);
+    take_all(&mut globs, order, script, &mut found)?;
     Ok(found)
 }
 

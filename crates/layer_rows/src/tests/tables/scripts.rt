@@ -1,13 +1,14 @@
 //! What is done with a table, what is asked of it then, and what is wanted of its answers.
 
 use super::answers::{Answers, Question};
+use super::travels::travel;
 use super::{MAP, MODULES, glob, module};
 use def_bindings::{Binding, Entry, ImportOrExternCrate, Namespace, Visibility};
 use def_ids::{Def, GlobId, ModuleId, StructId, UseId};
 use item_tree::{Crate, Name};
 
 /// How many calls a list of calls has.
-pub const CALLS: usize = 200;
+const CALLS: usize = 200;
 
 /// How many questions are asked after each call: of so many modules, at so many places.
 const ASKED: usize = 6 * PLACES;
@@ -17,7 +18,7 @@ const PLACES: usize = 8;
 /// The number of the first answer after the last call.
 const LAST: usize = (CALLS - 1) * ASKED;
 
-/// How many edges a chain has.
+/// How many edges a chain has. No script has more steps before its last one.
 pub const CHAIN: usize = 1_000;
 
 /// How many modules import each other.
@@ -119,10 +120,10 @@ const OTHER_BY_0: Binding<Visibility> = Binding {
 };
 
 /// The edge of a glob: its source, its importer, and from where it is seen.
-pub type Edge = (usize, usize, Visibility);
+type Edge = (usize, usize, Visibility);
 
 /// A list that a module is given.
-pub type List = (usize, &'static [Entry<Visibility>]);
+type List = (usize, &'static [Entry<Visibility>]);
 
 /// A module, a place among its names, a name, and what that stands for in types. Where it stands
 /// for something it is the name at the place.
@@ -134,6 +135,15 @@ pub struct Row {
     edges: &'static [Edge],
     lists: &'static [List],
     want: &'static [Want],
+}
+
+/// What is done while names travel in a table.
+#[derive(Clone, Copy)]
+pub enum Step {
+    /// An edge is recorded: its source, its importer, from where it is seen, and its glob.
+    Edge(ModuleId, ModuleId, Visibility, GlobId),
+    /// A module is given a list of one entry, or of two.
+    List(ModuleId, Entry<Visibility>, Option<Entry<Visibility>>),
 }
 
 /// What is done with a table.
@@ -158,7 +168,7 @@ const CYCLE: &[Edge] = &[
 ];
 
 /// The name, declared in the first module.
-static IN_FIRST: [List; 1] = [(0, &[DECLARED])];
+static IN_FIRST: List = (0, &[DECLARED]);
 
 /// What each script shows.
 pub static SCRIPTS: [(&str, Script); 9] = [
@@ -218,7 +228,7 @@ pub static SCRIPTS: [(&str, Script); 9] = [
 
 impl Script {
     /// A module of the script.
-    pub fn module(&self, index: usize) -> ModuleId {
+    fn module(&self, index: usize) -> ModuleId {
         match self {
             Script::Chain => ModuleId {
                 index,
@@ -233,10 +243,12 @@ impl Script {
     }
 
     /// The edge of this number. None leads from a module to itself.
-    pub fn edge(&self, number: usize) -> Option<Edge> {
+    fn edge(&self, number: usize) -> Option<Edge> {
         match self {
             Script::Row(row) => row.edges.get(number).copied(),
-            Script::Chain => Some((number, number.wrapping_add(1), Visibility::Public)),
+            Script::Chain if number < CHAIN => {
+                Some((number, number.wrapping_add(1), Visibility::Public))
+            }
             Script::Crowd if number < CROWD * CROWD && number / CROWD != number % CROWD => {
                 Some((number / CROWD, number % CROWD, Visibility::Public))
             }
@@ -244,12 +256,50 @@ impl Script {
         }
     }
 
-    /// The lists that modules are given once all edges stand.
-    pub fn lists(&self) -> &'static [List] {
+    /// The list that is put after so many edges and lists.
+    fn list(&self, number: usize) -> Option<&'static List> {
         match self {
-            Script::Row(row) => row.lists,
-            Script::Chain | Script::Crowd => &IN_FIRST,
-            _ => &[],
+            Script::Row(row) => row.lists.get(number.checked_sub(row.edges.len())?),
+            Script::Chain | Script::Crowd if number == CHAIN => Some(&IN_FIRST),
+            _ => None,
+        }
+    }
+
+    /// The step that puts this list.
+    fn put(&self, list: &List) -> Option<Step> {
+        let (index, entries) = *list;
+        let first = entries.first()?;
+        Some(Step::List(self.module(index), *first, entries.get(1).copied()))
+    }
+
+    /// The step of this number: first stand all edges.
+    pub fn step(&self, number: usize) -> Option<Step> {
+        if matches!(self, Script::Travels) {
+            return (number < CALLS).then_some(travel(number));
+        }
+        match self.edge(number) {
+            Some((source, importer, vis)) => {
+                let source = self.module(source);
+                Some(Step::Edge(source, self.module(importer), vis, glob(number)))
+            }
+            None => self.put(self.list(number)?),
+        }
+    }
+
+    /// How many calls of the table itself are made.
+    pub fn calls(&self) -> usize {
+        match self {
+            Script::Calls => CALLS,
+            _ => 0,
+        }
+    }
+
+    /// Whether questions are asked after the step of this number.
+    pub fn asks_after(&self, number: usize) -> bool {
+        match self {
+            Script::Calls => false,
+            Script::Travels => number < CALLS,
+            _ => number == CHAIN,
         }
     }
 

@@ -1,11 +1,10 @@
-//! A list of calls of a table in which names travel.
+//! A list of calls while names travel in a table.
 
+use super::scripts::Step;
 use super::{MODULES, glob, module, namespace};
-use def_bindings::{BindingTable, Entry, ImportOrExternCrate, ModuleTree, Visibility};
+use def_bindings::{Entry, ImportOrExternCrate, Visibility};
 use def_ids::{Def, ImportId, StructId, TraitId, UseId};
-use def_parts::Globs;
 use item_tree::Name;
-use std::alloc::AllocError;
 
 /// How many names the calls are about. No module has more edges or unnamed traits.
 const NAMES: usize = 8;
@@ -53,19 +52,15 @@ fn entry(k: usize) -> Entry<Visibility> {
 }
 
 /// One of the calls, by its number. There is an edge from each module to each other one in the end.
-pub fn travel<T: BindingTable<Vis = Visibility>>(
-    globs: &mut Globs<T>,
-    order: &ModuleTree,
-    k: usize,
-) -> Result<(), AllocError> {
+pub fn travel(k: usize) -> Step {
     let round = k / 5;
     let source = round % MODULES;
     let importer = (source + 1 + round % 4) % MODULES;
     if k % 5 == 4 {
         let vis = visibility(scattered(k, 43));
-        globs.add_edge(order, module(source), module(importer), vis, glob(k))
+        Step::Edge(module(source), module(importer), vis, glob(k))
     } else {
         let place = module(scattered(k, 73) % MODULES);
-        globs.update(order, place, &[entry(k), entry(k / 2)])
+        Step::List(place, entry(k), Some(entry(k / 2)))
     }
 }
