@@ -42,13 +42,19 @@ pub fn collect_crate<D: SourceDatabase>(
     collect_defs(alloc, db, session, seeded, tree_of_file(root_file), None)
 }
 
-/// Hands the finished maps of a crate to the crates that depend on it, and to its blocks.
-pub fn add_maps(db: &mut Database, krate: Crate, collected: Collected) -> Result<(), AllocError> {
+/// Collects a crate, and hands its finished maps to the crates that depend on it, and to its blocks.
+pub fn collect_first(
+    alloc: Global,
+    db: &mut Database,
+    session: &mut Interner,
+    krate: Crate,
+    root_file: FileId,
+) -> Result<(), AllocError> {
     let Collected {
         def_map,
         local_def_map,
         outcome: _,
         diagnostics: _,
-    } = collected;
+    } = collect_crate(alloc, db, session, krate, root_file)?;
     db.add_map(krate, def_map, local_def_map)
 }

@@ -29,16 +29,15 @@ fn import(
     path: ModPath,
     alias: Option<ImportAlias>,
 ) -> Result<ModItemKind, AllocError> {
-    let mut imports = Seq::from_vec(Vec::new(alloc));
-    imports.push(UseImport {
+    let import = UseImport {
         idx: 0,
         path,
         kind: ImportKind::Plain,
         alias,
-    })?;
+    };
     Ok(ModItemKind::Use {
         visibility: RawVisibility::PubSelf,
-        imports,
+        imports: Seq::from_vec(vec![in alloc; import]?),
     })
 }
 
@@ -81,6 +80,15 @@ pub fn module_of(session: &mut Interner, name: &str) -> Result<ModItemKind, Allo
     })
 }
 
+/// An item that has no attributes.
+fn node(number: usize, kind: ModItemKind) -> ItemNode {
+    ItemNode {
+        ast_id: FileAstId(number),
+        attrs: None,
+        kind,
+    }
+}
+
 /// Appends an item that stands in no other, with the next number of the text.
 fn push_item(
     items: &mut Vec<ItemNode>,
@@ -88,12 +96,8 @@ fn push_item(
     kind: ModItemKind,
 ) -> Result<(), AllocError> {
     let number = items.len();
+    items.push(node(number, kind))?;
     top.push(ModItemId(number))?;
-    items.push(ItemNode {
-        ast_id: FileAstId(number),
-        attrs: None,
-        kind,
-    })?;
     Ok(())
 }
 
@@ -137,9 +141,7 @@ pub fn add_item(
     id: TreeId,
     kind: ModItemKind,
 ) -> Result<(), AllocError> {
-    let mut kinds = Vec::new(alloc);
-    kinds.push(kind)?;
-    add_items(alloc, db, id, kinds)
+    add_items(alloc, db, id, vec![in alloc; kind]?)
 }
 
 /// What is known of a crate: its root file, and the crates that it depends on.

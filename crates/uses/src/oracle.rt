@@ -19,17 +19,10 @@ const FILE_OF_A: FileId = FileId(1);
 fn root_items(alloc: Global, session: &mut Interner) -> Result<Vec<ModItemKind>, AllocError> {
     let mut items = Vec::new(alloc);
     items.push(module_of(session, "a")?)?;
-    items.push(import_of(alloc, session, &["a", "S"])?)?;
-    items.push(import_of(alloc, session, &["a", "T"])?)?;
+    for name in &["S", "T"] {
+        items.push(import_of(alloc, session, &["a", name])?)?;
+    }
     Ok(items)
-}
-
-/// The items of the two files.
-fn add_files(alloc: Global, session: &mut Interner, db: &mut Database) -> Result<(), AllocError> {
-    let items = root_items(alloc, session)?;
-    add_items(alloc, db, tree_of_file(ROOT_FILE), items)?;
-    let item = struct_of(session, "S")?;
-    add_item(alloc, db, tree_of_file(FILE_OF_A), item)
 }
 
 /// A database of the crate.
@@ -38,7 +31,10 @@ pub fn database(alloc: Global, session: &mut Interner) -> Result<Database, Alloc
     ensures path { IfOk result (λ db. (answers_of db).resolve_path (record { 0 = 0 }) (codes "a.rs") ≡ Some (record { 0 = 1 })) }
 {
     let mut db = Database::new(alloc);
-    add_files(alloc, session, &mut db)?;
+    let items = root_items(alloc, session)?;
+    add_items(alloc, &mut db, tree_of_file(ROOT_FILE), items)?;
+    let item = struct_of(session, "S")?;
+    add_item(alloc, &mut db, tree_of_file(FILE_OF_A), item)?;
     // Where `mod a;` leads, seen from the root file.
     db.add_path(ROOT_FILE, "a.rs", FILE_OF_A)?;
     let no_deps = Seq::from_vec(Vec::new(alloc));

@@ -2,14 +2,14 @@
 
 use crate::collecting::collect_crate;
 use crate::oracle::{CRATE, ROOT_FILE};
-use hir_def::{Collected, Database, Interner};
+use hir_def::{Collected, Interner, SourceDatabase};
 use std::alloc::{AllocError, Global};
 
-/// Collects the crate of the database. Its second file is found where `mod a;` is reached.
-pub fn collect(
+/// Collects the crate, of which the oracle knows. Its second file is found where `mod a;` is reached.
+pub fn collect<D: SourceDatabase>(
     alloc: Global,
     session: &mut Interner,
-    db: &Database,
+    db: &D,
 ) -> Result<Collected, AllocError> {
     collect_crate(alloc, db, session, CRATE, ROOT_FILE)
 }
