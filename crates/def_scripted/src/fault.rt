@@ -43,14 +43,8 @@ impl From<AllocError> for ReadFault {
 }
 
 /// Why reading stops: memory was refused, or the token that comes does not fit.
-#[derive(Drop)]
+#[derive(Clone, Copy)]
 pub(crate) enum Stop {
     Memory,
     Here,
-}
-
-impl From<AllocError> for Stop {
-    fn from(_error: AllocError) -> Self {
-        Stop::Memory
-    }
 }

@@ -10,6 +10,7 @@ mod items;
 mod kinds;
 mod lines;
 mod named;
+mod page;
 mod paths;
 mod pieces;
 mod reader;
@@ -17,6 +18,7 @@ mod script;
 mod tokens;
 mod trees;
 mod variants;
+mod words;
 
 pub use fault::{Fault, ReadFault};
 pub use items::{ReadEnum, ReadFile};

@@ -1,10 +1,8 @@
 //! Paths, visibilities and aliases.
 
-use crate::fault::Stop;
 use crate::reader::Reader;
 use crate::tokens::{Keyword, Token};
 use item_tree::{ImportAlias, ModPath, Name, PathKind, RawVisibility, Seq};
-use std::alloc::AllocError;
 
 /// How many modules `self` or `super`, which comes, goes up, with each `super` behind it.
 fn levels(reader: &mut Reader, first: u8) -> u8 {
@@ -34,21 +32,21 @@ fn path_kind(reader: &mut Reader) -> PathKind {
 }
 
 /// Adds the segments that stand behind colons.
-fn more_segments(reader: &mut Reader, segments: &mut Seq<Name>) -> Result<(), AllocError> {
+fn more_segments(reader: &mut Reader, segments: &mut Seq<Name>) {
     for _ in 0..reader.left() {
         let (Token::Colons, Token::Name(name)) = (reader.peek(0), reader.peek(1)) else {
             break;
         };
         reader.skip(2);
-        segments.push(name)?;
+        reader.keep(segments.push(name));
     }
-    Ok(())
 }
 
 /// Adds the segment that has to come, and those behind it.
-pub fn add_segments(reader: &mut Reader, segments: &mut Seq<Name>) -> Result<(), Stop> {
-    segments.push(reader.name()?)?;
-    Ok(more_segments(reader, segments)?)
+pub fn add_segments(reader: &mut Reader, segments: &mut Seq<Name>) {
+    let name = reader.name();
+    reader.keep(segments.push(name));
+    more_segments(reader, segments);
 }
 
 /// The path of no segments.
@@ -60,63 +58,74 @@ pub fn empty_path(reader: &Reader, kind: PathKind) -> ModPath {
 }
 
 /// Adds the segments of a path, of which a plain one has one or more.
-fn add_rest(reader: &mut Reader, path: &mut ModPath) -> Result<(), Stop> {
+fn add_rest(reader: &mut Reader, path: &mut ModPath) {
     match path.kind {
         PathKind::Plain => add_segments(reader, &mut path.segments),
-        _ => Ok(more_segments(reader, &mut path.segments)?),
+        _ => more_segments(reader, &mut path.segments),
     }
 }
 
 /// A path.
-pub fn path(reader: &mut Reader) -> Result<ModPath, Stop> {
+pub fn path(reader: &mut Reader) -> ModPath {
     let kind = path_kind(reader);
     let mut path = empty_path(reader, kind);
-    add_rest(reader, &mut path)?;
-    Ok(path)
+    add_rest(reader, &mut path);
+    path
 }
 
 /// The visibility that stands in parentheses behind `pub`, up to the closing one.
-fn restricted(reader: &mut Reader) -> Result<RawVisibility, Stop> {
+fn restricted(reader: &mut Reader) -> RawVisibility {
     match reader.peek(0) {
         Token::Word(Keyword::Crate) => {
             reader.skip(1);
-            Ok(RawVisibility::PubCrate)
+            RawVisibility::PubCrate
         }
         Token::Word(Keyword::SelfWord) => {
             reader.skip(1);
-            Ok(RawVisibility::PubSelf)
+            RawVisibility::PubSelf
         }
         Token::Word(Keyword::In | Keyword::Super) => {
             reader.takes(Token::Word(Keyword::In));
-            Ok(RawVisibility::In(path(reader)?))
+            RawVisibility::In(path(reader))
         }
-        _ => Err(Stop::Here),
+        _ => {
+            reader.stop();
+            RawVisibility::PubSelf
+        }
     }
 }
 
 /// The visibility of an item or a field; none written is that of `self`.
-pub fn visibility(reader: &mut Reader) -> Result<RawVisibility, Stop> {
+pub fn visibility(reader: &mut Reader) -> RawVisibility {
     if !reader.takes(Token::Word(Keyword::Pub)) {
-        return Ok(RawVisibility::PubSelf);
+        return RawVisibility::PubSelf;
     }
     if !reader.takes(Token::Mark('(')) {
-        return Ok(RawVisibility::Public);
+        return RawVisibility::Public;
     }
-    let visibility = restricted(reader)?;
-    reader.expect(')')?;
-    Ok(visibility)
+    let visibility = restricted(reader);
+    reader.expect(')');
+    visibility
 }
 
-/// The alias of an import or an extern crate, if it has one. `_` is no name.
-pub fn alias(reader: &mut Reader) -> Result<Option<ImportAlias>, Stop> {
-    if !reader.takes(Token::Word(Keyword::As)) {
-        return Ok(None);
+/// The alias behind `as`. `_` is no name.
+fn alias_name(reader: &mut Reader) -> Option<ImportAlias> {
+    match reader.peek(0) {
+        Token::Name(name) => Some(ImportAlias::Alias(name)),
+        Token::Word(Keyword::Underscore) => Some(ImportAlias::Underscore),
+        _ => {
+            reader.stop();
+            None
+        }
     }
-    let alias = match reader.peek(0) {
-        Token::Name(name) => ImportAlias::Alias(name),
-        Token::Word(Keyword::Underscore) => ImportAlias::Underscore,
-        _ => return Err(Stop::Here),
-    };
+}
+
+/// The alias of an import or an extern crate, if it has one.
+pub fn alias(reader: &mut Reader) -> Option<ImportAlias> {
+    if !reader.takes(Token::Word(Keyword::As)) {
+        return None;
+    }
+    let alias = alias_name(reader);
     reader.skip(1);
-    Ok(Some(alias))
+    alias
 }

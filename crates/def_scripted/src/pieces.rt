@@ -1,6 +1,5 @@
 //! Pieces of a text that are not read.
 
-use crate::fault::Stop;
 use crate::reader::Reader;
 use crate::tokens::Token;
 
@@ -34,7 +33,7 @@ fn is_end(end: End, token: Token) -> bool {
 }
 
 /// Takes a piece that is not read.
-pub fn skip_piece(reader: &mut Reader, end: End) -> Result<(), Stop> {
+pub fn skip_piece(reader: &mut Reader, end: End) {
     let mut depth = 0;
     for _ in 0..reader.left() {
         let token = reader.peek(0);
@@ -43,9 +42,9 @@ pub fn skip_piece(reader: &mut Reader, end: End) -> Result<(), Stop> {
         };
         reader.skip(1);
         if new_depth == 0 && is_end(end, token) {
-            return Ok(());
+            return;
         }
         depth = new_depth;
     }
-    Err(Stop::Here)
+    reader.stop();
 }

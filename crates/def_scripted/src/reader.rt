@@ -5,8 +5,9 @@ use crate::tokens::Token;
 use item_tree::{Name, Text};
 use std::alloc::{AllocError, Global};
 
-/// The tokens of a text, and how many of them are read. Functions that read take what fits, so
-/// where reading stops is the token that does not.
+/// The tokens of a text, and how many of them are read. Functions that read take what fits. Where
+/// a token does not fit, or memory is refused, reading stops: nothing comes any more, and what was
+/// read counts for nothing. So what reads answers no fault, and needs to look for none.
 #[derive(Drop)]
 pub struct Reader {
     pub alloc: Global,
@@ -16,6 +17,8 @@ pub struct Reader {
     texts: Vec<Text>,
     /// How many tokens are read.
     pub read: usize,
+    /// Why reading stopped, if it did.
+    pub stopped: Option<Stop>,
 }
 
 impl Reader {
@@ -26,20 +29,63 @@ impl Reader {
             tokens: Vec::new(alloc),
             texts: Vec::new(alloc),
             read: 0,
+            stopped: None,
+        }
+    }
+
+    /// Stops for this reason, if reading did not stop before.
+    fn stop_for(&mut self, stop: Stop) {
+        if self.stopped.is_none() {
+            self.stopped = Some(stop);
+        }
+    }
+
+    /// Stops at the token that comes, which does not fit.
+    pub fn stop(&mut self) {
+        self.stop_for(Stop::Here);
+    }
+
+    /// Stops at a token that was read before, if reading did not stop.
+    pub fn stop_at(&mut self, read: usize) {
+        if self.stopped.is_none() {
+            self.read = read;
+        }
+        self.stop();
+    }
+
+    /// Stops, since memory was refused.
+    pub fn refuse(&mut self) {
+        self.stop_for(Stop::Memory);
+    }
+
+    /// Stops where memory was refused for something that was kept.
+    pub fn keep(&mut self, kept: Result<(), AllocError>) {
+        if kept.is_err() {
+            self.refuse();
         }
     }
 
     /// Adds a token that begins at this byte.
-    pub fn push(&mut self, token: Token, begin: usize) -> Result<(), AllocError> {
-        self.tokens.push((token, begin))?;
-        Ok(())
+    pub fn push(&mut self, token: Token, begin: usize) {
+        if self.tokens.push((token, begin)).is_err() {
+            self.refuse();
+        }
     }
 
     /// Adds a text in quotes, and answers its token.
-    pub fn add_text(&mut self, text: &str) -> Result<Token, AllocError> {
+    pub fn add_text(&mut self, text: &str) -> Token {
         let number = self.texts.len();
-        self.texts.push(Text::from_str(self.alloc, text)?)?;
-        Ok(Token::Text(number))
+        match Text::from_str(self.alloc, text) {
+            Ok(text) => self.push_text(text),
+            Err(AllocError) => self.refuse(),
+        }
+        Token::Text(number)
+    }
+
+    fn push_text(&mut self, text: Text) {
+        if self.texts.push(text).is_err() {
+            self.refuse();
+        }
     }
 
     /// The text of this number.
@@ -52,11 +98,17 @@ impl Reader {
 
     /// How many tokens are left.
     pub fn left(&self) -> usize {
-        self.tokens.len().saturating_sub(self.read)
+        match self.stopped {
+            None => self.tokens.len().saturating_sub(self.read),
+            Some(_) => 0,
+        }
     }
 
     /// The token that comes behind so many others.
     pub fn peek(&self, passed: usize) -> Token {
+        if self.stopped.is_some() {
+            return Token::End;
+        }
         match self.tokens.get(self.read.saturating_add(passed)) {
             Some((token, _)) => *token,
             None => Token::End,
@@ -71,9 +123,11 @@ impl Reader {
         }
     }
 
-    /// Takes so many tokens.
+    /// Takes so many tokens. Once reading stopped, it stays where it is.
     pub fn skip(&mut self, count: usize) {
-        self.read = self.read.saturating_add(count);
+        if self.stopped.is_none() {
+            self.read = self.read.saturating_add(count);
+        }
     }
 
     /// Takes a token if it comes.
@@ -95,36 +149,35 @@ impl Reader {
     }
 
     /// Takes a mark that has to come.
-    pub fn expect(&mut self, mark: char) -> Result<(), Stop> {
-        if self.takes(Token::Mark(mark)) {
-            Ok(())
-        } else {
-            Err(Stop::Here)
+    pub fn expect(&mut self, mark: char) {
+        if !self.takes(Token::Mark(mark)) {
+            self.stop();
         }
     }
 
-    /// Takes the name that has to come.
-    pub fn name(&mut self) -> Result<Name, Stop> {
+    /// Takes the name that has to come. Where none comes, the name counts for nothing.
+    pub fn name(&mut self) -> Name {
         match self.peek(0) {
             Token::Name(name) => {
                 self.skip(1);
-                Ok(name)
+                name
             }
-            _ => Err(Stop::Here),
+            _ => {
+                self.stop();
+                Name(0)
+            }
         }
     }
 
-    /// Whether brackets are closed here.
+    /// Whether brackets are closed here, or nothing comes.
     pub fn is_closed(&self) -> bool {
-        matches!(self.peek(0), Token::Mark(')' | '}'))
+        matches!(self.peek(0), Token::Mark(')' | '}') | Token::End)
     }
 
     /// Takes the comma that has to come where brackets are not closed.
-    pub fn comma(&mut self) -> Result<(), Stop> {
-        if self.takes(Token::Mark(',')) || self.is_closed() {
-            Ok(())
-        } else {
-            Err(Stop::Here)
+    pub fn comma(&mut self) {
+        if !self.takes(Token::Mark(',')) && !self.is_closed() {
+            self.stop();
         }
     }
 }

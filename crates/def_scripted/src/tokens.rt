@@ -1,10 +1,8 @@
 //! The tokens of a text.
 
-use crate::fault::ReadFault;
 use crate::reader::Reader;
 use def_interner::Interner;
 use item_tree::Name;
-use std::alloc::AllocError;
 
 /// A word that the reader knows.
 #[derive(Clone, Copy, PartialEq)]
@@ -119,57 +117,59 @@ fn piece_behind(piece: Piece, character: char) -> Piece {
     }
 }
 
+/// The token of a word that is none of those and no number.
+fn name_token(session: &mut Interner, word: &str, reader: &mut Reader) -> Token {
+    match session.intern_name(word) {
+        Ok(name) => Token::Name(name),
+        Err(_) => {
+            reader.refuse();
+            Token::End
+        }
+    }
+}
+
 /// The token that a word is.
-fn word_token(session: &mut Interner, word: &str) -> Result<Token, AllocError> {
+fn word_token(session: &mut Interner, word: &str, reader: &mut Reader) -> Token {
     for (text, keyword) in &WORDS {
         if *text == word {
-            return Ok(Token::Word(*keyword));
+            return Token::Word(*keyword);
         }
     }
     match word.parse::<usize>() {
-        Ok(number) => Ok(Token::Number(number)),
-        Err(_) => Ok(Token::Name(session.intern_name(word)?)),
+        Ok(number) => Token::Number(number),
+        Err(_) => name_token(session, word, reader),
     }
 }
 
 /// Adds the token that a piece is, if it is one. Colons but two of them are a mark, which fits
 /// nowhere.
-fn add_piece(
-    session: &mut Interner,
-    piece: Piece,
-    text: &str,
-    begin: usize,
-    reader: &mut Reader,
-) -> Result<(), AllocError> {
+fn add_piece(session: &mut Interner, piece: Piece, text: &str, begin: usize, reader: &mut Reader) {
     let token = match piece {
-        Piece::Space => return Ok(()),
-        Piece::Word => word_token(session, text)?,
+        Piece::Space => return,
+        Piece::Word => word_token(session, text, reader),
         Piece::Colons if text == "::" => Token::Colons,
         Piece::Colons | Piece::Mark => Token::Mark(text.chars().next().unwrap_or(' ')),
-        Piece::Text => reader.add_text(text.strip_prefix('"').unwrap_or(""))?,
+        Piece::Text => reader.add_text(text.strip_prefix('"').unwrap_or("")),
     };
-    reader.push(token, begin)
+    reader.push(token, begin);
 }
 
-/// Adds the tokens of a text, whose quotes are all closed.
-pub fn add_tokens(
-    session: &mut Interner,
-    text: &str,
-    reader: &mut Reader,
-) -> Result<(), ReadFault> {
+/// Adds the tokens of a text. Answers the byte of a quote that is not closed, if there is one.
+pub fn add_tokens(session: &mut Interner, text: &str, reader: &mut Reader) -> Option<usize> {
     let mut piece = Piece::Space;
     let mut begin = 0;
     for (at, character) in text.char_indices() {
         if !goes_on(piece, character) {
             let passed = text.get(begin..at).unwrap_or("");
-            add_piece(session, piece, passed, begin, reader)?;
+            add_piece(session, piece, passed, begin, reader);
             piece = piece_behind(piece, character);
             begin = at;
         }
     }
     if matches!(piece, Piece::Text) {
-        return Err(ReadFault::Byte(begin));
+        return Some(begin);
     }
     let passed = text.get(begin..).unwrap_or("");
-    Ok(add_piece(session, piece, passed, begin, reader)?)
+    add_piece(session, piece, passed, begin, reader);
+    None
 }

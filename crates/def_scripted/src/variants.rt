@@ -1,6 +1,5 @@
 //! The variants of enums.
 
-use crate::fault::Stop;
 use crate::items::{Items, ReadEnum};
 use crate::pieces::{End, skip_piece};
 use crate::reader::Reader;
@@ -15,32 +14,31 @@ pub struct ReadVariant {
 }
 
 /// Takes a variant's fields and the comma behind them.
-fn skip_fields(reader: &mut Reader) -> Result<(), Stop> {
+fn skip_fields(reader: &mut Reader) {
     if matches!(reader.peek(0), Token::Mark('(' | '{')) {
-        skip_piece(reader, End::Bracket)?;
+        skip_piece(reader, End::Bracket);
     }
-    reader.comma()
+    reader.comma();
 }
 
 /// Adds the variants in the braces of an enum. One with named fields has no constructor in values.
-fn add_variants(reader: &mut Reader, variants: &mut Seq<ReadVariant>) -> Result<(), Stop> {
+fn add_variants(reader: &mut Reader, variants: &mut Seq<ReadVariant>) {
     for _ in 0..reader.left() {
         let Token::Name(name) = reader.peek(0) else {
             break;
         };
         reader.skip(1);
         let value_ctor = reader.peek(0) != Token::Mark('{');
-        variants.push(ReadVariant { name, value_ctor })?;
-        skip_fields(reader)?;
+        reader.keep(variants.push(ReadVariant { name, value_ctor }));
+        skip_fields(reader);
     }
-    reader.expect('}')
+    reader.expect('}');
 }
 
 /// Adds the variants of the enum that is the next item, from behind its opening brace on.
-pub fn add_enum(reader: &mut Reader, items: &mut Items) -> Result<(), Stop> {
+pub fn add_enum(reader: &mut Reader, items: &mut Items) {
     let item = FileAstId(items.nodes.len());
     let mut variants = Seq::from_vec(Vec::new(reader.alloc));
-    add_variants(reader, &mut variants)?;
-    items.enums.push(ReadEnum { item, variants })?;
-    Ok(())
+    add_variants(reader, &mut variants);
+    reader.keep(items.enums.push(ReadEnum { item, variants }));
 }
