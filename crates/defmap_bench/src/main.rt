@@ -6,6 +6,7 @@ mod asked;
 mod database;
 mod figures;
 mod globs;
+mod maker;
 mod measure;
 mod places;
 mod random;

@@ -3,9 +3,10 @@ ghost use Rattle.std.specs.Prelude.{◌≡◌, None};
 
 use crate::database::OneFile;
 use crate::figures::{Counted, Figures, lesser, print_head, print_line};
+use crate::maker::Maker;
 use crate::places::{Place, places_of, time_places};
 use crate::shape::{Plan, Shape, given_lines, lines_of};
-use crate::tree::{named_tree, trees_of};
+use crate::tree::{add_trees, named_tree};
 use def_collector::{Collected, collect_defs};
 use def_ids::Edition;
 use def_interner::Interner;
@@ -30,10 +31,11 @@ struct Run {
     time: Duration,
 }
 
-/// What a run is over: the number of items, the names, and the database.
+/// What a run is over: the number of items, what they are made with, the names, and the database.
 #[derive(Drop)]
 struct Written {
     items: usize,
+    maker: Maker,
     session: Interner,
     db: OneFile,
 }
@@ -58,23 +60,35 @@ fn crate_data(alloc: Global) -> CrateData {
     }
 }
 
-/// A database of these lines, and how many items they are.
-fn database(alloc: Global, session: &mut Interner, plan: Plan) -> io::Result<(usize, OneFile)> {
+/// A crate of a shape, whose calls give nothing yet.
+fn write_crate(alloc: Global, plan: Plan) -> io::Result<Written> {
     let lines = lines_of(alloc, plan)?;
-    let given = given_lines(alloc, plan)?;
-    let db = OneFile {
-        tree: named_tree(alloc, session, lines.as_slice())?,
-        krate: crate_data(alloc),
-        expansions: trees_of(alloc, session, given.as_slice())?,
-    };
-    Ok((lines.len(), db))
+    let mut maker = Maker::new(alloc);
+    let mut session = Interner::new(alloc)?;
+    let tree = named_tree(&mut maker, &mut session, lines.as_slice())?;
+    Ok(Written {
+        items: lines.len(),
+        maker,
+        session,
+        db: OneFile {
+            tree,
+            krate: crate_data(alloc),
+            expansions: Vec::new(alloc),
+        },
+    })
 }
 
-/// A crate of a shape.
-fn write_crate(alloc: Global, plan: Plan) -> io::Result<Written> {
-    let mut session = Interner::new(alloc)?;
-    let (items, db) = database(alloc, &mut session, plan)?;
-    Ok(Written { items, session, db })
+/// Adds what the calls of a crate give.
+fn add_given(written: &mut Written, plan: Plan) -> io::Result<()> {
+    let Written {
+        items: _,
+        maker,
+        session,
+        db,
+    } = written;
+    let given = given_lines(maker.alloc, plan)?;
+    add_trees(maker, session, given.as_slice(), &mut db.expansions)?;
+    Ok(maker.end()?)
 }
 
 /// Collects the definitions of a crate.
@@ -98,22 +112,44 @@ fn places_in(alloc: Global, collected: &Collected) -> io::Result<Vec<Place>> {
     Ok(places_of(alloc, &collected.def_map)?)
 }
 
-/// Collects the definitions of a crate, and times that.
-fn time_collect<C: Clock>(alloc: Global, clock: &C, written: &mut Written) -> io::Result<Run> {
-    let start = Instant::now(clock)?;
-    let collected = collect(alloc, written)?;
-    let time = start.elapsed(clock)?;
+/// What one run gave.
+fn run_of(
+    items: usize,
+    places: io::Result<Vec<Place>>,
+    time: io::Result<Duration>,
+) -> io::Result<Run> {
+    let time = time?;
+    let places = places?;
     Ok(Run {
-        items: written.items,
-        places: places_in(alloc, &collected)?,
+        items,
+        places,
         time,
     })
 }
 
+/// Collects the definitions of a crate, and times that.
+fn time_collect<C: Clock>(alloc: Global, clock: &C, written: &mut Written) -> io::Result<Run> {
+    let start = Instant::now(clock)?;
+    let collected = collect(alloc, written)?;
+    let time = start.elapsed(clock);
+    run_of(written.items, places_in(alloc, &collected), time)
+}
+
 /// One run over a crate of its own.
+fn run_over<C: Clock>(
+    alloc: Global,
+    clock: &C,
+    plan: Plan,
+    written: &mut Written,
+) -> io::Result<Run> {
+    add_given(written, plan)?;
+    time_collect(alloc, clock, written)
+}
+
+/// One run.
 fn run_once<C: Clock>(alloc: Global, clock: &C, plan: Plan) -> io::Result<Run> {
     let mut written = write_crate(alloc, plan)?;
-    time_collect(alloc, clock, &mut written)
+    run_over(alloc, clock, plan, &mut written)
 }
 
 /// What is measured, once.

@@ -107,15 +107,20 @@ fn are_found(map: &Plain, places: &[Place]) -> bool {
 }
 
 /// How long it takes to insert all places in an empty map and to look up each.
-pub fn time_places<C: Clock>(alloc: Global, clock: &C, places: &[Place]) -> io::Result<Duration> {
-    let mut map = IndexMap::new(alloc);
+fn time_in<C: Clock>(clock: &C, map: &mut Plain, places: &[Place]) -> io::Result<Duration> {
     let start = Instant::now(clock)?;
-    insert_all(&mut map, places)?;
-    let all_found = are_found(&map, places);
+    insert_all(map, places)?;
+    let all_found = are_found(map, places);
     let time = start.elapsed(clock)?;
     if all_found {
         Ok(time)
     } else {
         Err(io::Error::other("a place is not found"))
     }
+}
+
+/// How long all places take in the map of the kit.
+pub fn time_places<C: Clock>(alloc: Global, clock: &C, places: &[Place]) -> io::Result<Duration> {
+    let mut map = IndexMap::new(alloc);
+    time_in(clock, &mut map, places)
 }

@@ -1,5 +1,6 @@
 //! Item trees of texts.
 
+use crate::maker::Maker;
 use crate::text::{Item, Kind, Line, Seen, Taken};
 use def_interner::Interner;
 use item_tree::{
@@ -33,7 +34,7 @@ struct Names {
 }
 
 /// The name of a number, under a letter that tells modules and macros from other items.
-fn name_of(
+fn new_name(
     alloc: Global,
     session: &mut Interner,
     letter: &str,
@@ -43,11 +44,22 @@ fn name_of(
     session.intern_name(text.as_str())
 }
 
+/// That name, which counts for nothing where memory was refused.
+fn name_of(maker: &mut Maker, session: &mut Interner, letter: &str, number: usize) -> Name {
+    match new_name(maker.alloc, session, letter, number) {
+        Ok(name) => name,
+        Err(_) => {
+            maker.refuse();
+            Name(0)
+        }
+    }
+}
+
 /// The first name on a line.
-fn own_name(alloc: Global, session: &mut Interner, item: Item) -> Result<Name, AllocError> {
+fn own_name(maker: &mut Maker, session: &mut Interner, item: Item) -> Name {
     match item {
         Item::Plain { number, .. } | Item::Deriving { number, .. } => {
-            name_of(alloc, session, "i", number)
+            name_of(maker, session, "i", number)
         }
         Item::Module(number)
         | Item::Import { module: number, .. }
@@ -55,45 +67,37 @@ fn own_name(alloc: Global, session: &mut Interner, item: Item) -> Result<Name, A
         | Item::Builtin(number)
         | Item::Call(number)
         | Item::MacroItem(number)
-        | Item::CallFromRoot(number) => name_of(alloc, session, "m", number),
+        | Item::CallFromRoot(number) => name_of(maker, session, "m", number),
     }
 }
 
 /// The name of the item that a line imports, or of the macro that it derives.
-fn taken_name(
-    alloc: Global,
-    session: &mut Interner,
-    item: Item,
-) -> Result<Option<Name>, AllocError> {
+fn taken_name(maker: &mut Maker, session: &mut Interner, item: Item) -> Option<Name> {
     match item {
         Item::Import {
             taken: Taken::Item(number),
             ..
-        } => Ok(Some(name_of(alloc, session, "i", number)?)),
-        Item::Deriving { derived, .. } => Ok(Some(name_of(alloc, session, "m", derived)?)),
-        _ => Ok(None),
+        } => Some(name_of(maker, session, "i", number)),
+        Item::Deriving { derived, .. } => Some(name_of(maker, session, "m", derived)),
+        _ => None,
     }
 }
 
 /// The name of the attribute on a line.
-fn attribute_name(
-    alloc: Global,
-    session: &mut Interner,
-    item: Item,
-) -> Result<Option<Name>, AllocError> {
+fn attribute_name(maker: &mut Maker, session: &mut Interner, item: Item) -> Option<Name> {
     match item {
-        Item::Builtin(_) => Ok(Some(sym::RUSTC_BUILTIN_MACRO)),
-        Item::Deriving { attribute, .. } => Ok(Some(name_of(alloc, session, "m", attribute)?)),
-        _ => Ok(None),
+        Item::Builtin(_) => Some(sym::RUSTC_BUILTIN_MACRO),
+        Item::Deriving { attribute, .. } => Some(name_of(maker, session, "m", attribute)),
+        _ => None,
     }
 }
 
-fn names_of(alloc: Global, session: &mut Interner, item: Item) -> Result<Names, AllocError> {
-    Ok(Names {
-        own: own_name(alloc, session, item)?,
-        taken: taken_name(alloc, session, item)?,
-        attribute: attribute_name(alloc, session, item)?,
-    })
+fn names_of(maker: &mut Maker, session: &mut Interner, item: Item) -> Names {
+    Names {
+        own: own_name(maker, session, item),
+        taken: taken_name(maker, session, item),
+        attribute: attribute_name(maker, session, item),
+    }
 }
 
 /// The visibility that shows an item so far.
@@ -135,92 +139,82 @@ fn plain_kind(kind: Kind, name: Name, visibility: RawVisibility) -> ModItemKind 
 }
 
 /// The numbers of the items at a depth, from a line on up to one that stands less deep.
-fn numbers_at(
-    alloc: Global,
-    lines: &[Line],
-    first: usize,
-    depth: usize,
-) -> Result<Vec<ModItemId>, AllocError> {
-    let mut numbers = Vec::new(alloc);
+fn numbers_at(maker: &mut Maker, lines: &[Line], first: usize, depth: usize) -> Vec<ModItemId> {
+    let mut numbers = Vec::new(maker.alloc);
     for number in first..lines.len() {
         let there = lines[number].depth;
         if there < depth {
-            return Ok(numbers);
+            break;
         }
-        if there == depth {
-            numbers.push(ModItemId(number))?;
+        if there == depth && numbers.push(ModItemId(number)).is_err() {
+            maker.refuse();
         }
     }
-    Ok(numbers)
+    numbers
 }
 
 /// A public module with the items of the lines from one on, so far as they stand in it.
 fn module_kind(
-    alloc: Global,
+    maker: &mut Maker,
     lines: &[Line],
     first: usize,
     depth: usize,
     name: Name,
-) -> Result<ModItemKind, AllocError> {
-    let children = numbers_at(alloc, lines, first, depth)?;
-    Ok(ModItemKind::Mod {
+) -> ModItemKind {
+    ModItemKind::Mod {
         name,
         visibility: RawVisibility::Public,
-        contents: ModContents::Inline(Seq::from_vec(children)),
-    })
-}
-
-/// The path of what an import takes, or of a macro.
-fn path_of(alloc: Global, kind: PathKind, names: Names) -> Result<ModPath, AllocError> {
-    let mut segments = Seq::from_vec(Vec::new(alloc));
-    segments.push(names.own)?;
-    if let Some(item) = names.taken {
-        segments.push(item)?;
+        contents: ModContents::Inline(Seq::from_vec(numbers_at(maker, lines, first, depth))),
     }
-    Ok(ModPath { kind, segments })
 }
 
-/// The path of a name that stands alone.
-fn path_to(alloc: Global, name: Name) -> Result<ModPath, AllocError> {
-    let mut segments = Seq::from_vec(Vec::new(alloc));
-    segments.push(name)?;
-    Ok(ModPath {
-        kind: PathKind::Plain,
-        segments,
-    })
+/// The path of a name, and of another one behind it if there is one.
+fn path_to(maker: &mut Maker, kind: PathKind, name: Name, behind: Option<Name>) -> ModPath {
+    let mut segments = Seq::from_vec(Vec::new(maker.alloc));
+    maker.keep(segments.push(name));
+    if let Some(behind) = behind {
+        maker.keep(segments.push(behind));
+    }
+    ModPath { kind, segments }
 }
 
 /// The list of an attribute, all of whose paths name one macro.
-fn listed_paths(alloc: Global, derived: Name) -> Result<Seq<(ModPath, SyntaxContext)>, AllocError> {
-    let mut paths = Seq::from_vec(Vec::new(alloc));
+fn listed_paths(maker: &mut Maker, derived: Name) -> Seq<(ModPath, SyntaxContext)> {
+    let mut paths = Seq::from_vec(Vec::new(maker.alloc));
     for _ in 0..DERIVES {
-        paths.push((path_to(alloc, derived)?, SyntaxContext(0)))?;
+        let path = path_to(maker, PathKind::Plain, derived, None);
+        maker.keep(paths.push((path, SyntaxContext(0))));
     }
-    Ok(paths)
+    paths
 }
 
-/// An attribute of a name, with a list where a macro is derived.
-fn attribute(alloc: Global, name: Name, derived: Option<Name>) -> Result<Attr, AllocError> {
-    let paths = match derived {
-        Some(derived) => Some(listed_paths(alloc, derived)?),
+/// What an attribute lists, where a macro is derived.
+fn derive_list(maker: &mut Maker, derived: Option<Name>) -> Option<Seq<(ModPath, SyntaxContext)>> {
+    match derived {
+        Some(derived) => Some(listed_paths(maker, derived)),
         None => None,
-    };
-    Ok(Attr {
-        path: path_to(alloc, name)?,
+    }
+}
+
+/// Attributes of which one has a name, with a list where a macro is derived.
+fn one_attribute(maker: &mut Maker, name: Name, derived: Option<Name>) -> AttrsOrCfg {
+    let mut list = no_attributes(maker.alloc);
+    let attr = Attr {
+        path: path_to(maker, PathKind::Plain, name, None),
         input: None,
         ctxt: SyntaxContext(0),
-        paths,
-    })
+        paths: derive_list(maker, derived),
+    };
+    maker.keep(list.push(attr));
+    AttrsOrCfg::Enabled(Attrs { list })
 }
 
 /// The attributes of an item, if it has one.
-fn attributes_of(alloc: Global, names: Names) -> Result<Option<AttrsOrCfg>, AllocError> {
-    let Some(name) = names.attribute else {
-        return Ok(None);
-    };
-    let mut list = Seq::from_vec(Vec::new(alloc));
-    list.push(attribute(alloc, name, names.taken)?)?;
-    Ok(Some(AttrsOrCfg::Enabled(Attrs { list })))
+fn attributes_of(maker: &mut Maker, names: Names) -> Option<AttrsOrCfg> {
+    match names.attribute {
+        Some(name) => Some(one_attribute(maker, name, names.taken)),
+        None => None,
+    }
 }
 
 /// The kind of an import: a glob has no name but the module's.
@@ -232,116 +226,112 @@ fn import_kind(names: Names) -> ImportKind {
 }
 
 /// The list of one import.
-fn one_import(alloc: Global, names: Names) -> Result<Seq<UseImport>, AllocError> {
-    let path = path_of(alloc, PathKind::Crate, names)?;
-    let mut imports = Seq::from_vec(Vec::new(alloc));
-    imports.push(UseImport {
+fn one_import(maker: &mut Maker, names: Names) -> Seq<UseImport> {
+    let mut imports = Seq::from_vec(Vec::new(maker.alloc));
+    let import = UseImport {
         idx: 0,
-        path,
+        path: path_to(maker, PathKind::Crate, names.own, names.taken),
         kind: import_kind(names),
         alias: None,
-    })?;
-    Ok(imports)
+    };
+    maker.keep(imports.push(import));
+    imports
 }
 
 /// A call of a macro.
-fn call_kind(alloc: Global, kind: PathKind, names: Names) -> Result<ModItemKind, AllocError> {
-    Ok(ModItemKind::MacroCall {
-        path: path_of(alloc, kind, names)?,
+fn call_kind(maker: &mut Maker, kind: PathKind, name: Name) -> ModItemKind {
+    ModItemKind::MacroCall {
+        path: path_to(maker, kind, name, None),
         expand_to: ExpandTo::Items,
         ctxt: SyntaxContext(0),
-    })
+    }
 }
 
 /// What the item of the line of a number is.
 fn kind_of(
-    alloc: Global,
+    maker: &mut Maker,
     lines: &[Line],
     number: usize,
     line: Line,
     names: Names,
-) -> Result<ModItemKind, AllocError> {
+) -> ModItemKind {
     match line.item {
         Item::Module(_) => {
             let first = number.saturating_add(1);
-            module_kind(alloc, lines, first, line.depth.saturating_add(1), names.own)
+            module_kind(maker, lines, first, line.depth.saturating_add(1), names.own)
         }
-        Item::Plain { kind, seen, .. } => Ok(plain_kind(kind, names.own, visibility(seen))),
-        Item::Import { seen, .. } => Ok(ModItemKind::Use {
-            imports: one_import(alloc, names)?,
+        Item::Plain { kind, seen, .. } => plain_kind(kind, names.own, visibility(seen)),
+        Item::Import { seen, .. } => ModItemKind::Use {
+            imports: one_import(maker, names),
             visibility: visibility(seen),
-        }),
-        Item::Deriving { .. } => { Ok(plain_kind(Kind::Struct, names.own, RawVisibility::Public)) }
-        Item::Macro(_) => Ok(ModItemKind::MacroRules { name: names.own }),
-        Item::Builtin(_) | Item::MacroItem(_) => Ok(ModItemKind::Macro2 {
+        },
+        Item::Deriving { .. } => plain_kind(Kind::Struct, names.own, RawVisibility::Public),
+        Item::Macro(_) => ModItemKind::MacroRules { name: names.own },
+        Item::Builtin(_) | Item::MacroItem(_) => ModItemKind::Macro2 {
             name: names.own,
             visibility: RawVisibility::Public,
-        }),
-        Item::Call(_) => call_kind(alloc, PathKind::Plain, names),
-        Item::CallFromRoot(_) => call_kind(alloc, PathKind::Crate, names),
+        },
+        Item::Call(_) => call_kind(maker, PathKind::Plain, names.own),
+        Item::CallFromRoot(_) => call_kind(maker, PathKind::Crate, names.own),
     }
 }
 
 /// Adds the item of the next line, where the first has this number.
 fn add_item(
-    alloc: Global,
+    maker: &mut Maker,
     items: &mut Vec<ItemNode>,
     first: usize,
     lines: &[Line],
     line: Line,
     names: Names,
-) -> Result<(), AllocError> {
+) {
     let number = items.len();
-    let kind = kind_of(alloc, lines, number, line, names)?;
-    items.push(ItemNode {
+    let node = ItemNode {
         ast_id: FileAstId(first.saturating_add(number)),
-        attrs: attributes_of(alloc, names)?,
-        kind,
-    })?;
-    Ok(())
+        attrs: attributes_of(maker, names),
+        kind: kind_of(maker, lines, number, line, names),
+    };
+    if items.push(node).is_err() {
+        maker.refuse();
+    }
 }
 
 /// The items of a text, under names of a session, numbered from a first number on.
 fn named_items(
-    alloc: Global,
+    maker: &mut Maker,
     session: &mut Interner,
     first: usize,
     lines: &[Line],
-) -> Result<Vec<ItemNode>, AllocError> {
-    let mut items = Vec::new(alloc);
+) -> Vec<ItemNode> {
+    let mut items = Vec::new(maker.alloc);
     for line in lines {
-        let names = names_of(alloc, session, line.item)?;
-        add_item(alloc, &mut items, first, lines, *line, names)?;
+        let names = names_of(maker, session, line.item);
+        add_item(maker, &mut items, first, lines, *line, names);
     }
-    Ok(items)
+    items
 }
 
 /// The items of a text without imports, each with its number as its name.
-fn numbered_items(alloc: Global, lines: &[Line]) -> Result<Vec<ItemNode>, AllocError> {
-    let mut items = Vec::new(alloc);
+fn numbered_items(maker: &mut Maker, lines: &[Line]) -> Vec<ItemNode> {
+    let mut items = Vec::new(maker.alloc);
     for line in lines {
         let names = Names {
             own: Name(items.len()),
             taken: None,
             attribute: None,
         };
-        add_item(alloc, &mut items, 0, lines, *line, names)?;
+        add_item(maker, &mut items, 0, lines, *line, names);
     }
-    Ok(items)
+    items
 }
 
 /// These items in a file with these attributes.
-fn in_file(
-    alloc: Global,
-    lines: &[Line],
-    items: Vec<ItemNode>,
-    list: Seq<Attr>,
-) -> Result<Nodes, AllocError> {
-    Ok(Nodes {
-        top: numbers_at(alloc, lines, 0, 0)?,
+fn in_file(maker: &mut Maker, lines: &[Line], items: Vec<ItemNode>, list: Seq<Attr>) -> Nodes {
+    Nodes {
+        top: numbers_at(maker, lines, 0, 0),
         attrs: AttrsOrCfg::Enabled(Attrs { list }),
         items,
-    })
+    }
 }
 
 /// No attributes.
@@ -349,24 +339,34 @@ fn no_attributes(alloc: Global) -> Seq<Attr> {
     Seq::from_vec(Vec::new(alloc))
 }
 
-/// The attribute of a file whose expansions may nest as deep as there may be rounds.
-fn limit_attribute(alloc: Global) -> Result<Attr, AllocError> {
-    Ok(Attr {
-        path: path_to(alloc, sym::RECURSION_LIMIT)?,
-        input: Some(AttrInput::Str(Text::from_str(alloc, "8192")?)),
+/// How deep expansions may nest: as deep as there may be rounds.
+fn limit_text(maker: &mut Maker) -> Option<AttrInput> {
+    match Text::from_str(maker.alloc, "8192") {
+        Ok(text) => Some(AttrInput::Str(text)),
+        Err(_) => {
+            maker.refuse();
+            None
+        }
+    }
+}
+
+/// The attributes of a file whose expansions may nest so deep.
+fn limit_attributes(maker: &mut Maker) -> Seq<Attr> {
+    let mut list = no_attributes(maker.alloc);
+    let attr = Attr {
+        path: path_to(maker, PathKind::Plain, sym::RECURSION_LIMIT, None),
+        input: limit_text(maker),
         ctxt: SyntaxContext(0),
         paths: None,
-    })
+    };
+    maker.keep(list.push(attr));
+    list
 }
 
 /// What the tree of a text without imports is made of. The names are numbers.
-pub fn numbered_nodes(alloc: Global, lines: &[Line]) -> Result<Nodes, AllocError> {
-    in_file(
-        alloc,
-        lines,
-        numbered_items(alloc, lines)?,
-        no_attributes(alloc),
-    )
+pub fn numbered_nodes(maker: &mut Maker, lines: &[Line]) -> Nodes {
+    let items = numbered_items(maker, lines);
+    in_file(maker, lines, items, no_attributes(maker.alloc))
 }
 
 /// The tree of these items.
@@ -379,34 +379,37 @@ pub fn tree_of(nodes: Nodes) -> io::Result<ItemTree> {
 }
 
 /// The tree of a crate's text, under names of a session.
-pub fn named_tree(alloc: Global, session: &mut Interner, lines: &[Line]) -> io::Result<ItemTree> {
-    let items = named_items(alloc, session, 0, lines)?;
-    let mut attributes = no_attributes(alloc);
-    attributes.push(limit_attribute(alloc)?)?;
-    tree_of(in_file(alloc, lines, items, attributes)?)
+pub fn named_tree(
+    maker: &mut Maker,
+    session: &mut Interner,
+    lines: &[Line],
+) -> io::Result<ItemTree> {
+    let items = named_items(maker, session, 0, lines);
+    let attributes = limit_attributes(maker);
+    tree_of(in_file(maker, lines, items, attributes))
 }
 
 /// The tree of what the call of a number gives. Its items are numbered from the next number on, so
 /// that each call has a number of its own.
 fn given_tree(
-    alloc: Global,
+    maker: &mut Maker,
     session: &mut Interner,
     call: usize,
     lines: &[Line],
 ) -> io::Result<ItemTree> {
-    let items = named_items(alloc, session, call.saturating_add(1), lines)?;
-    tree_of(in_file(alloc, lines, items, no_attributes(alloc))?)
+    let items = named_items(maker, session, call.saturating_add(1), lines);
+    tree_of(in_file(maker, lines, items, no_attributes(maker.alloc)))
 }
 
-/// The trees of these lines, each of which is what the call of its place gives.
-pub fn trees_of(
-    alloc: Global,
+/// Adds the trees of these lines, each of which is what the call of its place gives.
+pub fn add_trees(
+    maker: &mut Maker,
     session: &mut Interner,
     lines: &[Line],
-) -> io::Result<Vec<ItemTree>> {
-    let mut trees = Vec::new(alloc);
+    trees: &mut Vec<ItemTree>,
+) -> io::Result<()> {
     for (call, line) in lines.chunks(1).enumerate() {
-        trees.push(given_tree(alloc, session, call, line)?)?;
+        trees.push(given_tree(maker, session, call, line)?)?;
     }
-    Ok(trees)
+    Ok(())
 }

@@ -1,5 +1,6 @@
 //! How long item trees take to be made, of items that are numbered in the order of the text.
 
+use crate::maker::Maker;
 use crate::report::{Entry, print_report};
 use crate::shape::{Plan, Shape, lines_of};
 use crate::text::Line;
@@ -43,12 +44,23 @@ static REPORT: [Entry; 5] = [
     Entry::Ratio("1,000,000 items to 100,000", 2, 1),
 ];
 
+/// Adds what so many trees of a text are made of.
+fn add_nodes(
+    maker: &mut Maker,
+    lines: &[Line],
+    trees: u32,
+    all: &mut Vec<Nodes>,
+) -> Result<(), AllocError> {
+    for _ in 0..trees {
+        all.push(numbered_nodes(maker, lines))?;
+    }
+    maker.end()
+}
+
 /// What so many trees of a text are made of.
 fn nodes_of(alloc: Global, lines: &[Line], trees: u32) -> Result<Vec<Nodes>, AllocError> {
     let mut all = Vec::new(alloc);
-    for _ in 0..trees {
-        all.push(numbered_nodes(alloc, lines)?)?;
-    }
+    add_nodes(&mut Maker::new(alloc), lines, trees, &mut all)?;
     Ok(all)
 }
 
