@@ -23,7 +23,7 @@ mod words;
 pub use fault::{Fault, ReadFault};
 pub use items::{ReadEnum, ReadFile};
 pub use lines::print;
-pub use named::{find, vectors};
+pub use named::{Listed, find, vectors};
 pub use script::{
     ALONE, BuiltinAttrText, BuiltinDeriveText, BuiltinText, CALL, CallText, CalledBy, ChainText,
     CrateText, DependencyText, StyleText, Vector,

@@ -15,180 +15,350 @@ const LATE: CallText = CallText {
     ..CALL
 };
 
-/// The vectors in byte order of their names.
-static VECTORS: [Vector; 19] = [
-    Vector {
+static ATTRS: Vector = Vector {
+    name: "attrs",
+    files: &[r#"#![recursion_limit = "4"] #![no_core] #![no_std] #![feature(register_tool)]"#],
+    ..ALONE
+};
+
+static CHAIN_VECTOR: Vector = Vector {
+    name: "chain",
+    files: &[CHAIN],
+    calls: &[CallText {
+        ast_id: 2,
+        gives: "pub struct N;",
+        ..LATE
+    }],
+    ..ALONE
+};
+
+static CIRCULAR: Vector = Vector {
+    name: "circular",
+    files: &[
+        r#"#[path = "foo.rs"] mod foo;"#,
+        r#"#[path = "foo.rs"] mod foo;"#,
+    ],
+    paths: &[("foo.rs", 1)],
+    ..ALONE
+};
+
+static CYCLE: Vector = Vector {
+    name: "cycle",
+    files: &[
+        "mod a { pub use crate::b::*; pub struct X; }
+        mod b { pub use crate::a::*; pub struct Y; }",
+    ],
+    ..ALONE
+};
+
+static EMPTY: Vector = Vector {
+    name: "empty",
+    files: &[""],
+    ..ALONE
+};
+
+static EXCUSED: Vector = Vector {
+    name: "excused",
+    files: &["extern crate gone as g; use g::X; use ::g::Y; use self::g::Z;"],
+    ..ALONE
+};
+
+static FALLBACK: Vector = Vector {
+    name: "fallback",
+    files: &["#[nope] #[nix] pub struct S;"],
+    ..ALONE
+};
+
+static FIELDS: Vector = Vector {
+    name: "fields",
+    files: &["pub struct Q(pub u8, pub(crate) u8);"],
+    ..ALONE
+};
+
+static FOLLOW: Vector = Vector {
+    name: "follow",
+    files: &[
+        "mod t { pub struct N; pub macro late {} }
+        mod s { pub use crate::t::*; crate::t::late!(); } use s::*;",
+    ],
+    calls: &[CallText {
+        ast_id: 5,
+        gives: "pub struct N;",
+        ..LATE
+    }],
+    ..ALONE
+};
+
+static GLOB: Vector = Vector {
+    name: "glob",
+    files: &["mod a { pub struct S; } use a::*;"],
+    ..ALONE
+};
+
+static LIST: Vector = Vector {
+    name: "list",
+    files: &[
+        "mod p { pub use crate::m::*; }
+        mod t { pub struct A; pub struct B; }
+        mod m { pub struct A; pub use crate::t::*; }",
+    ],
+    ..ALONE
+};
+
+static MODULE_MACRO: Vector = Vector {
+    name: "module-macro",
+    files: &["mod m { macro_rules! foo {} } use m::foo as bar;"],
+    ..ALONE
+};
+
+static PARTIAL: Vector = Vector {
+    name: "partial",
+    files: &[
+        "pub macro one {} pub macro two {}
+        mod s { pub trait Q {} crate::one!(); } use s::Q;",
+    ],
+    calls: &[
+        CallText {
+            ast_id: 4,
+            gives: "pub fn Q() {} crate::two!();",
+            ..LATE
+        },
+        CallText {
+            file: HirFileId::Macro(MacroCallId(0)),
+            of: MacroId::Macro2(Macro2Id(1)),
+            gives: "pub macro Q {}",
+            ..LATE
+        },
+    ],
+    ..ALONE
+};
+
+static PLAIN: Vector = Vector {
+    name: "plain",
+    files: &["mod a { pub struct S; } use a::S; use a::T;"],
+    ..ALONE
+};
+
+static PRIVATE: Vector = Vector {
+    name: "private",
+    files: &["mod a { pub struct T(u8); } use a::*;"],
+    ..ALONE
+};
+
+static ROUNDS: Vector = Vector {
+    name: "rounds",
+    files: &[r#"#![recursion_limit = "4294967295"] pub macro more {} crate::more!();"#],
+    chain: Some(ChainText {
+        first: CallText {
+            gives: "crate::more!();",
+            ..LATE
+        },
+        ast_id: 0,
+        length: 10_000,
+        last: "crate::more!();",
+    }),
+    ..ALONE
+};
+
+static TARGETS: Vector = Vector {
+    name: "targets",
+    files: &[
+        "mod t { pub mod q { pub struct A; } } pub macro late {}
+        mod s { pub use crate::t::*; crate::late!(); } use s::q::*;",
+    ],
+    calls: &[CallText {
+        ast_id: 6,
+        gives: "pub mod q { pub struct B; } pub fn q() {}",
+        ..LATE
+    }],
+    ..ALONE
+};
+
+static TEXTUAL_USE: Vector = Vector {
+    name: "textual-use",
+    files: &["macro_rules! foo {} use foo as bar;"],
+    ..ALONE
+};
+
+static UNDERSCORE: Vector = Vector {
+    name: "underscore",
+    files: &[
+        "pub trait Tr {} mod a {} mod b {}
+        pub(in crate::a) use Tr as _;
+        pub(in crate::b) use Tr as _;",
+    ],
+    ..ALONE
+};
+
+/// The scripted workspaces that have names.
+#[derive(Clone, Copy)]
+enum Which {
+    Attrs,
+    Circular,
+    Cycle,
+    Empty,
+    Excused,
+    Fallback,
+    Fields,
+    Glob,
+    List,
+    ModuleMacro,
+    Plain,
+    Private,
+    TextualUse,
+    Underscore,
+    Calling(Calling),
+}
+
+/// Those in which macros are called.
+#[derive(Clone, Copy)]
+enum Calling {
+    Chain,
+    Follow,
+    Partial,
+    Rounds,
+    Targets,
+}
+
+/// A name, and the scripted workspace that has it.
+#[derive(Clone, Copy)]
+pub struct Listed {
+    pub name: &'static str,
+    which: Which,
+}
+
+/// The names of the vectors, in byte order.
+static VECTORS: [Listed; 19] = [
+    Listed {
         name: "attrs",
-        files: &[r#"#![recursion_limit = "4"] #![no_core] #![no_std] #![feature(register_tool)]"#],
-        ..ALONE
+        which: Which::Attrs,
     },
-    Vector {
+    Listed {
         name: "chain",
-        files: &[CHAIN],
-        calls: &[CallText {
-            ast_id: 2,
-            gives: "pub struct N;",
-            ..LATE
-        }],
-        ..ALONE
+        which: Which::Calling(Calling::Chain),
     },
-    Vector {
+    Listed {
         name: "circular",
-        files: &[
-            r#"#[path = "foo.rs"] mod foo;"#,
-            r#"#[path = "foo.rs"] mod foo;"#,
-        ],
-        paths: &[("foo.rs", 1)],
-        ..ALONE
+        which: Which::Circular,
     },
-    Vector {
+    Listed {
         name: "cycle",
-        files: &[
-            "mod a { pub use crate::b::*; pub struct X; }
-            mod b { pub use crate::a::*; pub struct Y; }",
-        ],
-        ..ALONE
+        which: Which::Cycle,
     },
-    Vector {
+    Listed {
         name: "empty",
-        files: &[""],
-        ..ALONE
+        which: Which::Empty,
     },
-    Vector {
+    Listed {
         name: "excused",
-        files: &["extern crate gone as g; use g::X; use ::g::Y; use self::g::Z;"],
-        ..ALONE
+        which: Which::Excused,
     },
-    Vector {
+    Listed {
         name: "fallback",
-        files: &["#[nope] #[nix] pub struct S;"],
-        ..ALONE
+        which: Which::Fallback,
     },
-    Vector {
+    Listed {
         name: "fields",
-        files: &["pub struct Q(pub u8, pub(crate) u8);"],
-        ..ALONE
+        which: Which::Fields,
     },
-    Vector {
+    Listed {
         name: "follow",
-        files: &[
-            "mod t { pub struct N; pub macro late {} }
-            mod s { pub use crate::t::*; crate::t::late!(); } use s::*;",
-        ],
-        calls: &[CallText {
-            ast_id: 5,
-            gives: "pub struct N;",
-            ..LATE
-        }],
-        ..ALONE
+        which: Which::Calling(Calling::Follow),
     },
-    Vector {
+    Listed {
         name: "glob",
-        files: &["mod a { pub struct S; } use a::*;"],
-        ..ALONE
+        which: Which::Glob,
     },
-    Vector {
+    Listed {
         name: "list",
-        files: &[
-            "mod p { pub use crate::m::*; }
-            mod t { pub struct A; pub struct B; }
-            mod m { pub struct A; pub use crate::t::*; }",
-        ],
-        ..ALONE
+        which: Which::List,
     },
-    Vector {
+    Listed {
         name: "module-macro",
-        files: &["mod m { macro_rules! foo {} } use m::foo as bar;"],
-        ..ALONE
+        which: Which::ModuleMacro,
     },
-    Vector {
+    Listed {
         name: "partial",
-        files: &[
-            "pub macro one {} pub macro two {}
-            mod s { pub trait Q {} crate::one!(); } use s::Q;",
-        ],
-        calls: &[
-            CallText {
-                ast_id: 4,
-                gives: "pub fn Q() {} crate::two!();",
-                ..LATE
-            },
-            CallText {
-                file: HirFileId::Macro(MacroCallId(0)),
-                of: MacroId::Macro2(Macro2Id(1)),
-                gives: "pub macro Q {}",
-                ..LATE
-            },
-        ],
-        ..ALONE
+        which: Which::Calling(Calling::Partial),
     },
-    Vector {
+    Listed {
         name: "plain",
-        files: &["mod a { pub struct S; } use a::S; use a::T;"],
-        ..ALONE
+        which: Which::Plain,
     },
-    Vector {
+    Listed {
         name: "private",
-        files: &["mod a { pub struct T(u8); } use a::*;"],
-        ..ALONE
+        which: Which::Private,
     },
-    Vector {
+    Listed {
         name: "rounds",
-        files: &[r#"#![recursion_limit = "4294967295"] pub macro more {} crate::more!();"#],
-        chain: Some(ChainText {
-            first: CallText {
-                gives: "crate::more!();",
-                ..LATE
-            },
-            ast_id: 0,
-            length: 10_000,
-            last: "crate::more!();",
-        }),
-        ..ALONE
+        which: Which::Calling(Calling::Rounds),
     },
-    Vector {
+    Listed {
         name: "targets",
-        files: &[
-            "mod t { pub mod q { pub struct A; } } pub macro late {}
-            mod s { pub use crate::t::*; crate::late!(); } use s::q::*;",
-        ],
-        calls: &[CallText {
-            ast_id: 6,
-            gives: "pub mod q { pub struct B; } pub fn q() {}",
-            ..LATE
-        }],
-        ..ALONE
+        which: Which::Calling(Calling::Targets),
     },
-    Vector {
+    Listed {
         name: "textual-use",
-        files: &["macro_rules! foo {} use foo as bar;"],
-        ..ALONE
+        which: Which::TextualUse,
     },
-    Vector {
+    Listed {
         name: "underscore",
-        files: &[
-            "pub trait Tr {} mod a {} mod b {}
-            pub(in crate::a) use Tr as _;
-            pub(in crate::b) use Tr as _;",
-        ],
-        ..ALONE
+        which: Which::Underscore,
     },
 ];
 
-/// All vectors, in byte order of their names.
-pub fn vectors() -> &'static [Vector<'static>]
+/// The vector with the long text.
+fn chain() -> &'static Vector<'static> {
+    &CHAIN_VECTOR
+}
+
+/// A vector in which macros are called.
+fn calling_vector(which: Calling) -> &'static Vector<'static> {
+    match which {
+        Calling::Chain => chain(),
+        Calling::Follow => &FOLLOW,
+        Calling::Partial => &PARTIAL,
+        Calling::Rounds => &ROUNDS,
+        Calling::Targets => &TARGETS,
+    }
+}
+
+/// The vector that has a name. Each is a value of its own, since what one function reads of a table
+/// of all of them costs the prover much more.
+fn vector_of(which: Which) -> &'static Vector<'static> {
+    match which {
+        Which::Attrs => &ATTRS,
+        Which::Circular => &CIRCULAR,
+        Which::Cycle => &CYCLE,
+        Which::Empty => &EMPTY,
+        Which::Excused => &EXCUSED,
+        Which::Fallback => &FALLBACK,
+        Which::Fields => &FIELDS,
+        Which::Glob => &GLOB,
+        Which::List => &LIST,
+        Which::ModuleMacro => &MODULE_MACRO,
+        Which::Plain => &PLAIN,
+        Which::Private => &PRIVATE,
+        Which::TextualUse => &TEXTUAL_USE,
+        Which::Underscore => &UNDERSCORE,
+        Which::Calling(which) => calling_vector(which),
+    }
+}
+
+/// The names of all vectors, in byte order.
+pub fn vectors() -> &'static [Listed]
     ensures { map (λ v. v.name.now) result.now ≡ vector_names }
 {
     VECTORS.as_slice()
 }
 
 /// The first of some vectors that has this name.
-fn first_named(vectors: &'static [Vector<'static>], name: &str) -> Option<&'static Vector<'static>>
+fn first_named(vectors: &'static [Listed], name: &str) -> Option<&'static Vector<'static>>
     ensures { is_some result ≡ list_any (λ v. bytes_eq v.name.now name.now) vectors.now }
 {
     for vector in vectors {
         if vector.name == name {
-            return Some(vector);
+            return Some(vector_of(vector.which));
         }
     }
     None
