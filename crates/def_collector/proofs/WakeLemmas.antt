@@ -1,9 +1,18 @@
 -- A watch leaves the state.
-use Rattle.std.proofs.Common.{◌≡◌, ap}
+use Rattle.std.proofs.Common.{◌≡◌, ap, subst, sym}
 use Rattle.def_interner.specs.declared.interner.Interner.{Interner}
 use Rattle.def_sources.specs.Tables.{Table}
 use Rattle.def_collector.specs.declared.collector.DefCollector.{DefCollector}
 use Rattle.def_collector.specs.Collector.{state_of}
+use Rattle.def_map.specs.Oracle.{Oracle}
+use Rattle.def_laws.specs.Turns.{Moves}
 
 pub with_table : (session : Interner) (c : DefCollector) (table : Table) → table ≡ c.table → state_of (record c { table = table }) session ≡ state_of c session
 with_table session c table same = ap (λ t. state_of (record c { table = t }) session) same
+
+-- what moved has moved too where its table is watched no longer
+pub moved_unwatched : (oracle : Oracle) (session : Interner) (before at after : DefCollector) (table : Table) → at ≡ before → table ≡ after.table → Moves oracle (state_of at session) (state_of after session)
+    → Moves oracle (state_of before session) (state_of (record after { table = table }) session)
+moved_unwatched oracle session before at after table first same moves =
+    subst (λ k. Moves oracle (state_of k session) (state_of (record after { table = table }) session)) first
+    (subst (λ s. Moves oracle (state_of at session) s) (sym (with_table session after table same)) moves)

@@ -9,8 +9,7 @@ ghost use Rattle.def_laws.specs.Turns.{Moves, turns_left};
 
 use crate::collector::DefCollector;
 use crate::imports::{drop_resolved, entries, try_import};
-use def_ids::ModuleId;
-use def_imports::{ImportAt, Turns, Watchers};
+use def_imports::{ImportAt, Waking, Watchers};
 use def_interner::Interner;
 use def_map::SourceDatabase;
 use def_steps::{ImportDirective, ImportList};
@@ -27,35 +26,40 @@ pub fn record_woken<'a, D: SourceDatabase>(
         [] (state_of collector.old session.now) [] (state_of collector.new session.now)) }
     ensures turns { OnOk result (turns_left (state_of collector.new session.now) ≤ turns_left (state_of collector.old session.now)) }
 {
-    let unresolved = collector.unresolved_imports.len();
-    let indeterminate = collector.indeterminate_imports.len();
-    let mut turns = Turns::new(collector.alloc, unresolved);
-    turns.wake_list(ImportList::Indeterminate, indeterminate)?;
-    let imports = unresolved.saturating_add(indeterminate);
-    let mut watchers = Watchers::new(collector.alloc, imports)?;
+    let mut waking = Waking::new(
+        collector.alloc,
+        collector.unresolved_imports.len(),
+        collector.indeterminate_imports.len(),
+    )?;
     collector.table.watch();
-    'woken: while record_next(collector, db, session, &mut turns, &mut watchers)? {}
+    'woken: while record_next(collector, db, session, &mut waking)? {}
     collector.table.unwatch();
     drop_resolved(collector);
     Ok(())
 }
 
-/// Records the next import that woke and is ready. Answers whether there is one.
+/// Records the next import that woke and is ready, and wakes those that watch what changed with it, or
+/// all of them where the prelude did. Answers whether there is one.
 fn record_next<'a, D: SourceDatabase>(
     collector: &mut DefCollector<'a>,
     db: &D,
     session: &Interner,
-    turns: &mut Turns,
-    watchers: &mut Watchers,
+    waking: &mut Waking,
 ) -> Result<bool, AllocError>
     ensures moved { IfOk result (λ moved. moved ≡ true →
         Moves (D.oracle db.now) (state_of collector.old session.now) (state_of collector.new session.now)) }
     ensures same { IfOk result (λ moved. moved ≡ false → collector.new ≡ collector.old) }
 {
-    'turns: while let Some(import) = turns.next() {
+    'turns: while let Some(import) = waking.turns.next() {
         let prelude = collector.def_map.prelude;
-        if try_woken(collector, db, session, watchers, import)? {
-            wake(collector, prelude, turns, watchers)?;
+        if try_woken(collector, db, session, &mut waking.watchers, import)? {
+            waking.wake_changed(&mut collector.table)?;
+            if collector.def_map.prelude != prelude {
+                waking.wake_all(
+                    collector.unresolved_imports.len(),
+                    collector.indeterminate_imports.len(),
+                )?;
+            }
             return Ok(true);
         }
     }
@@ -138,32 +142,4 @@ fn kept_at(collector: &DefCollector, import: ImportAt, count: usize) -> Option<I
     } else {
         None
     }
-}
-
-/// Wakes the imports that watch what changed, and all of them where the prelude did.
-fn wake<'a>(
-    collector: &mut DefCollector<'a>,
-    prelude: Option<ModuleId>,
-    turns: &mut Turns,
-    watchers: &mut Watchers,
-) -> Result<(), AllocError>
-    ensures { collector.new ≡ collector.old }
-{
-    'changed: for changed in collector.table.changed() {
-        watchers.wake(*changed, turns)?;
-    }
-    collector.table.forget_changed();
-    if collector.def_map.prelude != prelude {
-        wake_all(collector, turns)?;
-    }
-    Ok(())
-}
-
-/// Wakes all imports.
-fn wake_all<'a>(collector: &DefCollector<'a>, turns: &mut Turns) -> Result<(), AllocError> {
-    turns.wake_list(ImportList::Unresolved, collector.unresolved_imports.len())?;
-    turns.wake_list(
-        ImportList::Indeterminate,
-        collector.indeterminate_imports.len(),
-    )
 }

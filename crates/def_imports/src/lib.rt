@@ -8,6 +8,7 @@ mod imports;
 mod reads;
 mod room;
 mod turns;
+mod waking;
 mod watchers;
 
 pub use coming::Turns;
@@ -15,4 +16,5 @@ pub use globs::{glob_entries, put_glob};
 pub use imports::{record_named, resolve_import, resolve_import_in_short};
 pub use room::Room;
 pub use turns::ImportAt;
+pub use waking::Waking;
 pub use watchers::Watchers;

@@ -6,4 +6,4 @@ abbrev pub invariant-turns : goal.invariant-turns
 invariant-turns g l = l.collector ≡ l.fn.collector
 
 abbrev pub decreases-turns : goal.decreases-turns
-decreases-turns g l = turns_to_come l.turns
+decreases-turns g l = turns_to_come l.waking.turns
