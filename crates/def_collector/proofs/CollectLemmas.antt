@@ -30,6 +30,11 @@ use Rattle.def_rules.specs.State as rules
 use Rattle.def_rules.specs.Waiting as waits
 use Rattle.def_rules.specs.State.{Setting, State}
 use Rattle.def_rounds.specs.Rounds.{Ends}
+use Rattle.def_interner.specs.declared.interner.Interner.{Interner}
+use Rattle.def_map.specs.Oracle.{Oracle}
+use Rattle.def_collector.specs.Collector.{state_of}
+use Rattle.def_collector.specs.declared.collector.DefCollector.{DefCollector}
+use Rattle.def_laws.specs.Runs.{Leads}
 use Rattle.def_laws.specs.Sound.{IsSoundWith}
 use Rattle.def_laws.proofs.BegunLaws.{begins_sound}
 use Rattle.def_laws.proofs.HeadlineLaws.{answers}
@@ -76,3 +81,8 @@ module _ (w : Setting) (before : Session) (s : State) (same : s ≡ seeded_state
       let ends : Ends w.oracle (first_tasks w.oracle w.seeded w.tree) (started w.oracle w.tree (seeded_state w before)) limit_met t = subst (λ x. Ends w.oracle (first_tasks w.oracle x.map w.tree) (started w.oracle w.tree x) limit_met t) same ended in
       answers w before after answer t limit_met ends.run ends.rounds ends.holds ends.limit ends.rest
       expanded session (none_seeded w.seeded given fresh) (begins_sound w before given fresh) sound (subst (λ x. IsFinished x limit_met answer) reported finished)
+
+-- a run that begins with a session begins with one that is the same
+pub led_from : {oracle : Oracle} {tasks : List rules.Task} {after : State} (collector : DefCollector) (before at : Interner) → at ≡ before
+    → Leads oracle tasks (state_of collector at) [] after → Leads oracle tasks (state_of collector before) [] after
+led_from {oracle = oracle} {tasks = tasks} {after = after} collector before at same led = subst (λ k. Leads oracle tasks (state_of collector k) [] after) same led

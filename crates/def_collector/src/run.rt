@@ -39,7 +39,7 @@ use def_map::{DefMap, LocalDefMap, SourceDatabase};
 use def_parts::{Globs, ModDir, ModDirs, Site};
 use def_rounds::resolution_loop;
 use indexmap::IndexMap;
-use item_tree::{HirFileId, TreeId};
+use item_tree::{HirFileId, ItemTree, TreeId};
 use std::alloc::{AllocError, Global};
 use std::collections::VecDeque;
 
@@ -70,7 +70,6 @@ pub fn collect_defs<D: SourceDatabase>(
     ensures session { AddsLocations (session_of session.old) (session_of session.new) }
 {
     let collector = begin(alloc, db, def_map, tree_id, crate_local)?;
-    make_room_for_items(db, collector.def_map.tree.map, tree_id, session)?;
     let mut run = Run {
         collector,
         db,
@@ -158,16 +157,11 @@ fn room_for<D: SourceDatabase>(db: &D, map: MapId, tree_id: TreeId) -> Room
     }
 }
 
-/// Makes room in the session for the items of the first tree.
-fn make_room_for_items<D: SourceDatabase>(
-    db: &D,
-    map: MapId,
-    tree_id: TreeId,
-    session: &mut Interner,
-) -> Result<(), AllocError>
+/// Makes room in the session for the items of a tree, if there is one.
+fn make_room_for_items(tree: Option<&ItemTree>, session: &mut Interner) -> Result<(), AllocError>
     ensures { session.new ≡ session.old }
 {
-    match db.item_tree(first_tree(db, map, tree_id)) {
+    match tree {
         Some(tree) => session.reserve(tree),
         None => Ok(()),
     }
@@ -219,6 +213,7 @@ fn seed_with_top_level<'a, D: SourceDatabase>(
         let diagnostics = &mut collector.diagnostics;
         return report_disabled(diagnostics, &collector.def_map, tree_id, cfg);
     }
+    make_room_for_items(tree, session)?;
     walk(
         collector,
         db,

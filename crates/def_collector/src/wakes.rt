@@ -85,14 +85,11 @@ fn try_woken<'a, D: SourceDatabase>(
         return Ok(false);
     }
     let count = collector.indeterminate_imports.len();
-    if !try_import(collector, db, session, import)? {
-        watchers.watch(import)?;
-        return Ok(false);
-    }
-    if let Some(kept) = kept_at(collector, import, count) {
+    let moved = try_import(collector, db, session, import)?;
+    if let Some(kept) = kept_at(collector, import, moved, count) {
         watchers.watch(kept)?;
     }
-    Ok(true)
+    Ok(moved)
 }
 
 /// Notes the names that the path of an import reads. Answers whether an import is there.
@@ -127,15 +124,20 @@ fn import_at<'b, 'a>(
     }
 }
 
-/// Where an import stands that was recorded, if more of it may be recorded: behind the ones that were
-/// indeterminate before, or in its place among them.
-fn kept_at(collector: &DefCollector, import: ImportAt, count: usize) -> Option<ImportAt> {
+/// Where an import stands that was tried, if something of it may still be recorded: where it stood if
+/// nothing was, and else behind the ones that were indeterminate before, or in its place among them.
+fn kept_at(
+    collector: &DefCollector,
+    import: ImportAt,
+    moved: bool,
+    count: usize,
+) -> Option<ImportAt> {
     let kept = match import.list {
-        ImportList::Unresolved => ImportAt {
+        ImportList::Unresolved if moved => ImportAt {
             list: ImportList::Indeterminate,
             index: count,
         },
-        ImportList::Indeterminate => import,
+        _ => import,
     };
     if import_at(collector, kept).is_some() {
         Some(kept)
