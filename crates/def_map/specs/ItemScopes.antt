@@ -1,5 +1,10 @@
 -- What is seen of a module's scope.
-use Rattle.std.specs.Prelude.{◌≡◌, ℕ, List, Some, map, drop, slice_get}
+use Rattle.std.specs.Prelude.{◌≡◌, ℕ, Bool, false, List, Option, None, Some, map, drop, slice_get}
+use Rattle.std.specs.Borrow.{Bor}
+use Rattle.indexmap.specs.IndexMap.{IndexMap}
+use Rattle.indexmap.specs.IndexSet.{IndexSet}
+use Rattle.tree_ids.specs.declared.ids.AttrId.{AttrId}
+use Rattle.tree_ids.specs.declared.ids.MacroCallId.{MacroCallId}
 use Rattle.tree_ids.specs.declared.name.Name.{Name}
 use Rattle.def_ids.specs.declared.ids.ModuleId.{ModuleId}
 use Rattle.def_ids.specs.declared.ids.TraitId.{TraitId}
@@ -10,7 +15,11 @@ use Rattle.def_map.specs.declared.def_map.DefMap.{DefMap}
 use Rattle.def_map.specs.declared.item_scope.ItemScope.{ItemScope}
 use Rattle.def_sources.specs.declared.per_ns.PerNs.{PerNs}
 use Rattle.def_map.specs.DefMaps.{state_of, content_of}
-use Rattle.def_modules.specs.MapState.{ModuleState}
+use Rattle.def_modules.specs.declared.module_data.DeriveKey.{DeriveKey}
+use Rattle.def_modules.specs.declared.module_data.DeriveMacroInvocation.{DeriveMacroInvocation}
+use Rattle.def_modules.specs.declared.module_data.Invocation.{Invocation}
+use Rattle.def_modules.specs.MapState.{ModuleState, DeriveState, Position}
+use Rattle.def_modules.specs.ScopeMaps.{derives_of, invoked_of}
 use Rattle.def_sources.specs.PerNs.{per_namespace}
 use Rattle.def_modules.specs.Scopes.{module_state}
 use Rattle.def_sources.specs.Tables.{bound_by}
@@ -26,6 +35,16 @@ scope_content s = bound_by s.table.now
 -- what its module shows beside
 abbrev pub scope_state : ItemScope → ModuleState
 scope_state s = module_state s.module_data.now
+
+-- the calls of a set, if there is one
+abbrev pub invoked_in : {S : Type 0} → Option (Bor (IndexSet Invocation S)) → Position → MacroCallId → Bool
+invoked_in None position call = false
+invoked_in (Some calls) position call = invoked_of calls.now position call
+
+-- the derives of a map, if there is one
+abbrev pub derives_in : {S : Type 0} → Option (Bor (IndexMap DeriveKey DeriveMacroInvocation S)) → Position → AttrId → Option DeriveState
+derives_in None position attr = None
+derives_in (Some derives) position attr = derives_of derives.now position attr
 
 -- what a name means in a module
 abbrev pub meaning : Content Visibility → ModuleId → Name → PerNs

@@ -1,15 +1,17 @@
 //! What is seen of a module's scope.
-ghost use Rattle.std.specs.Prelude.{◌≡◌, reverse};
+ghost use Rattle.std.specs.Prelude.{◌≡◌, reverse, option_copied};
+ghost use Rattle.std.specs.Option.{option_map_or};
 ghost use Rattle.indexmap.specs.IndexMap.{get};
-ghost use Rattle.def_map.specs.ItemScopes.{place_of, scope_content, scope_state, meaning, resolutions_from, unnamed_from};
-ghost use Rattle.def_modules.specs.ScopeMaps.{textual_of, derives_of, invoked_of};
+ghost use Rattle.def_map.specs.ItemScopes.{place_of, scope_content, scope_state, invoked_in, derives_in, meaning, resolutions_from, unnamed_from};
+ghost use Rattle.def_modules.specs.RareParts.{rare_state, no_rare, rare_in};
+ghost use Rattle.def_modules.specs.ScopeMaps.{textual_of};
 
 use def_bindings::{BindingTable, Visibility};
 use def_ids::{
     BuiltinDeriveImplId, ConstId, Def, ExternBlockId, ExternCrateId, ImplId, MacroId, ModuleId,
     TraitId,
 };
-use def_modules::{DeriveKey, DeriveMacroInvocation, Invocation, ModuleData};
+use def_modules::{DeriveKey, DeriveMacroInvocation, Invocation, ModuleData, RareParts};
 use def_paths::{PerNs, Table, bound};
 use indexmap::{IndexMap, IndexSet};
 use item_tree::{Name, Seq};
@@ -51,6 +53,13 @@ impl<'a> ItemScope<'a> {
         }
     }
 
+    /// The rare parts, if one of them is recorded.
+    fn rare(&self) -> Option<&'a RareParts>
+        ensures { option_map_or rare_state (option_copied result) no_rare ≡ rare_in self.now.module_data.now.scope.rare }
+    {
+        self.module_data.scope.rare.as_deref()
+    }
+
     /// The declarations, in order.
     pub fn declarations(&self) -> &'a [Def]
         ensures { result.now ≡ (scope_state self.now).declarations }
@@ -69,7 +78,10 @@ impl<'a> ItemScope<'a> {
     pub fn failed(&self, name: Name) -> bool
         ensures { result ≡ (scope_state self.now).failed name }
     {
-        self.module_data.scope.failed.contains(&name)
+        match self.rare() {
+            Some(rare) => rare.failed.contains(&name),
+            None => false,
+        }
     }
 
     /// The impls, each with whether it is one of a trait.
@@ -83,42 +95,57 @@ impl<'a> ItemScope<'a> {
     pub fn builtin_derive_impls(&self) -> &'a [BuiltinDeriveImplId]
         ensures { result.now ≡ (scope_state self.now).derive_impls }
     {
-        self.module_data.scope.builtin_derive_impls.as_slice()
+        match self.rare() {
+            Some(rare) => rare.builtin_derive_impls.as_slice(),
+            None => &[],
+        }
     }
 
     /// The `extern crate` items.
     pub fn extern_crates(&self) -> &'a [ExternCrateId]
         ensures { result.now ≡ (scope_state self.now).extern_crates }
     {
-        self.module_data.scope.extern_crates.as_slice()
+        match self.rare() {
+            Some(rare) => rare.extern_crates.as_slice(),
+            None => &[],
+        }
     }
 
     /// The extern blocks.
     pub fn extern_blocks(&self) -> &'a [ExternBlockId]
         ensures { result.now ≡ (scope_state self.now).extern_blocks }
     {
-        self.module_data.scope.extern_blocks.as_slice()
+        match self.rare() {
+            Some(rare) => rare.extern_blocks.as_slice(),
+            None => &[],
+        }
     }
 
     /// The constants without a name.
     pub fn unnamed_consts(&self) -> &'a [ConstId]
         ensures { result.now ≡ (scope_state self.now).unnamed_consts }
     {
-        self.module_data.scope.unnamed_consts.as_slice()
+        match self.rare() {
+            Some(rare) => rare.unnamed_consts.as_slice(),
+            None => &[],
+        }
     }
 
-    /// The macro calls, each with its position.
-    pub fn invocations(&self) -> &'a IndexSet<Invocation>
-        ensures { invoked_of result.now ≡ (scope_state self.now).invoked }
+    /// The macro calls, each with its position. Where no rare part is recorded, there is no set.
+    pub fn invocations(&self) -> Option<&'a IndexSet<Invocation>>
+        ensures { invoked_in result ≡ (scope_state self.now).invoked }
     {
-        &self.module_data.scope.invocations
+        let rare = self.rare()?;
+        Some(&rare.invocations)
     }
 
-    /// The derive attributes, each with its call and what its paths gave.
-    pub fn derives(&self) -> &'a IndexMap<DeriveKey, DeriveMacroInvocation>
-        ensures { derives_of result.now ≡ (scope_state self.now).derives }
+    /// The derive attributes, each with its call and what its paths gave. Where no rare part is
+    /// recorded, there is no map.
+    pub fn derives(&self) -> Option<&'a IndexMap<DeriveKey, DeriveMacroInvocation>>
+        ensures { derives_in result ≡ (scope_state self.now).derives }
     {
-        &self.module_data.scope.derives
+        let rare = self.rare()?;
+        Some(&rare.derives)
     }
 }
 

@@ -14,7 +14,7 @@ pub use def_map::DefMap;
 pub use def_modules::{
     DefMapCrateData, DeriveCall, DeriveHelper, DeriveKey, DeriveMacroInvocation,
     ExternPreludeEntry, Invocation, LocalDefMap, MapData, ModuleData, ModuleOrigin, Position,
-    ScopeData, UnstableFeatures,
+    RareParts, ScopeData, UnstableFeatures,
 };
 pub use item_scope::{ItemScope, Resolutions, UnnamedTraits};
 pub use macro_resolver::MacroResolver;

@@ -1,4 +1,5 @@
 pub mod ScopesLemmas
+pub mod RareLemmas
 pub mod MapsLemmas
 pub mod CrateLemmas
 pub mod LegacyLemmas

@@ -4,6 +4,8 @@ pub mod Updates
 pub mod KeyedLists
 pub mod Equality
 pub mod ScopeMaps
+pub mod RareParts
+pub mod RareLends
 pub mod Scopes
 pub mod Maps
 pub mod Locals

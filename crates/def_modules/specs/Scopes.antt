@@ -1,7 +1,6 @@
 -- What a module shows beside its bindings, and what each write does to it.
 use Rattle.std.specs.Prelude.{List, Bool, true, false, [], ◌∷◌, ◌++◌, ℕ, Option, None, Some}
 use Rattle.indexmap.specs.IndexMap.{get}
-use Rattle.indexmap.specs.IndexSet.{contains}
 use Rattle.tree_ids.specs.declared.ids.AttrId.{AttrId}
 use Rattle.tree_ids.specs.declared.ids.MacroCallId.{MacroCallId}
 use Rattle.tree_ids.specs.declared.name.Name.{Name}
@@ -17,8 +16,9 @@ use Rattle.def_bindings.specs.declared.visibility.Visibility.{Visibility}
 use Rattle.def_modules.specs.declared.module_data.ModuleData.{ModuleData}
 use Rattle.def_modules.specs.declared.module_data.ModuleOrigin.{ModuleOrigin}
 use Rattle.def_modules.specs.MapState.{ModuleState, DeriveState, DeriveCall, Position}
+use Rattle.def_modules.specs.RareParts.{rare_in}
 use Rattle.def_modules.specs.Updates.{set_where}
-use Rattle.def_modules.specs.ScopeMaps.{textual_of, with_first, derives_of, derive_set, invoked_of, invoked_with, derive_called, with_last}
+use Rattle.def_modules.specs.ScopeMaps.{textual_of, with_first, derive_set, invoked_with, derive_called, with_last}
 
 -- what a module shows
 abbrev pub module_state : ModuleData → ModuleState
@@ -30,14 +30,14 @@ module_state m =
       children = get is_name m.children;
       textual = textual_of m.scope.legacy_macros.value;
       declarations = m.scope.declarations;
-      extern_crates = m.scope.extern_crates;
-      unnamed_consts = m.scope.unnamed_consts;
+      extern_crates = (rare_in m.scope.rare).extern_crates;
+      unnamed_consts = (rare_in m.scope.rare).unnamed_consts;
       impls = m.scope.impls;
-      derive_impls = m.scope.builtin_derive_impls;
-      extern_blocks = m.scope.extern_blocks;
-      derives = derives_of m.scope.derives;
-      invoked = invoked_of m.scope.invocations;
-      failed = contains is_name m.scope.failed;
+      derive_impls = (rare_in m.scope.rare).derive_impls;
+      extern_blocks = (rare_in m.scope.rare).extern_blocks;
+      derives = (rare_in m.scope.rare).derives;
+      invoked = (rare_in m.scope.rare).invoked;
+      failed = (rare_in m.scope.rare).failed;
     }
 
 -- a module with nothing in it

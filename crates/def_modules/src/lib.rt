@@ -16,5 +16,5 @@ pub use local_def_map::{ExternPreludeEntry, LocalDefMap};
 pub use map::{DeriveHelper, MapData};
 pub use module_data::{
     DeriveCall, DeriveKey, DeriveMacroInvocation, Invocation, ModuleData, ModuleOrigin, Position,
-    ScopeData,
+    RareParts, ScopeData,
 };

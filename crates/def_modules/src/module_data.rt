@@ -59,17 +59,11 @@ pub struct Invocation {
     pub call: MacroCallId,
 }
 
-/// What a module's scope holds beside its bindings. Lists are in the order of recording.
-pub struct ScopeData {
-    pub declarations: Seq<Def>,
-    /// The textual macros of each name; the last one shadows the others. Modules share those of the
-    /// module around them until one defines its own.
-    pub legacy_macros: Rc<IndexMap<Name, Seq<MacroId>>>,
+/// The parts of a scope that few modules have. Lists are in the order of recording.
+pub struct RareParts {
     pub extern_crates: Seq<ExternCrateId>,
     pub extern_blocks: Seq<ExternBlockId>,
     pub unnamed_consts: Seq<ConstId>,
-    /// Each impl, and whether it is one of a trait.
-    pub impls: Seq<(ImplId, bool)>,
     pub builtin_derive_impls: Seq<BuiltinDeriveImplId>,
     pub derives: IndexMap<DeriveKey, DeriveMacroInvocation>,
     pub invocations: IndexSet<Invocation>,
@@ -77,19 +71,39 @@ pub struct ScopeData {
     pub failed: IndexSet<Name>,
 }
 
+impl Drop for RareParts {
+    fn drop(self) {
+        let RareParts {
+            extern_crates: _,
+            extern_blocks: _,
+            unnamed_consts: _,
+            builtin_derive_impls: _,
+            derives: _,
+            invocations: _,
+            failed: _,
+        } = self;
+    }
+}
+
+/// What a module's scope holds beside its bindings. Lists are in the order of recording.
+pub struct ScopeData {
+    pub declarations: Seq<Def>,
+    /// The textual macros of each name; the last one shadows the others. Modules share those of the
+    /// module around them until one defines its own.
+    pub legacy_macros: Rc<IndexMap<Name, Seq<MacroId>>>,
+    /// Each impl, and whether it is one of a trait.
+    pub impls: Seq<(ImplId, bool)>,
+    /// Made when the first of its parts is recorded.
+    pub rare: Option<Box<RareParts>>,
+}
+
 impl Drop for ScopeData {
     fn drop(self) {
         let ScopeData {
             declarations: _,
             legacy_macros: _,
-            extern_crates: _,
-            extern_blocks: _,
-            unnamed_consts: _,
             impls: _,
-            builtin_derive_impls: _,
-            derives: _,
-            invocations: _,
-            failed: _,
+            rare: _,
         } = self;
     }
 }
@@ -142,6 +156,51 @@ fn room_for(alloc: Global, elements: usize) -> Result<Seq<Def>, AllocError>
     Ok(Seq::from_vec(list))
 }
 
+impl RareParts {
+    ghost use Rattle.def_modules.specs.RareParts.{rare_state, no_rare, rare_called_at};
+
+    /// All parts, with nothing in them. It stands apart, since most writes find the box made.
+    #[inline(never)]
+    fn boxed(alloc: Global) -> Result<Box<RareParts>, AllocError>
+        ensures { IfOk result (λ made. rare_state made.value ≡ no_rare) }
+    {
+        let empty = RareParts {
+            extern_crates: no_items(alloc),
+            extern_blocks: no_items(alloc),
+            unnamed_consts: no_items(alloc),
+            builtin_derive_impls: no_items(alloc),
+            derives: IndexMap::new(alloc),
+            invocations: IndexSet::new(alloc),
+            failed: IndexSet::new(alloc),
+        };
+        Ok(Box::new(alloc, empty)?)
+    }
+
+    /// Records the call of one path of a derive attribute, where the attribute has such a path.
+    fn set_derive_call(&mut self, position: Position, attr: AttrId, pos: usize, call: DeriveCall)
+        ensures { rare_state self.new ≡ rare_called_at position attr pos call (rare_state self.old) }
+    {
+        if let Some(derive) = self.derives.get_mut(&DeriveKey { position, attr }) {
+            derive.set_call(pos, call);
+        }
+    }
+}
+
+impl ScopeData {
+    ghost use Rattle.std.specs.Borrow.{sem};
+    ghost use Rattle.def_modules.specs.RareParts.{rare_state, rare_in};
+    ghost use Rattle.def_modules.specs.RareLends.{LendsRare};
+
+    /// The rare parts, which are made where there are none.
+    fn rare_mut(&mut self) -> Result<&mut Box<RareParts>, AllocError>
+        ensures* writes_back { sem 𝓛 (LendsRare self.entry result) }
+        ensures value { IfOk result (λ rare. rare_state rare.now.value ≡ rare_in self.old.rare) }
+    {
+        let alloc = *self.legacy_macros.as_ref().allocator();
+        self.rare.get_or_try_insert_with(|| RareParts::boxed(alloc))
+    }
+}
+
 impl ModuleData {
     ghost use Rattle.def_modules.specs.Scopes.{module_state, empty_module, declared_in, with_child, with_textual, with_extern_crate, with_extern_block, with_unnamed_const, with_impl, with_derive_impl, with_derive, called_at, with_textual_of, with_invocation, marked_failed};
 
@@ -165,14 +224,8 @@ impl ModuleData {
             scope: ScopeData {
                 declarations,
                 legacy_macros,
-                extern_crates: no_items(alloc),
-                extern_blocks: no_items(alloc),
-                unnamed_consts: no_items(alloc),
                 impls: no_items(alloc),
-                builtin_derive_impls: no_items(alloc),
-                derives: IndexMap::new(alloc),
-                invocations: IndexSet::new(alloc),
-                failed: IndexSet::new(alloc),
+                rare: None,
             },
         }
     }
@@ -241,7 +294,7 @@ impl ModuleData {
     pub(crate) fn define_extern_crate_decl(&mut self, id: ExternCrateId) -> Result<(), AllocError>
         ensures { OnOk result (module_state self.new ≡ with_extern_crate id (module_state self.old)) }
     {
-        self.scope.extern_crates.push(id)?;
+        self.scope.rare_mut()?.extern_crates.push(id)?;
         Ok(())
     }
 
@@ -249,7 +302,7 @@ impl ModuleData {
     pub(crate) fn define_extern_block(&mut self, id: ExternBlockId) -> Result<(), AllocError>
         ensures { OnOk result (module_state self.new ≡ with_extern_block id (module_state self.old)) }
     {
-        self.scope.extern_blocks.push(id)?;
+        self.scope.rare_mut()?.extern_blocks.push(id)?;
         Ok(())
     }
 
@@ -257,7 +310,7 @@ impl ModuleData {
     pub(crate) fn define_unnamed_const(&mut self, id: ConstId) -> Result<(), AllocError>
         ensures { OnOk result (module_state self.new ≡ with_unnamed_const id (module_state self.old)) }
     {
-        self.scope.unnamed_consts.push(id)?;
+        self.scope.rare_mut()?.unnamed_consts.push(id)?;
         Ok(())
     }
 
@@ -276,7 +329,7 @@ impl ModuleData {
     ) -> Result<(), AllocError>
         ensures { OnOk result (module_state self.new ≡ with_derive_impl id (module_state self.old)) }
     {
-        self.scope.builtin_derive_impls.push(id)?;
+        self.scope.rare_mut()?.builtin_derive_impls.push(id)?;
         Ok(())
     }
 
@@ -291,6 +344,7 @@ impl ModuleData {
         ensures { OnOk result (module_state self.new ≡ with_derive position attr (derive_state derive) (module_state self.old)) }
     {
         self.scope
+            .rare_mut()?
             .derives
             .insert(DeriveKey { position, attr }, derive)?;
         Ok(())
@@ -306,8 +360,8 @@ impl ModuleData {
     )
         ensures { module_state self.new ≡ called_at position attr pos call (module_state self.old) }
     {
-        if let Some(derive) = self.scope.derives.get_mut(&DeriveKey { position, attr }) {
-            derive.set_call(pos, call);
+        if let Some(rare) = &mut self.scope.rare {
+            rare.set_derive_call(position, attr, pos, call);
         }
     }
 
@@ -320,6 +374,7 @@ impl ModuleData {
         ensures { OnOk result (module_state self.new ≡ with_invocation position call (module_state self.old)) }
     {
         self.scope
+            .rare_mut()?
             .invocations
             .insert(Invocation { position, call })?;
         Ok(())
@@ -329,7 +384,7 @@ impl ModuleData {
     pub(crate) fn mark_failed(&mut self, name: Name) -> Result<(), AllocError>
         ensures { OnOk result (module_state self.new ≡ marked_failed name (module_state self.old)) }
     {
-        self.scope.failed.insert(name)?;
+        self.scope.rare_mut()?.failed.insert(name)?;
         Ok(())
     }
 }

@@ -4,11 +4,12 @@ ghost use Rattle.std.specs.List.{list_all};
 ghost use Rattle.indexmap.specs.IndexMap.{get};
 ghost use Rattle.def_bindings.specs.declared.visibility.Visibility.TheVariants.{Public};
 ghost use Rattle.def_seed.specs.Fresh.{root_origin, known_tools, fresh_crate, emptied, fresh_by, IsOfFreshCrate};
+ghost use Rattle.def_modules.specs.RareParts.{rare_state, no_rare, rare_in};
 ghost use Rattle.def_modules.specs.Scopes.{module_state, empty_module};
 ghost use Rattle.def_modules.specs.Maps.{crate_state, map_state};
 
 use def_bindings::Visibility;
-use def_modules::{DefMapCrateData, MapData, ModuleData, ModuleOrigin};
+use def_modules::{DefMapCrateData, MapData, ModuleData, ModuleOrigin, RareParts};
 use indexmap::IndexMap;
 use std::hash::Hash;
 use tree_ids::{BlockId, Name, Seq};
@@ -55,6 +56,32 @@ fn is_root_origin(origin: ModuleOrigin, block: Option<BlockId>) -> bool
     }
 }
 
+/// Whether there is nothing in the parts that few modules have.
+fn are_parts_empty(rare: &RareParts) -> bool
+    ensures { IsTrue result ↔ (rare_state rare.now ≡ no_rare) }
+{
+    let tests = [
+        rare.extern_crates.is_empty(),
+        rare.unnamed_consts.is_empty(),
+        rare.builtin_derive_impls.is_empty(),
+        rare.extern_blocks.is_empty(),
+        rare.derives.is_empty(),
+        rare.invocations.is_empty(),
+        rare.failed.is_empty(),
+    ];
+    are_all(&tests)
+}
+
+/// Whether a scope has nothing of the parts that few modules have, be they made or not.
+fn is_rare_empty(rare: &Option<Box<RareParts>>) -> bool
+    ensures { IsTrue result ↔ (rare_in rare.now ≡ no_rare) }
+{
+    match rare {
+        Some(rare) => are_parts_empty(rare),
+        None => true,
+    }
+}
+
 /// Whether a module is the root of such a map with nothing in it.
 fn is_bare_root(root: &ModuleData, block: Option<BlockId>) -> bool
     ensures { IsTrue result ↔ (module_state root.now ≡ empty_module None (root_origin block) Public) }
@@ -66,14 +93,8 @@ fn is_bare_root(root: &ModuleData, block: Option<BlockId>) -> bool
         root.children.is_empty(),
         are_lists_empty(root.scope.legacy_macros.as_ref()),
         root.scope.declarations.is_empty(),
-        root.scope.extern_crates.is_empty(),
-        root.scope.unnamed_consts.is_empty(),
         root.scope.impls.is_empty(),
-        root.scope.builtin_derive_impls.is_empty(),
-        root.scope.extern_blocks.is_empty(),
-        root.scope.derives.is_empty(),
-        root.scope.invocations.is_empty(),
-        root.scope.failed.is_empty(),
+        is_rare_empty(&root.scope.rare),
     ];
     are_all(&tests)
 }

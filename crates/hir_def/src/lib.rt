@@ -36,7 +36,7 @@ pub use def_map::{
 };
 pub use def_modules::{
     DeriveCall, DeriveHelper, DeriveKey, DeriveMacroInvocation, ExternPreludeEntry, Invocation,
-    LocalDefMap, ModuleData, ModuleOrigin, Position, ScopeData, UnstableFeatures,
+    LocalDefMap, ModuleData, ModuleOrigin, Position, RareParts, ScopeData, UnstableFeatures,
 };
 
 // The oracle: its trait, what it is asked and answers, and a database to fill.

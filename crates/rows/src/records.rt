@@ -180,8 +180,10 @@ fn write_derive(
 
 /// Writes the derive attributes of a module.
 fn write_derives(index: usize, scope: ItemScope<'_>, out: &mut Vec<u8>) -> io::Result<()> {
-    for (key, derive) in scope.derives().iter() {
-        write_derive(index, *key, derive.calls.as_slice(), out)?;
+    if let Some(derives) = scope.derives() {
+        for (key, derive) in derives.iter() {
+            write_derive(index, *key, derive.calls.as_slice(), out)?;
+        }
     }
     Ok(())
 }
@@ -222,8 +224,11 @@ fn write_all_helpers(
     scope: ItemScope<'_>,
     out: &mut Vec<u8>,
 ) -> io::Result<()> {
+    let Some(derives) = scope.derives() else {
+        return Ok(());
+    };
     let mut last = None;
-    for key in scope.derives().keys() {
+    for key in derives.keys() {
         if last != Some(key.position) {
             write_helpers(session, map, key.position, out)?;
         }
@@ -253,6 +258,14 @@ fn outside(map: MapId, scope: ItemScope<'_>) -> usize {
     count
 }
 
+/// How many macro calls are recorded in a module.
+fn calls(scope: ItemScope<'_>) -> usize {
+    match scope.invocations() {
+        Some(calls) => calls.len(),
+        None => 0,
+    }
+}
+
 /// Writes what is recorded in a module.
 fn write_scope(
     session: &Interner,
@@ -262,7 +275,7 @@ fn write_scope(
     out: &mut Vec<u8>,
 ) -> io::Result<()> {
     write_count("outside", index, outside(map.id(), scope), out)?;
-    write_count("calls", index, scope.invocations().len(), out)?;
+    write_count("calls", index, calls(scope), out)?;
     write_count("extern-crates", index, scope.extern_crates().len(), out)?;
     write_impls(index, scope.builtin_derive_impls(), out)?;
     write_derives(index, scope, out)?;

@@ -50,7 +50,7 @@ fn collect_many(alloc: Global) -> Result<Collected, Fault> {
 fn ended_with(collected: &Collected, calls: usize) -> bool {
     match collected.def_map.scope(0) {
         Some(root) => {
-            root.invocations().len() == calls
+            root.invocations().is_some_and(|found| found.len() == calls)
                 && collected.outcome.macros.is_empty()
                 && !collected.outcome.limit_met
         }

@@ -67,6 +67,12 @@ fn has_key<K: PartialEq + Copy, V>(entry: Option<(&K, &V)>, key: K) -> bool {
     }
 }
 
+/// The derive attribute of a module at a place.
+fn derive_at(module: &ModuleData, place: usize) -> Option<(&DeriveKey, &DeriveMacroInvocation)> {
+    let rare = module.scope.rare.as_ref()?;
+    rare.derives.get_index(place)
+}
+
 /// Whether the maps of a module have this key at a place.
 fn module_has_at(module: &ModuleData, place: usize, key: usize) -> bool {
     has_key(module.children.get_index(place), Name(key))
@@ -74,7 +80,7 @@ fn module_has_at(module: &ModuleData, place: usize, key: usize) -> bool {
             module.scope.legacy_macros.as_ref().get_index(place),
             Name(key),
         )
-        && has_key(module.scope.derives.get_index(place), derive_of(key))
+        && has_key(derive_at(module, place), derive_of(key))
 }
 
 /// Whether the maps of a crate have this key at a place.

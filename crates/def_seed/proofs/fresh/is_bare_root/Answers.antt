@@ -9,7 +9,7 @@ pub returns : goal.returns
 returns c =
     let m = c.args.root.now in
     let origin = root_origin c.args.block in
-    let tests = c.is_none.result ∷ c.is_root_origin.result ∷ c.is_public.result ∷ c.is_empty.result ∷ c.are_lists_empty.result ∷ c.is_empty-2.result ∷ c.is_empty-3.result ∷ c.is_empty-4.result ∷ c.is_empty-5.result ∷ c.is_empty-6.result ∷ c.is_empty-7.result ∷ c.is_empty-8.result ∷ c.is_empty-9.result ∷ c.is_empty-10.result ∷ [] in (
+    let tests = c.is_none.result ∷ c.is_root_origin.result ∷ c.is_public.result ∷ c.is_empty.result ∷ c.are_lists_empty.result ∷ c.is_empty-2.result ∷ c.is_empty-3.result ∷ c.is_rare_empty.result ∷ [] in (
       λ h.
           let all = all_true tests (sym c.are_all.ensures ∙ h) in
           let bare : IsBare m origin = record {
@@ -19,14 +19,8 @@ returns c =
             children = nil_from_length m.children.entries (c.is_empty.ensures.0 all.1.1.1.0);
             textual = subst HasNone c.as_ref.ensures (c.are_lists_empty.ensures.0 all.1.1.1.1.0);
             declarations = seq_empty m.scope.declarations c.is_empty-2.result c.is_empty-2.ensures all.1.1.1.1.1.0;
-            extern_crates = seq_empty m.scope.extern_crates c.is_empty-3.result c.is_empty-3.ensures all.1.1.1.1.1.1.0;
-            unnamed_consts = seq_empty m.scope.unnamed_consts c.is_empty-4.result c.is_empty-4.ensures all.1.1.1.1.1.1.1.0;
-            impls = seq_empty m.scope.impls c.is_empty-5.result c.is_empty-5.ensures all.1.1.1.1.1.1.1.1.0;
-            derive_impls = seq_empty m.scope.builtin_derive_impls c.is_empty-6.result c.is_empty-6.ensures all.1.1.1.1.1.1.1.1.1.0;
-            extern_blocks = seq_empty m.scope.extern_blocks c.is_empty-7.result c.is_empty-7.ensures all.1.1.1.1.1.1.1.1.1.1.0;
-            derives = nil_from_length m.scope.derives.entries (c.is_empty-8.ensures.0 all.1.1.1.1.1.1.1.1.1.1.1.0);
-            invoked = nil_from_length m.scope.invocations.keys (c.is_empty-9.ensures.0 all.1.1.1.1.1.1.1.1.1.1.1.1.0);
-            failed = nil_from_length m.scope.failed.keys (c.is_empty-10.ensures.0 all.1.1.1.1.1.1.1.1.1.1.1.1.1.0);
+            impls = seq_empty m.scope.impls c.is_empty-3.result c.is_empty-3.ensures all.1.1.1.1.1.1.0;
+            rare = c.is_rare_empty.ensures.0 all.1.1.1.1.1.1.1.0;
           } in
           bare_state m origin bare,
       λ h.
@@ -44,28 +38,10 @@ returns c =
                     (
                       empty_seq m.scope.declarations c.is_empty-2.result c.is_empty-2.ensures bare.declarations,
                       (
-                        empty_seq m.scope.extern_crates c.is_empty-3.result c.is_empty-3.ensures bare.extern_crates,
+                        empty_seq m.scope.impls c.is_empty-3.result c.is_empty-3.ensures bare.impls,
                         (
-                          empty_seq m.scope.unnamed_consts c.is_empty-4.result c.is_empty-4.ensures bare.unnamed_consts,
-                          (
-                            empty_seq m.scope.impls c.is_empty-5.result c.is_empty-5.ensures bare.impls,
-                            (
-                              empty_seq m.scope.builtin_derive_impls c.is_empty-6.result c.is_empty-6.ensures bare.derive_impls,
-                              (
-                                empty_seq m.scope.extern_blocks c.is_empty-7.result c.is_empty-7.ensures bare.extern_blocks,
-                                (
-                                  c.is_empty-8.ensures.1 (ap length bare.derives),
-                                  (
-                                    c.is_empty-9.ensures.1 (ap length bare.invoked),
-                                    (
-                                      c.is_empty-10.ensures.1 (ap length bare.failed),
-                                      tt,
-                                    ),
-                                  ),
-                                ),
-                              ),
-                            ),
-                          ),
+                          c.is_rare_empty.ensures.1 bare.rare,
+                          tt,
                         ),
                       ),
                     ),
