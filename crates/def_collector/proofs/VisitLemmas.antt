@@ -25,7 +25,7 @@ use Rattle.def_map.specs.Oracle.{Oracle}
 use Rattle.def_items.specs.declared.lists.Frame.{Frame}
 use Rattle.def_items.specs.declared.lists.ItemList.{ItemList}
 use Rattle.def_items.specs.Parts.{list_site, tree_in}
-use Rattle.def_collector.specs.Walk.{AreKnown, agenda_of, frame_tasks, inner_of, is_frame_known, is_known, list_tasks, opens_list, walk_measure}
+use Rattle.def_collector.specs.Walk.{AreKnown, IsTurn, agenda_of, frame_tasks, inner_of, is_frame_known, is_known, list_tasks, opens_list, walk_measure}
 use Rattle.def_items.specs.Lists.{IsBegun, behind, brought_into, left_of, listed}
 use Rattle.def_laws.specs.Work.{task_work, work}
 use Rattle.def_rules.specs.Items.{diagnostic, node_at, ordered, visits, walk}
@@ -167,6 +167,10 @@ walk_begins oracle list below frames s t known none begun stored =
       adds = adds_refl s.session;
     })
 
+-- a frame that goes takes its turn with it
+pub done_fewer : (all frames : List Frame) (frame : Frame) → all ≡ frames ++ frame ∷ [] → walk_measure frames < walk_measure all
+done_fewer all frames frame popped = let more : walk_measure all ≡ _ = ap walk_measure popped ∙ measure_pushed frames frame in omega (arith, more)
+
 -- the last frame has been walked up to a list that one of its items opened, or to its end
 module _ {oracle : Oracle} {tasks : List Task} {start s t : State} {all : List Frame} (so_far : IsWalked oracle tasks start all s) (frames : List Frame) (frame : Frame) (popped : all ≡ frames ++ frame ∷ []) (after : Frame) (opened : Option ItemList)
     (run : (rest : List Task) → Leads oracle (frame_tasks frame ++ rest) s (inner_of oracle opened ++ (frame_tasks after ++ rest)) t) (adds : AddsLocations s.session t.session) where
@@ -179,7 +183,7 @@ module _ {oracle : Oracle} {tasks : List Task} {start s t : State} {all : List F
   added = adds_trans start.session s.session t.session so_far.adds adds
 
   -- at its end it goes, once what is behind it is done
-  pub turn_ends : (u : State) → u ≡ with_map t (brought_into after.list.site.module_id after.list.into t.map) → opened ≡ None → (is_some opened ≡ false → left_of after ≡ []) → IsWalked oracle tasks start frames u
+  turn_ends : (u : State) → u ≡ with_map t (brought_into after.list.site.module_id after.list.into t.map) → opened ≡ None → (is_some opened ≡ false → left_of after ≡ []) → IsWalked oracle tasks start frames u
   turn_ends u brought none ends =
       let last : List Task = behind after.list.site.module_id after.list.into in
       let come : Leads oracle tasks start (last ++ agenda_of frames) t =
@@ -201,7 +205,7 @@ module _ {oracle : Oracle} {tasks : List Task} {start s t : State} {all : List F
     list_known = subst (AreKnown oracle) some known.0
 
     -- the directory of the opened list is stored, and its items come first
-    pub turn_opens : (u : State) → u ≡ entered t list.site.module_id list.site.dir → IsWalked oracle tasks start last u
+    turn_opens : (u : State) → u ≡ entered t list.site.module_id list.site.dir → IsWalked oracle tasks start last u
     turn_opens u stored =
         let enter : Task = Enter list.site.module_id list.site.dir in
         let rest : frame_tasks after ++ agenda_of frames ≡ agenda_of next = sym (agenda_of-push frames after) in
@@ -218,7 +222,7 @@ module _ {oracle : Oracle} {tasks : List Task} {start s t : State} {all : List F
         })
 
     -- which leaves less
-    pub opened_fewer : (is_some opened ≡ true → 1 + work (inner_of oracle opened) + work (frame_tasks after) < work (frame_tasks frame)) → walk_measure last < walk_measure all
+    opened_fewer : (is_some opened ≡ true → 1 + work (inner_of oracle opened) + work (frame_tasks after) < work (frame_tasks frame)) → walk_measure last < walk_measure all
     opened_fewer fewer =
         let less = fewer (ap is_some some) in
         let first : walk_measure all ≡ _ = ap walk_measure popped ∙ measure_pushed frames frame in
@@ -229,9 +233,17 @@ module _ {oracle : Oracle} {tasks : List Task} {start s t : State} {all : List F
         ap (λ o. work (inner_of oracle o)) some ∙ ap work (opened_tasks oracle list begun.frame list_known begun.same begun.left) in
         omega (arith, less, first, stays, more, enter, inside)
 
--- a frame that goes takes its turn with it
-pub done_fewer : (all frames : List Frame) (frame : Frame) → all ≡ frames ++ frame ∷ [] → walk_measure frames < walk_measure all
-done_fewer all frames frame popped = let more : walk_measure all ≡ _ = ap walk_measure popped ∙ measure_pushed frames frame in omega (arith, more)
+  -- after its turn it goes, or the list that was opened is walked next
+  pub turned : (o : Option ItemList) → opened ≡ o → (last : List Frame) (u : State) → IsTurn frames after o t last u → (is_some opened ≡ false → left_of after ≡ []) → AreKnown oracle opened × is_frame_known oracle after
+      → IsWalked oracle tasks start last u
+  turned None none last u took ends known = subst (λ fs. IsWalked oracle tasks start fs u) (sym took.0) (turn_ends u took.1 none ends)
+  turned (Some list) some last u took ends known = turn_opens list some known took.0 u took.1
+
+  -- either way less is left
+  pub turned_fewer : (o : Option ItemList) → opened ≡ o → (last : List Frame) (u : State) → IsTurn frames after o t last u → AreKnown oracle opened × is_frame_known oracle after
+      → (is_some opened ≡ true → 1 + work (inner_of oracle opened) + work (frame_tasks after) < work (frame_tasks frame)) → walk_measure last < walk_measure all
+  turned_fewer None none last u took known fewer = subst (λ fs. walk_measure fs < walk_measure all) (sym took.0) (done_fewer all frames frame popped)
+  turned_fewer (Some list) some last u took known fewer = opened_fewer list some known took.0 fewer
 
 -- what the list that an item opened leads to is its beginning, one visit for each item, and perhaps one task behind them
 pub inner_few : (oracle : Oracle) (opened : Option ItemList) → AreKnown oracle opened → length (inner_of oracle opened) ≤ 2 ^ 64 + 1

@@ -12,6 +12,9 @@ use Rattle.def_modules.specs.Locals.{local_view}
 use Rattle.def_modules.specs.Maps.{map_state}
 use Rattle.def_sources.specs.Tables.{bound_by}
 use Rattle.def_collector.specs.declared.collector.DefCollector.{DefCollector}
+use Rattle.def_attrs.specs.declared.deferred.DeferredDerives.{DeferredDerives}
+use Rattle.def_items.specs.Parts.{with_session}
+use Rattle.def_modules.specs.declared.map.MapData.{MapData}
 use Rattle.def_steps.specs.ImportLists.{directives_in}
 use Rattle.indexmap.specs.IndexMap.{get}
 use Rattle.def_rules.specs.State.{State}
@@ -38,3 +41,7 @@ state_of c session =
       expansions = map expansion_shown c.expansions.items;
       diagnostics = c.diagnostics.items;
     }
+
+-- a state whose session, map and deferred derives are these
+abbrev pub with_deferred : State → Interner → MapData → DeferredDerives → State
+with_deferred s session def_map deferred = record (with_session s session def_map) { deferred = deferrals_of deferred }

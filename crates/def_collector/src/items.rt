@@ -1,23 +1,25 @@
 //! What each kind of item does.
-ghost use Rattle.std.specs.Prelude.{◌≡◌, [], false, Some, None, IfOk, OnOk};
+ghost use Rattle.std.specs.Prelude.{◌≡◌, [], false, true, None, IfOk, OnOk};
 ghost use Rattle.item_tree.specs.declared.items.ModItemKind.TheVariants as kinds;
 ghost use Rattle.def_interner.specs.Session.{AddsLocations, session_of};
+ghost use Rattle.def_items.specs.Parts.{with_session};
 ghost use Rattle.def_parts.specs.Sites.{site_of};
-ghost use Rattle.def_collector.specs.Collector.{state_of};
-ghost use Rattle.def_collector.specs.Walk.{AreKnown, inner_of, is_known, opens_list};
+ghost use Rattle.def_collector.specs.Collector.{state_of, with_deferred};
+ghost use Rattle.def_collector.specs.Walk.{AreKnown, inner_of, opens_list};
 ghost use Rattle.def_laws.specs.Performs.{GaveImpls, Handled};
+ghost use Rattle.def_rules.specs.State.{State};
 
 use crate::calls::collect_macro_call;
 use crate::collector::{DefCollector, WrittenCrate, WrittenStruct};
 use crate::macros::{WrittenMacro, collect_macro, collect_macro_rules};
-use crate::modules::{ModuleItem, collect_module};
-use def_attrs::{DerivedItem, give_impls};
+use crate::modules::{ModuleItem, collect_module, name_text};
+use def_attrs::{DeferredDerives, DerivedItem, give_impls};
 use def_calls::WrittenCall;
 use def_ids::ItemContainerId;
 use def_interner::{Interner, Location};
 use def_items::{ItemList, define_impl, number_adt};
 use def_locs::ExternBlockLoc;
-use def_map::SourceDatabase;
+use def_map::{MapData, SourceDatabase};
 use def_parts::Site;
 use item_tree::{ItemNode, ModItemId, ModItemKind, Seq};
 use std::alloc::AllocError;
@@ -39,28 +41,30 @@ pub(crate) fn give_deferred<'a, D: SourceDatabase>(
     if collector.deferred_builtin_derives.is_empty() {
         return Ok(());
     }
-    give_those_of(collector, db, session, site, node)
+    let deferred = &mut collector.deferred_builtin_derives;
+    give_those_of(&mut collector.def_map, deferred, db, session, site, node)
 }
 
 /// Lets the derives that are deferred for an item give their impls, where it is a struct, a union or an
 /// enum. On `Err` nothing but safety is promised.
 #[inline(never)]
-fn give_those_of<'a, D: SourceDatabase>(
-    collector: &mut DefCollector<'a>,
+fn give_those_of<D: SourceDatabase>(
+    def_map: &mut MapData,
+    deferred: &mut DeferredDerives,
     db: &D,
     session: &mut Interner,
     site: &Site,
     node: &ItemNode,
 ) -> Result<(), AllocError>
-    ensures gave { OnOk result (
-        GaveImpls (D.oracle db.now) (state_of collector.old session.old) (site_of site.now) node.now (state_of collector.new session.new)) }
+    ensures gave { OnOk result ((s : State) →
+        GaveImpls (D.oracle db.now) (with_deferred s session.old def_map.old deferred.old) (site_of site.now) node.now (with_deferred s session.new def_map.new deferred.new)) }
     ensures session { AddsLocations (session_of session.old) (session_of session.new) }
 {
     let Some(adt) = number_adt(session, site, node)? else {
         return Ok(());
     };
     let position = site.position(node);
-    let Some(derives) = collector.deferred_builtin_derives.take(position) else {
+    let Some(derives) = deferred.take(position) else {
         return Ok(());
     };
     let item = DerivedItem {
@@ -68,7 +72,6 @@ fn give_those_of<'a, D: SourceDatabase>(
         module_id: site.module_id,
         position,
     };
-    let def_map = &mut collector.def_map;
     give_impls(def_map, db, session, item, derives.as_slice())
 }
 
@@ -91,7 +94,8 @@ pub(crate) fn collect_item<'a, D: SourceDatabase>(
     ensures session { AddsLocations (session_of session.old) (session_of session.new) }
 {
     if opens_list(&node.kind) {
-        collect_any(collector, db, session, site, node, opened)
+        *opened = collect_any(collector, db, session, site, node)?;
+        Ok(())
     } else {
         collect_leaf(collector, db, session, site, node)
     }
@@ -109,8 +113,8 @@ fn opens_list(kind: &ModItemKind) -> bool
     }
 }
 
-/// Handles an item of any kind. It stands apart, since most items open no list, and need no room for
-/// one. On `Err` nothing but safety is promised.
+/// Handles an item of a kind that opens a list of items. Answers that list, if it is to be walked. It
+/// stands apart, since most items open none. On `Err` nothing but safety is promised.
 #[inline(never)]
 fn collect_any<'a, D: SourceDatabase>(
     collector: &mut DefCollector<'a>,
@@ -118,13 +122,11 @@ fn collect_any<'a, D: SourceDatabase>(
     session: &mut Interner,
     site: &Site,
     node: &'a ItemNode,
-    opened: &mut Option<ItemList<'a>>,
-) -> Result<(), AllocError>
-    requires { opened.old ≡ None }
-    ensures handled { OnOk result (
+) -> Result<Option<ItemList<'a>>, AllocError>
+    ensures handled { IfOk result (λ opened. opens_list node.now.kind ≡ true →
         Handled (D.oracle db.now) (state_of collector.old session.old) (state_of collector.new session.new)
-        (site_of site.now) node.now (inner_of (D.oracle db.now) opened.new)) }
-    ensures known { OnOk result (AreKnown (D.oracle db.now) opened.new) }
+        (site_of site.now) node.now (inner_of (D.oracle db.now) opened)) }
+    ensures known { IfOk result (λ opened. AreKnown (D.oracle db.now) opened) }
     ensures session { AddsLocations (session_of session.old) (session_of session.new) }
 {
     match &node.kind {
@@ -133,18 +135,22 @@ fn collect_any<'a, D: SourceDatabase>(
             visibility,
             contents,
         } => {
-            let vis = collector.resolve_visibility(db, session, site.module_id, visibility);
             let item = ModuleItem {
                 site,
                 node,
                 name: *name,
-                vis,
+                text: name_text(session, *name),
+                vis: collector.resolve_visibility(db, session, site.module_id, visibility),
+                contents,
             };
-            *opened = collect_module(collector, db, session, item, contents)?;
+            let diagnostics = &mut collector.diagnostics;
+            let table = &mut collector.table;
+            let def_map = &mut collector.def_map;
+            collect_module(collector.alloc, def_map, table, diagnostics, db, item)
         }
         ModItemKind::ExternBlock { children } => {
-            let list = collect_extern_block(collector, db, session, site, node, children)?;
-            *opened = Some(list);
+            let def_map = &mut collector.def_map;
+            collect_extern_block(def_map, db, session, site, node, children)
         }
         ModItemKind::MacroCall {
             path,
@@ -156,11 +162,10 @@ fn collect_any<'a, D: SourceDatabase>(
                 expand_to: *expand_to,
                 ctxt: *ctxt,
             };
-            *opened = collect_macro_call(collector, db, session, site, node, written)?;
+            collect_macro_call(collector, db, session, site, node, written)
         }
-        _ => collect_leaf(collector, db, session, site, node)?,
+        _ => Ok(None),
     }
-    Ok(())
 }
 
 /// Handles an item of a kind that opens no list. On `Err` nothing but safety is promised.
@@ -227,17 +232,17 @@ fn collect_leaf<'a, D: SourceDatabase>(
 /// promised.
 #[inline(never)]
 fn collect_extern_block<'a, D: SourceDatabase>(
-    collector: &mut DefCollector<'a>,
+    def_map: &mut MapData,
     db: &'a D,
     session: &mut Interner,
     site: &Site,
     node: &ItemNode,
     children: &'a Seq<ModItemId>,
-) -> Result<ItemList<'a>, AllocError>
-    ensures handled { IfOk result (λ list. node.now.kind ≡ kinds.ExternBlock children.now →
-        Handled (D.oracle db.now) (state_of collector.old session.old) (state_of collector.new session.new)
-        (site_of site.now) node.now (inner_of (D.oracle db.now) (Some list))) }
-    ensures known { IfOk result (λ list. is_known (D.oracle db.now) list) }
+) -> Result<Option<ItemList<'a>>, AllocError>
+    ensures handled { IfOk result (λ opened. (s : State) → node.now.kind ≡ kinds.ExternBlock children.now →
+        Handled (D.oracle db.now) (with_session s session.old def_map.old) (with_session s session.new def_map.new)
+        (site_of site.now) node.now (inner_of (D.oracle db.now) opened)) }
+    ensures known { IfOk result (λ opened. AreKnown (D.oracle db.now) opened) }
     ensures session { AddsLocations (session_of session.old) (session_of session.new) }
 {
     let id = ExternBlockLoc {
@@ -245,10 +250,8 @@ fn collect_extern_block<'a, D: SourceDatabase>(
         position: site.position(node),
     }
     .intern(session)?;
-    collector
-        .def_map
-        .define_extern_block(site.module_id.index, id)?;
-    Ok(ItemList {
+    def_map.define_extern_block(site.module_id.index, id)?;
+    Ok(Some(ItemList {
         site: Site {
             module_id: site.module_id,
             container: ItemContainerId::ExternBlock(id),
@@ -259,5 +262,5 @@ fn collect_extern_block<'a, D: SourceDatabase>(
         tree: db.item_tree(site.tree_id),
         items: children.as_slice(),
         into: None,
-    })
+    }))
 }

@@ -1,18 +1,20 @@
 //! The walk of item trees, over an explicit stack of lists.
-ghost use Rattle.std.specs.Prelude.{◌≡◌, ◌<◌, ◌+◌, ◌++◌, ◌∷◌, [], true, false, List, None, is_some, option_and_then, IfOk, OnOk};
+ghost use Rattle.std.specs.Prelude.{◌≡◌, ◌<◌, ◌+◌, ◌++◌, ◌∷◌, [], true, false, List, None, Some, is_some, option_and_then, IfOk, OnOk};
 ghost use Rattle.std.specs.Option.{option_copied};
 ghost use Rattle.item_tree.specs.Trees.{item_at};
+ghost use Rattle.def_ids.specs.Ids.{is_same_module};
 ghost use Rattle.def_interner.specs.declared.interner.Interner.{Interner};
 ghost use Rattle.def_interner.specs.Session.{AddsLocations, session_of};
-ghost use Rattle.def_items.specs.Lists.{left_of};
+ghost use Rattle.def_modules.specs.Updates.{set_where};
+ghost use Rattle.def_items.specs.Lists.{IsBegun, left_of};
 ghost use Rattle.def_items.specs.Parts.{list_site};
-ghost use Rattle.def_parts.specs.Sites.{site_of};
+ghost use Rattle.def_parts.specs.Sites.{directories_of, site_of};
 ghost use Rattle.def_collector.specs.Passes.{Awaits};
 ghost use Rattle.def_rules.specs.Attributes.{awaited_attr};
 ghost use Rattle.def_collector.specs.Collector.{state_of};
-ghost use Rattle.def_collector.specs.Walk.{AreKnown, frame_tasks, inner_of, is_frame_known, is_known, list_tasks};
+ghost use Rattle.def_collector.specs.Walk.{AreKnown, IsTurn, frame_tasks, inner_of, is_frame_known, is_known, list_tasks, with_lists};
 ghost use Rattle.def_laws.specs.Work.{task_work, work};
-ghost use Rattle.def_rules.specs.State.{Task, Visit};
+ghost use Rattle.def_rules.specs.State.{State, Task, Visit};
 ghost use Rattle.def_laws.specs.Runs.{Leads};
 
 use crate::collector::DefCollector;
@@ -21,10 +23,10 @@ use def_attrs::awaited_attr;
 use def_calls::{MacroDirectiveKind, WrittenAttr, queue_macro};
 use def_interner::Interner;
 use def_items::{Frame, ItemList, bring_macros, push_list, push_opened, report_disabled_item};
-use def_map::SourceDatabase;
-use def_parts::Site;
+use def_map::{MapData, SourceDatabase};
+use def_parts::{ModDirs, Site};
 use item_tree::{ItemNode, ItemTree, ModItemId};
-use std::alloc::AllocError;
+use std::alloc::{AllocError, Global};
 
 /// Walks a list of items: each is handled, and its own items are walked before the next. The
 /// files of modules that include each other end with the depth of their directories. On `Err`
@@ -40,19 +42,56 @@ pub fn walk<'a, D: SourceDatabase>(
         (state_of collector.old session.old) [] (state_of collector.new session.new)) }
     ensures session { AddsLocations (session_of session.old) (session_of session.new) }
 {
-    let mut frames = Vec::new(collector.alloc);
-    push_list(collector.alloc, &mut collector.mod_dirs, &mut frames, first)?;
+    let mut frames = begin_walk(collector.alloc, &mut collector.mod_dirs, first)?;
     'frames: while let Some(mut frame) = frames.pop() {
         let opened = walk_list(collector, db, session, &mut frame)?;
-        match opened {
-            Some(list) => {
-                let mod_dirs = &mut collector.mod_dirs;
-                push_opened(collector.alloc, mod_dirs, &mut frames, frame, list)?;
-            }
-            None => bring_macros(collector.alloc, &mut collector.def_map, &frame.list)?,
-        }
+        let mod_dirs = &mut collector.mod_dirs;
+        let def_map = &mut collector.def_map;
+        turn(
+            collector.alloc,
+            mod_dirs,
+            def_map,
+            &mut frames,
+            frame,
+            opened,
+        )?;
     }
     Ok(())
+}
+
+/// Begins the walk of a list: its frame is the only one on the stack.
+fn begin_walk<'a>(
+    alloc: Global,
+    mod_dirs: &mut ModDirs,
+    first: ItemList<'a>,
+) -> Result<Vec<Frame<'a>>, AllocError>
+    ensures begun { IfOk result (λ frames. IsBegun [] first.entry frames.items) }
+    ensures entered { OnOk result (directories_of mod_dirs.new
+        ≡ set_where (is_same_module first.entry.site.module_id) (Some first.entry.site.dir) (directories_of mod_dirs.old)) }
+{
+    let mut frames = Vec::new(alloc);
+    push_list(alloc, mod_dirs, &mut frames, first)?;
+    Ok(frames)
+}
+
+/// Takes a turn of a walk, of a frame whose items were visited: up to one that opened a list, which is
+/// walked next, or all of them, so that their macros are handed on. On `Err` nothing but safety is
+/// promised.
+fn turn<'a>(
+    alloc: Global,
+    mod_dirs: &mut ModDirs,
+    def_map: &mut MapData,
+    frames: &mut Vec<Frame<'a>>,
+    frame: Frame<'a>,
+    opened: Option<ItemList<'a>>,
+) -> Result<(), AllocError>
+    ensures { OnOk result ((s : State) →
+        IsTurn frames.old.items frame.entry opened.entry (with_lists s mod_dirs.old def_map.old) frames.new.items (with_lists s mod_dirs.new def_map.new)) }
+{
+    match opened {
+        Some(list) => push_opened(alloc, mod_dirs, frames, frame, list),
+        None => bring_macros(alloc, def_map, &frame.list),
+    }
 }
 
 /// Visits the items that a frame has left, up to one that opens a list, which is answered. The
