@@ -45,12 +45,5 @@ pub fn record_glob<'a, D: SourceDatabase>(
     let alloc = collector.alloc;
     let entries = glob_entries(alloc, &collector.world(db, session), glob, item.def)?;
     let table = &mut collector.table;
-    put_glob(
-        &collector.def_map,
-        table,
-        glob,
-        entries.as_slice(),
-        item.def,
-    )?;
-    Ok(())
+    put_glob(&collector.def_map, table, glob, entries, item.def)
 }

@@ -211,25 +211,15 @@ fn record_resolved_import<'a, D: SourceDatabase>(
             let at = import.module_id;
             let vis = collector.resolve_visibility(db, session, at, import.vis);
             let table = &mut collector.table;
-            record_named(
-                collector.alloc,
-                &collector.def_map,
-                table,
-                import,
-                vis,
-                answer,
-            )?;
-            Ok(())
+            let alloc = collector.alloc;
+            record_named(alloc, &collector.def_map, table, import, vis, answer)
         }
         ImportKind::Glob => match new_prelude(import, answer) {
             Some(source) => {
                 collector.def_map.prelude = Some(source);
                 Ok(())
             }
-            None => {
-                record_glob(collector, db, session, import, answer)?;
-                Ok(())
-            }
+            None => record_glob(collector, db, session, import, answer),
         },
     }
 }

@@ -25,15 +25,15 @@ pub fn put_glob(
     def_map: &MapData,
     table: &mut Globs<Table>,
     glob: EdgeTo<Visibility>,
-    entries: &[Entry<Visibility>],
+    entries: Vec<Entry<Visibility>>,
     def: Def,
 ) -> Result<(), AllocError>
     ensures { OnOk result ((oracle : Oracle) (s : State) →
         let before = with_parts s def_map.now table.old in
-        entries.now ≡ entries_of_glob (world oracle before) glob def →
+        entries.items ≡ entries_of_glob (world oracle before) glob def →
         Performs oracle (glob_tasks (world oracle before) glob (Some def)) before (with_parts s def_map.now table.new)) }
 {
-    put(def_map, table, glob.importer, entries)?;
+    put(def_map, table, glob.importer, entries.as_slice())?;
     let Some(source) = edge_source(def_map.tree.map, def) else {
         return Ok(());
     };

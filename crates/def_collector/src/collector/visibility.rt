@@ -9,9 +9,9 @@ ghost use Rattle.def_map.specs.Asking.{world_lent};
 use super::DefCollector;
 use def_bindings::{VisOrder, Visibility};
 use def_ids::ModuleId;
+use def_imports::visibility_in;
 use def_interner::Interner;
-use def_items::meant_or_public;
-use def_map::{SourceDatabase, Table, World, resolve_visibility};
+use def_map::{SourceDatabase, Table, World};
 use item_tree::{CtorVisibility, RawVisibility};
 
 impl DefCollector<'_> {
@@ -42,8 +42,7 @@ impl DefCollector<'_> {
     ) -> Visibility
         ensures { result ≡ written_vis (D.oracle db.now) (state_of self.now session.now) module_id visibility.now }
     {
-        let world = self.world(db, session);
-        meant_or_public(resolve_visibility(&world, module_id, visibility))
+        visibility_in(&self.world(db, session), module_id, visibility)
     }
 
     /// The visibility of a struct's constructor, if it has one.

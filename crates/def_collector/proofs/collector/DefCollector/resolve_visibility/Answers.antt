@@ -5,7 +5,4 @@ use Rattle.def_map.specs.Paths.{resolve_visibility}
 use Rattle.def_collector.proofs.collector.DefCollector.resolve_visibility.Goals as goal
 
 pub returns : goal.returns
-returns g c =
-    c.meant_or_public.ensures
-    ∙ ap (λ seen. unwrap_or seen Public)
-    (c.resolve_visibility.ensures ∙ ap (λ w. resolve_visibility w c.args.module_id c.args.visibility.now) c.world-world.ensures)
+returns g c = c.visibility_in.ensures ∙ ap (λ w. unwrap_or (resolve_visibility w c.args.module_id c.args.visibility.now) Public) c.world.ensures
