@@ -1,5 +1,6 @@
 -- What the collector's parts stand for.
-use Rattle.std.specs.Prelude.{◌++◌, map, option_map}
+use Rattle.std.specs.Prelude.{◌++◌, Vec, map, option_map}
+use Rattle.std.specs.declared.alloc.Global.{Global}
 use Rattle.def_interner.specs.declared.interner.Interner.{Interner}
 use Rattle.def_ids.specs.Equality.{glob_eq}
 use Rattle.def_interner.specs.Session.{session_of}
@@ -10,10 +11,13 @@ use Rattle.def_crates.specs.Missing.{missing_in}
 use Rattle.def_parts.specs.Sites.{directories_of}
 use Rattle.def_modules.specs.Locals.{local_view}
 use Rattle.def_modules.specs.Maps.{map_state}
-use Rattle.def_sources.specs.Tables.{bound_by}
+use Rattle.def_sources.specs.Tables.{Table, bound_by}
 use Rattle.def_collector.specs.declared.collector.DefCollector.{DefCollector}
 use Rattle.def_attrs.specs.declared.deferred.DeferredDerives.{DeferredDerives}
-use Rattle.def_items.specs.Parts.{with_session}
+use Rattle.def_items.specs.Parts.{with_parts, with_session}
+use Rattle.def_crates.specs.declared.missing_crates.MissingCrates.{MissingCrates}
+use Rattle.def_modules.specs.declared.local_def_map.LocalDefMap.{LocalDefMap}
+use Rattle.def_rules.specs.declared.diagnostics.DefDiagnostic.{DefDiagnostic}
 use Rattle.def_modules.specs.declared.map.MapData.{MapData}
 use Rattle.def_steps.specs.ImportLists.{directives_in}
 use Rattle.indexmap.specs.IndexMap.{get}
@@ -45,3 +49,11 @@ state_of c session =
 -- a state whose session, map and deferred derives are these
 abbrev pub with_deferred : State → Interner → MapData → DeferredDerives → State
 with_deferred s session def_map deferred = record (with_session s session def_map) { deferred = deferrals_of deferred }
+
+-- a state whose names of crates, map and table are these
+abbrev pub with_names : State → LocalDefMap → MapData → Table → State
+with_names s local def_map table = record (with_parts s def_map table) { local = local_view local }
+
+-- a state whose missing crates and reports are these
+abbrev pub with_missed : State → MissingCrates → Vec DefDiagnostic Global → State
+with_missed s missing diagnostics = record s { missing_crates = missing_in missing; diagnostics = diagnostics.items }

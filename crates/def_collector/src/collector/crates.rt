@@ -5,24 +5,25 @@ ghost use Rattle.def_interner.specs.declared.interner.Interner.{Interner};
 ghost use Rattle.def_interner.specs.Session.{AddsLocations, session_of};
 ghost use Rattle.def_map.specs.Oracle.{Oracle};
 ghost use Rattle.def_parts.specs.Sites.{site_of};
-ghost use Rattle.def_collector.specs.Collector.{state_of};
+ghost use Rattle.def_collector.specs.Collector.{state_of, with_missed, with_names};
 ghost use Rattle.def_rules.specs.declared.diagnostics.DefDiagnosticKind.TheVariants.{UnresolvedExternCrate};
 ghost use Rattle.def_rules.specs.Items as items;
 ghost use Rattle.def_rules.specs.ExternCrates as crate_rules;
 ghost use Rattle.def_rules.specs.Macros.{macros_brought};
 ghost use Rattle.def_laws.specs.Performs.{Handled, Performs, Updated};
-ghost use Rattle.def_rules.specs.State.{reported, with_missing};
+ghost use Rattle.def_rules.specs.State.{State, reported, with_missing};
 
 use super::DefCollector;
 use def_bindings::{Entry, ImportOrExternCrate, Namespace, Visibility};
+use def_crates::MissingCrates;
 use def_ids::{Def, ExternCrateId, MacroId, ModuleId};
 use def_interner::{Interner, Location};
-use def_items::{is_crate_root, name_crate, report};
+use def_items::{is_crate_root, name_crate, put, report};
 use def_locs::ExternCrateLoc;
 use def_macros::{macros_brought, take_at_root};
-use def_map::SourceDatabase;
-use def_parts::Site;
-use def_rules::DefDiagnosticKind;
+use def_map::{LocalDefMap, MapData, SourceDatabase, Table};
+use def_parts::{Globs, Site};
+use def_rules::{DefDiagnostic, DefDiagnosticKind};
 use def_steps::crate_name;
 use item_tree::{ImportAlias, ItemNode, Name, RawVisibility, sym};
 use std::alloc::AllocError;
@@ -82,8 +83,7 @@ impl<'a> DefCollector<'a> {
             name: crate_name(written.name, written.alias),
             vis,
         };
-        self.collect_extern_crate(item, brought.as_slice(), root)?;
-        Ok(())
+        self.collect_extern_crate(item, brought, root)
     }
 
     /// The root of a named crate, if it is found: `self` is this crate, and any other a dependency.
@@ -125,65 +125,73 @@ impl<'a> DefCollector<'a> {
     fn collect_extern_crate(
         &mut self,
         item: CrateItem<'_>,
-        brought: &[(Name, MacroId)],
+        brought: Vec<(Name, MacroId)>,
         root: Option<ModuleId>,
     ) -> Result<(), AllocError>
         ensures { OnOk result ((oracle : Oracle) (session : Interner) →
-            let effect = crate_rules.crate_effect (state_of self.old session) (site_of item.entry.site.now) item.entry.node.now item.entry.id item.entry.name item.entry.vis brought.now root in
+            let effect = crate_rules.crate_effect (state_of self.old session) (site_of item.entry.site.now) item.entry.node.now item.entry.id item.entry.name item.entry.vis brought.items root in
             Performs oracle effect.tasks effect.state (state_of self.new session)) }
     {
         match root {
             Some(root) => {
-                self.put_crate(item, brought, root)?;
-                Ok(())
+                let local = &mut self.local_def_map;
+                let table = &mut self.table;
+                put_crate(
+                    local,
+                    &mut self.def_map,
+                    table,
+                    item,
+                    brought.as_slice(),
+                    root,
+                )
             }
-            None => {
-                self.miss_crate(item)?;
-                Ok(())
-            }
+            None => miss_crate(&mut self.missing_crates, &mut self.diagnostics, item),
         }
     }
+}
 
-    /// Puts an extern crate in types. Paths may begin with one that stands at a crate's root, and
-    /// with the macros that it brings.
-    fn put_crate(
-        &mut self,
-        item: CrateItem<'_>,
-        brought: &[(Name, MacroId)],
-        root: ModuleId,
-    ) -> Result<(), AllocError>
-        ensures { OnOk result ((session : Interner) →
-            let effect = crate_rules.crate_effect (state_of self.old session) (site_of item.entry.site.now) item.entry.node.now item.entry.id item.entry.name item.entry.vis brought.now (Some root) in
-            Updated item.entry.site.now.module_id (crate_rules.crate_entry item.entry.id item.entry.name root item.entry.vis ∷ []) effect.state (state_of self.new session)) }
-    {
-        let at = item.site.module_id;
-        name_crate(&mut self.local_def_map, at, item.name, root, item.id)?;
-        take_at_root(&mut self.def_map, is_crate_root(at), brought)?;
-        self.put(
-            at,
-            &[Entry {
-                name: item.name,
-                ns: Namespace::Types,
-                def: Def::Module(root),
-                vis: item.vis,
-                origin: Some(ImportOrExternCrate::ExternCrate(item.id)),
-            }],
-        )?;
-        Ok(())
-    }
+/// Puts an extern crate in types. Paths may begin with one that stands at a crate's root, and with
+/// the macros that it brings.
+fn put_crate(
+    local: &mut LocalDefMap,
+    def_map: &mut MapData,
+    table: &mut Globs<Table>,
+    item: CrateItem<'_>,
+    brought: &[(Name, MacroId)],
+    root: ModuleId,
+) -> Result<(), AllocError>
+    ensures { OnOk result ((s : State) →
+        let effect = crate_rules.crate_effect (with_names s local.old def_map.old table.old) (site_of item.entry.site.now) item.entry.node.now item.entry.id item.entry.name item.entry.vis brought.now (Some root) in
+        Updated item.entry.site.now.module_id (crate_rules.crate_entry item.entry.id item.entry.name root item.entry.vis ∷ []) effect.state (with_names s local.new def_map.new table.new)) }
+{
+    let at = item.site.module_id;
+    name_crate(local, at, item.name, root, item.id)?;
+    take_at_root(def_map, is_crate_root(at), brought)?;
+    let entry = Entry {
+        name: item.name,
+        ns: Namespace::Types,
+        def: Def::Module(root),
+        vis: item.vis,
+        origin: Some(ImportOrExternCrate::ExternCrate(item.id)),
+    };
+    put(def_map, table, at, &[entry])
+}
 
-    /// Reports an extern crate that was not found, and remembers its name.
-    fn miss_crate(&mut self, item: CrateItem<'_>) -> Result<(), AllocError>
-        ensures { OnOk result ((session : Interner) →
-            state_of self.new session
-            ≡ reported (with_missing item.entry.name (state_of self.old session))
-            (items.diagnostic (site_of item.entry.site.now) item.entry.node.now UnresolvedExternCrate)) }
-    {
-        if let Some(name) = item.name {
-            self.missing_crates.insert(name)?;
-        }
-        let kind = DefDiagnosticKind::UnresolvedExternCrate;
-        report(&mut self.diagnostics, item.site, item.node, kind)?;
-        Ok(())
+/// Reports an extern crate that was not found, and remembers its name.
+fn miss_crate(
+    missing: &mut MissingCrates,
+    diagnostics: &mut Vec<DefDiagnostic>,
+    item: CrateItem<'_>,
+) -> Result<(), AllocError>
+    ensures { OnOk result ((s : State) →
+        with_missed s missing.new diagnostics.new
+        ≡ reported (with_missing item.entry.name (with_missed s missing.old diagnostics.old))
+        (items.diagnostic (site_of item.entry.site.now) item.entry.node.now UnresolvedExternCrate)) }
+{
+    if let Some(name) = item.name {
+        missing.insert(name)?;
     }
+    let kind = DefDiagnosticKind::UnresolvedExternCrate;
+    report(diagnostics, item.site, item.node, kind)?;
+    Ok(())
 }

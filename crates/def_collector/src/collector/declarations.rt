@@ -1,19 +1,17 @@
 //! Names that items declare.
 ghost use Rattle.std.specs.Prelude.{◌≡◌, [], false, true, OnOk};
 ghost use Rattle.item_tree.specs.declared.items.ModItemKind.TheVariants as kinds;
-ghost use Rattle.def_interner.specs.declared.interner.Interner.{Interner};
 ghost use Rattle.def_interner.specs.Session.{AddsLocations, session_of};
 ghost use Rattle.def_parts.specs.Sites.{site_of};
 ghost use Rattle.def_collector.specs.Collector.{state_of};
 ghost use Rattle.def_items.specs.Numbered.{is_declaring};
-ghost use Rattle.def_laws.specs.Performs.{Handled, Performs, Updated};
+ghost use Rattle.def_laws.specs.Performs.{Handled, Performs};
 ghost use Rattle.def_rules.specs.Items.{declared_effect, written_vis};
 
 use super::DefCollector;
-use def_bindings::{Entry, Visibility};
 use def_ids::{Def, ModuleId};
 use def_interner::{Interner, Location};
-use def_items::{Declaration, Declared, Definition, define, define_struct, number_item, put};
+use def_items::{Declaration, Declared, Definition, define, define_struct, number_item};
 use def_locs::StructLoc;
 use def_map::SourceDatabase;
 use def_parts::Site;
@@ -48,13 +46,11 @@ impl DefCollector<'_> {
         let declared = number_item(session, site, node)?;
         match declared {
             Declared::Name(declaration) => {
-                self.declare(db, session, site.module_id, declaration)?;
-                Ok(())
+                self.declare(db, session, site.module_id, declaration)
             }
             Declared::UnnamedConst(id) => {
                 let module = site.module_id.index;
-                self.def_map.define_unnamed_const(module, id)?;
-                Ok(())
+                self.def_map.define_unnamed_const(module, id)
             }
             Declared::Nothing => Ok(()),
         }
@@ -88,8 +84,7 @@ impl DefCollector<'_> {
             def: Def::Struct(id),
             vis: self.resolve_visibility(db, session, at, written.visibility),
         };
-        define_struct(&mut self.def_map, &mut self.table, at, defined, ctor_vis)?;
-        Ok(())
+        define_struct(&mut self.def_map, &mut self.table, at, defined, ctor_vis)
     }
 
     /// Declares a definition in one namespace, as visible as is written. On `Err` nothing but
@@ -112,18 +107,6 @@ impl DefCollector<'_> {
             vis: self.resolve_visibility(db, session, module_id, declared.vis),
         };
         let table = &mut self.table;
-        define(&mut self.def_map, table, module_id, declared.ns, defined)?;
-        Ok(())
-    }
-
-    /// Puts entries in a module, and lets what changes travel along the edges of globs. On `Err`
-    /// nothing but safety is promised.
-    pub fn put(&mut self, module_id: ModuleId, list: &[Entry<Visibility>]) -> Result<(), AllocError>
-        ensures frame { self.new ≡ record self.old { table = self.new.table } }
-        ensures updated { OnOk result ((session : Interner) →
-            Updated module_id list.now (state_of self.old session) (state_of self.new session)) }
-    {
-        put(&self.def_map, &mut self.table, module_id, list)?;
-        Ok(())
+        define(&mut self.def_map, table, module_id, declared.ns, defined)
     }
 }

@@ -45,7 +45,6 @@ impl<'a> DefCollector<'a> {
             is_prelude: is_prelude_import(node),
         };
         let unresolved = &mut self.unresolved_imports;
-        queue_imports(unresolved, site.module_id, written, imports.as_slice())?;
-        Ok(())
+        queue_imports(unresolved, site.module_id, written, imports.as_slice())
     }
 }

@@ -2,13 +2,14 @@ use Rattle.def_interner.specs.Session.{session_of}
 use Rattle.def_parts.specs.Sites.{site_of}
 use Rattle.def_collector.specs.Collector.{state_of}
 use Rattle.def_rules.specs.State.{State}
+use Rattle.def_laws.proofs.RecordLaws.{on_ok}
 use Rattle.def_items.proofs.ItemsLemmas.{handled_struct}
 use Rattle.def_collector.proofs.collector.DefCollector.collect_struct.Goals as goal
 
 pub returns-clause-handled : goal.returns-clause-handled
-returns-clause-handled g c = λ kind.
+returns-clause-handled g c = on_ok c.define_struct.result c.define_struct.ensures (λ performs kind.
     let oracle = g.D.SourceDatabase.oracle c.args.db.now in
     let before : State = state_of c.args.self.now c.args.session.now in
     handled_struct oracle before _ (session_of c.intern.new.session) (site_of c.args.site.now) c.args.node.now _ _ _ c.in_ok-id.id.0 c.position.result c.resolve_visibility.result c.constructor_visibility-ctor_vis.result
     kind c.in_ok-id.ensures.adds c.position.ensures c.in_ok-id.ensures.shown c.resolve_visibility.ensures c.constructor_visibility-ctor_vis.ensures
-    (c.in_ok-define_struct.ensures oracle (state_of c.args.self.now c.intern.new.session))
+    (performs oracle (state_of c.args.self.now c.intern.new.session)))
