@@ -59,7 +59,8 @@ pub fn walk<'a, D: SourceDatabase>(
     Ok(())
 }
 
-/// Begins the walk of a list: its frame is the only one on the stack.
+/// Begins the walk of a list: its frame is the only one on the stack. On `Err` nothing but safety is
+/// promised.
 fn begin_walk<'a>(
     alloc: Global,
     mod_dirs: &mut ModDirs,

@@ -1,9 +1,10 @@
-use Rattle.std.proofs.Common.{◌≡◌, ◌∙◌, ap, false, subst, sym, true}
+use Rattle.std.proofs.Common.{◌≡◌, ◌∙◌, [], ap, false, subst, sym, true}
 use Rattle.def_interner.specs.Session.{session_of}
 use Rattle.def_items.specs.Numbered.{IsDeclared, is_declaring}
 use Rattle.def_parts.specs.Sites.{site_of}
 use Rattle.def_collector.specs.Collector.{state_of}
 use Rattle.def_rules.specs.State.{State, with_map}
+use Rattle.def_laws.specs.Performs.{Handled}
 use Rattle.def_laws.proofs.RecordLaws.{on_ok}
 use Rattle.def_items.proofs.NumberedLemmas.{handled_name, handled_unnamed, name_declares, unnamed_declares}
 use Rattle.def_collector.proofs.collector.DefCollector.collect_declaration.Goals as goal
@@ -28,7 +29,7 @@ pub returns-in-Nothing-clause-handled : goal.returns-in-Nothing-clause-handled
 returns-in-Nothing-clause-handled g c = λ declares.
     let none : is_declaring c.args.node.now.kind ≡ false = subst (IsDeclared (session_of c.number_item.new.session) (site_of c.args.site.now) c.args.node.now) c.in-Nothing.is c.in_ok-declared.ensures.declared in
     let both : false ≡ true = sym none ∙ declares in
-    absurd cc
+    absurd {A = Handled (g.D.SourceDatabase.oracle c.args.db.now) (state_of c.args.self.now c.args.session.now) (state_of c.args.self.now c.number_item.new.session) (site_of c.args.site.now) c.args.node.now []} cc
 
 pub returns-in-Name-clause-others : goal.returns-in-Name-clause-others
 returns-in-Name-clause-others g c = on_ok c.declare.result c.declare.ensures (λ declared other.
