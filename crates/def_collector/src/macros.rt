@@ -8,9 +8,7 @@ ghost use Rattle.def_laws.specs.Performs.{Handled};
 
 use crate::collector::DefCollector;
 use def_interner::Interner;
-use def_macros::{
-    define_macro, define_macro_rules, number_macro, number_macro_rules, report_macro,
-};
+use def_macros::{keep_macro, keep_macro_rules, number_macro, number_macro_rules};
 use def_map::SourceDatabase;
 use def_parts::Site;
 use item_tree::{ItemNode, Name, RawVisibility};
@@ -40,10 +38,12 @@ pub(crate) fn collect_macro_rules<D: SourceDatabase>(
     ensures session { AddsLocations (session_of session.old) (session_of session.new) }
 {
     let item = number_macro_rules(db, session, &collector.def_map, site, node, name)?;
-    report_macro(&mut collector.diagnostics, item)?;
-    let table = &mut collector.table;
-    define_macro_rules(&mut collector.def_map, table, item)?;
-    Ok(())
+    keep_macro_rules(
+        &mut collector.diagnostics,
+        &mut collector.def_map,
+        &mut collector.table,
+        item,
+    )
 }
 
 /// Defines a `macro` item, and declares it as visible as is written. On `Err` nothing but safety is
@@ -64,8 +64,12 @@ pub(crate) fn collect_macro<D: SourceDatabase>(
 {
     let item = number_macro(db, session, &collector.def_map, site, node, written.name)?;
     let vis = collector.resolve_visibility(db, session, site.module_id, written.visibility);
-    report_macro(&mut collector.diagnostics, item)?;
-    let table = &mut collector.table;
-    define_macro(collector.alloc, &mut collector.def_map, table, item, vis)?;
-    Ok(())
+    keep_macro(
+        collector.alloc,
+        &mut collector.diagnostics,
+        &mut collector.def_map,
+        &mut collector.table,
+        item,
+        vis,
+    )
 }

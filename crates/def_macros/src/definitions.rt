@@ -2,6 +2,7 @@
 ghost use Rattle.std.specs.Prelude.{◌≡◌, is_some, option_map, IfOk, OnOk};
 ghost use Rattle.item_tree.specs.Attrs.{attrs_of, has_attr};
 ghost use Rattle.item_tree.specs.KnownNames.{macro_export_name};
+ghost use Rattle.def_macros.specs.Shown.{with_told};
 ghost use Rattle.def_map.specs.Oracle.{Oracle};
 ghost use Rattle.def_modules.specs.Maps.{map_state};
 ghost use Rattle.def_items.specs.Parts.{with_parts};
@@ -25,10 +26,7 @@ use std::alloc::{AllocError, Global};
 
 /// Reports a macro that is marked as builtin, and that no builtin implements. On `Err` nothing but
 /// safety is promised.
-pub fn report_macro(
-    diagnostics: &mut Vec<DefDiagnostic>,
-    item: MacroItem<'_>,
-) -> Result<(), AllocError>
+fn report_macro(diagnostics: &mut Vec<DefDiagnostic>, item: MacroItem<'_>) -> Result<(), AllocError>
     ensures { OnOk result ((s : State) →
         record s { diagnostics = diagnostics.new.items }
         ≡ macros.unimplemented_reported (record s { diagnostics = diagnostics.old.items }) (site_of item.entry.site.now) item.entry.node.now item.entry.expander) }
@@ -43,9 +41,44 @@ pub fn report_macro(
     }
 }
 
+/// Reports what is wrong with a macro by rules, and defines it. On `Err` nothing but safety is promised.
+pub fn keep_macro_rules(
+    diagnostics: &mut Vec<DefDiagnostic>,
+    def_map: &mut MapData,
+    table: &mut Globs<Table>,
+    item: MacroItem<'_>,
+) -> Result<(), AllocError>
+    ensures { OnOk result ((oracle : Oracle) (s : State) →
+        let exported = has_attr macro_export_name (attrs_of item.entry.node.now.attrs) in
+        let told = macros.unimplemented_reported (with_told s diagnostics.old.items def_map.old table.old) (site_of item.entry.site.now) item.entry.node.now item.entry.expander in
+        let effect = macros.export_effect (macros.textual_state told (site_of item.entry.site.now) item.entry.node.now item.entry.name item.entry.id) exported item.entry.name item.entry.id in
+        Performs oracle effect.tasks effect.state (with_told s diagnostics.new.items def_map.new table.new)) }
+{
+    report_macro(diagnostics, item)?;
+    define_macro_rules(def_map, table, item)
+}
+
+/// Reports what is wrong with a `macro` item, and defines it. On `Err` nothing but safety is promised.
+pub fn keep_macro(
+    alloc: Global,
+    diagnostics: &mut Vec<DefDiagnostic>,
+    def_map: &mut MapData,
+    table: &mut Globs<Table>,
+    item: MacroItem<'_>,
+    vis: Visibility,
+) -> Result<(), AllocError>
+    ensures { OnOk result ((oracle : Oracle) (s : State) →
+        let told = macros.unimplemented_reported (with_told s diagnostics.old.items def_map.old table.old) (site_of item.entry.site.now) item.entry.node.now item.entry.expander in
+        let effect = macros.defined_effect told (site_of item.entry.site.now) item.entry.node.now item.entry.name vis item.entry.expander item.entry.id in
+        Performs oracle effect.tasks effect.state (with_told s diagnostics.new.items def_map.new table.new)) }
+{
+    report_macro(diagnostics, item)?;
+    define_macro(alloc, def_map, table, item, vis)
+}
+
 /// Defines a macro by rules for the text behind it. One that is exported is declared in the map's
 /// root, public. On `Err` nothing but safety is promised.
-pub fn define_macro_rules(
+fn define_macro_rules(
     def_map: &mut MapData,
     table: &mut Globs<Table>,
     item: MacroItem<'_>,
@@ -86,7 +119,7 @@ fn define_textual(def_map: &mut MapData, item: MacroItem<'_>) -> Result<(), Allo
 }
 
 /// Defines a `macro` item, and declares it in its module. On `Err` nothing but safety is promised.
-pub fn define_macro(
+fn define_macro(
     alloc: Global,
     def_map: &mut MapData,
     table: &mut Globs<Table>,

@@ -8,6 +8,6 @@ mod flags;
 mod macro_use;
 mod numbered;
 
-pub use definitions::{define_macro, define_macro_rules, report_macro};
+pub use definitions::{keep_macro, keep_macro_rules};
 pub use macro_use::{macros_brought, take_at_root};
 pub use numbered::{MacroItem, number_macro, number_macro_rules};
