@@ -6,6 +6,7 @@
 mod attrs;
 mod deferred;
 mod derives;
+mod given;
 mod impls;
 mod item_attrs;
 
@@ -13,9 +14,10 @@ pub use attrs::{
     AttrUse, attr_call, attr_macro, attr_use, awaited_attr, is_builtin_or_registered_attr,
     is_helper,
 };
-pub use deferred::{DeferredDerives, deferred_derive, expand_deferred};
-pub use derives::{
-    DeriveList, call_derive, derive_macro, derive_paths, give_derive, hand_on, record_list,
+pub use deferred::{DeferredDerives, expand_deferred};
+pub use derives::{DeriveList, derive_macro, derive_paths, hand_on};
+pub use given::{
+    FoundAttr, FoundDerive, call_list, call_tried, call_waiting, give_up, queue_derive, refuse_list,
 };
 pub use impls::{DerivedItem, give_impls};
 pub use item_attrs::ItemAttrs;

@@ -1,5 +1,6 @@
 -- The turn of a macro that waits.
 use Rattle.std.proofs.Common.{◌≡◌, ◌<◌, ◌≤◌, ◌^◌, Bool, true, false, true≢false, List, [], ◌∷◌, length, Option, Some, None, Result, Ok, Err, append-nil, refl, sym, ap, subst, ◌∙◌}
+use Rattle.std.specs.Prelude.{IfOk, OnOk}
 use Rattle.def_ids.specs.declared.ids.ModuleId.{ModuleId}
 use Rattle.def_interner.specs.declared.macro_def.MacroDefId.{MacroDefId}
 use Rattle.tree_ids.specs.declared.ids.MacroCallId.{MacroCallId}
@@ -20,6 +21,18 @@ use Rattle.def_laws.specs.Performs.{Tried}
 use Rattle.def_laws.specs.Runs.{Collects, Leads}
 use Rattle.def_laws.proofs.PassLaws.{collects_stays, derived_lighter, given_lighter, invokes_refl, only_invokes, queued, queued_behind, replaced_lighter, rest_by, walked_lighter, walked_rest}
 use Rattle.def_laws.proofs.StepsLaws.{collects_refl}
+
+-- What is answered
+
+-- what follows of a turn that answers that one left
+pub told_left : {E P Q : Type 0} (R : Bool → Type 0) (r : Result Bool E) → OnOk r P → OnOk r Q → IfOk r (λ left. left ≡ true) → (P → Q → R true) → IfOk r R
+told_left R (Ok left) p q is f = subst R (sym is) (f p q)
+told_left R (Err e) p q is f = is
+
+-- it does not answer that it stays
+pub left_not_kept : {E : Type 0} (P : Type 0) (r : Result Bool E) → IfOk r (λ left. left ≡ true) → IfOk r (λ left. left ≡ false → P)
+left_not_kept P (Ok left) is = λ no. absurd (true≢false (sym is ∙ no))
+left_not_kept P (Err e) is = is
 
 -- One that is asked
 

@@ -9,7 +9,8 @@ ghost use Rattle.def_rules.specs.Waiting.{MacroDirective};
 
 use crate::collector::DefCollector;
 use crate::macro_pass::walk_again;
-use def_calls::{WaitingItem, fill_gap, first_item, report_attr, take_out};
+use def_attrs::give_up;
+use def_calls::{fill_gap, first_item};
 use def_interner::Interner;
 use def_map::SourceDatabase;
 use std::alloc::AllocError;
@@ -36,17 +37,13 @@ pub fn fall_back<'a, D: SourceDatabase>(
     let Some(item) = first_item(&collector.unresolved_macros) else {
         return Ok(false);
     };
-    let WaitingItem {
-        at,
-        directive,
-        written,
-    } = item;
-    report_attr(&mut collector.diagnostics, &directive, written)?;
-    take_out(&mut collector.unresolved_macros, at, directive);
-    let file = directive.position.file;
-    let item_attrs = &mut collector.item_attrs;
-    item_attrs.pass_over(file, written.item, written.attr_id)?;
-    walk_again(collector, db, session, directive, written)?;
-    fill_gap(&mut collector.unresolved_macros, at)?;
+    give_up(
+        &mut collector.diagnostics,
+        &mut collector.unresolved_macros,
+        &mut collector.item_attrs,
+        item,
+    )?;
+    walk_again(collector, db, session, item.directive, item.written)?;
+    fill_gap(&mut collector.unresolved_macros, item.at)?;
     Ok(true)
 }

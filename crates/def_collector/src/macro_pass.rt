@@ -23,8 +23,9 @@ use crate::calls::open_expansion;
 use crate::collector::DefCollector;
 use crate::stack::{item_in, walk, walk_item};
 use def_attrs::{
-    AttrUse, DeriveList, attr_call, attr_macro, attr_use, call_derive, deferred_derive,
-    derive_macro, derive_paths, expand_deferred, give_derive, is_helper, record_list,
+    AttrUse, DeriveList, FoundAttr, FoundDerive, attr_call, attr_macro, attr_use, call_list,
+    call_tried, call_waiting, derive_macro, derive_paths, expand_deferred, is_helper, queue_derive,
+    refuse_list,
 };
 use def_calls::{
     Expansion, MacroDirective, MacroDirectiveKind, WrittenAttr, WrittenCall, WrittenDerive,
@@ -34,7 +35,6 @@ use def_interner::{Interner, MacroDefId};
 use def_items::ItemList;
 use def_map::SourceDatabase;
 use def_parts::Site;
-use def_rules::DefDiagnostic;
 use std::alloc::AllocError;
 
 /// Lets each macro that waits have its turn, in order, and then walks the expansions of those that
@@ -179,13 +179,18 @@ fn ask_derive<'a, D: SourceDatabase>(
         collector.new.unresolved_macros.items ≡ collector.old.unresolved_macros.items) }
 {
     let world = collector.world(db, session);
-    let Some(found) = derive_macro(&world, directive.module_id, written) else {
+    let Some(macro_def) = derive_macro(&world, directive.module_id, written) else {
         return Ok(false);
     };
-    let def_map = &mut collector.def_map;
-    let call = give_derive(def_map, db, &directive, written, found)?;
-    leave(&mut collector.unresolved_macros, directive);
-    collector.expansions.push_back(directive.expansion(call))?;
+    let found = FoundDerive { written, macro_def };
+    call_waiting(
+        &mut collector.def_map,
+        db,
+        &mut collector.unresolved_macros,
+        &mut collector.expansions,
+        directive,
+        found,
+    )?;
     Ok(true)
 }
 
@@ -209,8 +214,7 @@ fn ask_attr<'a, D: SourceDatabase>(
 {
     if is_helper(&collector.def_map, directive.position, written.attr) {
         let list = DeriveList::empty(written);
-        walk_without(collector, db, session, directive, list)?;
-        return Ok(true);
+        return walk_without(collector, db, session, directive, list);
     }
     let world = collector.world(db, session);
     let Some(found) = attr_macro(&world, directive.module_id, written.attr) else {
@@ -219,18 +223,13 @@ fn ask_attr<'a, D: SourceDatabase>(
     match attr_use(db, collector.def_map.tree.map.krate, found) {
         AttrUse::PassesOver => {
             let list = DeriveList::empty(written);
-            walk_without(collector, db, session, directive, list)?;
-            Ok(true)
+            walk_without(collector, db, session, directive, list)
         }
         AttrUse::ReadsDerives => {
             let list = read_derives(collector, db, directive, written, found)?;
-            walk_without(collector, db, session, directive, list)?;
-            Ok(true)
+            walk_without(collector, db, session, directive, list)
         }
-        AttrUse::ReplacesItem => {
-            replace_item(collector, db, directive, written, found)?;
-            Ok(true)
-        }
+        AttrUse::ReplacesItem => replace_item(collector, db, directive, written, found),
     }
 }
 
@@ -252,45 +251,37 @@ fn read_derives<'a, D: SourceDatabase>(
     let node = item_in(db.item_tree(written.tree_id), written.item);
     match derive_paths(written, node) {
         Ok(paths) => {
-            collector
-                .item_attrs
-                .activate(directive.position, written.attr_id)?;
-            let krate = collector.def_map.tree.map.krate;
-            let item_attrs = &collector.item_attrs;
-            let call = attr_call(db, krate, item_attrs, &directive, written, found);
-            let list = DeriveList {
+            let attr = FoundAttr {
                 written,
-                call,
-                paths,
+                macro_def: found,
             };
-            let alloc = collector.alloc;
-            record_list(alloc, &mut collector.def_map, &directive, list)?;
-            Ok(list)
+            call_list(
+                &mut collector.def_map,
+                db,
+                &mut collector.item_attrs,
+                &directive,
+                attr,
+                paths,
+            )
         }
-        Err(kind) => {
-            collector.diagnostics.push(DefDiagnostic {
-                module: directive.module_id,
-                ast_id: directive.position,
-                kind,
-            })?;
-            Ok(DeriveList::empty(written))
-        }
+        Err(kind) => refuse_list(&mut collector.diagnostics, &directive, written, kind),
     }
 }
 
 /// Calls the macro of an attribute: the item leaves, and the macro's expansion is to stand in its
-/// place, behind those of the derives that were deferred for it. On `Err` nothing but safety is
-/// promised.
+/// place, behind those of the derives that were deferred for it. Answers that it left. On `Err` nothing
+/// but safety is promised.
 fn replace_item<'a, D: SourceDatabase>(
     collector: &mut DefCollector<'a>,
     db: &D,
     directive: MacroDirective<'a>,
     written: WrittenAttr<'a>,
     found: MacroDefId,
-) -> Result<(), AllocError>
+) -> Result<bool, AllocError>
     requires { slice_get collector.old.unresolved_macros.items 0 ≡ Some directive }
-    ensures { OnOk result ((session : Interner) → let s = state_of collector.old session in let d = macro_directive_of directive.entry in
+    ensures turned { OnOk result ((session : Interner) → let s = state_of collector.old session in let d = macro_directive_of directive.entry in
         IsTurned (activated s d.position written.entry.attr_id) d (use_told (D.oracle db.now) s d (written_attr_of written.entry) found ReplacesItem) (state_of collector.new session)) }
+    ensures left { IfOk result (λ left. left ≡ true) }
 {
     let id = written.attr_id;
     let position = directive.position;
@@ -306,21 +297,23 @@ fn replace_item<'a, D: SourceDatabase>(
         &mut collector.expansions,
         directive,
         call,
-    )
+    )?;
+    Ok(true)
 }
 
 /// Walks an item that waits without its attribute: it leaves, the attribute is passed over, and the
-/// derives that it lists are tried. On `Err` nothing but safety is promised.
+/// derives that it lists are tried. Answers that it left. On `Err` nothing but safety is promised.
 fn walk_without<'a, D: SourceDatabase>(
     collector: &mut DefCollector<'a>,
     db: &'a D,
     session: &mut Interner,
     directive: MacroDirective<'a>,
     list: DeriveList<'a>,
-) -> Result<(), AllocError>
+) -> Result<bool, AllocError>
     requires { slice_get collector.old.unresolved_macros.items 0 ≡ Some directive }
     ensures walked { OnOk result (IsWalked (D.oracle db.now) (state_of collector.old session.old)
         (macro_directive_of directive.entry) (derives_in list.entry) (written_attr_of list.entry.written) (state_of collector.new session.new)) }
+    ensures left { IfOk result (λ left. left ≡ true) }
     ensures depth { directive.entry.depth < 2 ^ 32 }
     ensures few { OnOk result (length list.entry.paths.now < 2 ^ 64) }
     ensures session { AddsLocations (session_of session.old) (session_of session.new) }
@@ -331,7 +324,8 @@ fn walk_without<'a, D: SourceDatabase>(
     let item_attrs = &mut collector.item_attrs;
     item_attrs.pass_over(file, written.item, written.attr_id)?;
     try_derives(collector, db, session, directive, list)?;
-    walk_again(collector, db, session, directive, written)
+    walk_again(collector, db, session, directive, written)?;
+    Ok(true)
 }
 
 /// Walks an item once more that waited, where it stood and in the stored directory of its module. On
@@ -408,26 +402,19 @@ fn try_derive<'a, D: SourceDatabase>(
     ensures dirs { collector.new.mod_dirs ≡ collector.old.mod_dirs }
     ensures depth { directive.entry.depth < 2 ^ 32 }
 {
-    let waiting = directive.derive(written);
     let world = collector.world(db, session);
-    let Some(found) = derive_macro(&world, directive.module_id, written) else {
-        collector.unresolved_macros.push_back(waiting)?;
-        return Ok(());
+    let Some(macro_def) = derive_macro(&world, directive.module_id, written) else {
+        return queue_derive(&mut collector.unresolved_macros, &directive, written);
     };
-    let def_map = &mut collector.def_map;
-    match deferred_derive(db, found) {
-        Some(derive) => {
-            let call = call_derive(def_map, db, &directive, written, found)?;
-            let deferral = directive.deferral(written, call, derive);
-            let deferred = &mut collector.deferred_builtin_derives;
-            deferred.defer(directive.position, deferral)
-        }
-        None => {
-            let call = give_derive(def_map, db, &directive, written, found)?;
-            collector.expansions.push_back(waiting.expansion(call))?;
-            Ok(())
-        }
-    }
+    let found = FoundDerive { written, macro_def };
+    call_tried(
+        &mut collector.def_map,
+        db,
+        &mut collector.deferred_builtin_derives,
+        &mut collector.expansions,
+        &directive,
+        found,
+    )
 }
 
 /// Walks the expansions of what was given a call, in order. On `Err` nothing but safety is promised.

@@ -15,9 +15,8 @@ returns-clause-given_up g c =
     let s : State = state_of c.args.collector.now c.args.session.now in
     let d = macro_directive_of c.in-Some.item.directive in
     let written = written_attr_of c.in-Some.item.written in
-    let left = c.take_out.ensures in
-    let passed : State = state_of (record c.args.collector.now { unresolved_macros = c.take_out.new.directives; item_attrs = c.pass_over.new.self; diagnostics = c.report_attr.new.diagnostics }) c.args.session.now in
+    let up = c.in_ok-give_up.ensures s in
+    let passed : State = state_of (record c.args.collector.now { unresolved_macros = c.give_up.new.directives; item_attrs = c.give_up.new.item_attrs; diagnostics = c.give_up.new.diagnostics }) c.args.session.now in
     let t : State = state_of c.walk_again.new.collector c.walk_again.new.session in
-    λ moved. gave_up oracle s passed t left.before d left.behind written left.stands c.in-Some.ensures.attr
-    (λ i. record s { diagnostics = c.in_ok-report_attr.ensures i; macros = left.left i; skipped = c.in_ok-pass_over.ensures.skipped i; active = c.pass_over.ensures.active i })
+    λ moved. gave_up oracle s passed t up.before d up.behind written up.stands c.in-Some.ensures.attr up.is
     c.in_ok-walk_again.ensures.run (macros_in c.fill_gap.new.directives.items) c.in_ok-fill_gap.ensures.order c.requires.stuck (omega (arith, c.walk_again.ensures.depth)) (few_macros c.walk_again.new.collector.unresolved_macros)
