@@ -448,10 +448,7 @@ fn walk_expansion<'a, D: SourceDatabase>(
     ensures session { AddsLocations (session_of session.old) (session_of session.new) }
 {
     match open_expansion(collector, db, expansion)? {
-        Some(list) => {
-            walk(collector, db, session, list)?;
-            Ok(())
-        }
+        Some(list) => walk(collector, db, session, list),
         None => Ok(()),
     }
 }
