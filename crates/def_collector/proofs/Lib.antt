@@ -8,6 +8,7 @@ mod MacroPassLemmas
 mod PassLemmas
 mod TriesLemmas
 mod TurnLemmas
+mod VisibilityLemmas
 mod VisitLemmas
 mod WakeLemmas
 mod WalkLemmas

@@ -1,4 +1,5 @@
 pub mod Collector
+pub mod Constructors
 pub mod Passes
 pub mod Places
 pub mod Setting

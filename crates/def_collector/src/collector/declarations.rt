@@ -9,6 +9,7 @@ ghost use Rattle.def_laws.specs.Performs.{Handled, Performs};
 ghost use Rattle.def_rules.specs.Items.{declared_effect, written_vis};
 
 use super::DefCollector;
+use super::visibility::constructor_visibility;
 use def_ids::{Def, ModuleId};
 use def_interner::{Interner, Location};
 use def_items::{Declaration, Declared, Definition, define, define_struct, number_item};
@@ -78,7 +79,7 @@ impl DefCollector<'_> {
         }
         .intern(session)?;
         let at = site.module_id;
-        let ctor_vis = self.constructor_visibility(db, session, at, written.ctor);
+        let ctor_vis = constructor_visibility(&self.world(db, session), at, written.ctor);
         let defined = Definition {
             name: written.name,
             def: Def::Struct(id),

@@ -1,8 +1,9 @@
 //! What visibilities mean in a module.
 ghost use Rattle.std.specs.Prelude.{◌≡◌, map};
 ghost use Rattle.def_collector.specs.Collector.{state_of};
-ghost use Rattle.def_rules.specs.Items.{ctor_vis, least_in, least_of, written_vis};
-ghost use Rattle.def_rules.specs.State.{order, world};
+ghost use Rattle.def_collector.specs.Constructors.{ctor_vis_in, order_in, vis_in};
+ghost use Rattle.def_rules.specs.Items.{least_in, least_of, written_vis};
+ghost use Rattle.def_rules.specs.State.{world};
 ghost use Rattle.def_sources.specs.Tables.{bound_by};
 ghost use Rattle.def_map.specs.Asking.{world_lent};
 
@@ -44,69 +45,63 @@ impl DefCollector<'_> {
     {
         visibility_in(&self.world(db, session), module_id, visibility)
     }
+}
 
-    /// The visibility of a struct's constructor, if it has one.
-    pub(crate) fn constructor_visibility<D: SourceDatabase>(
-        &self,
-        db: &D,
-        session: &Interner,
-        module_id: ModuleId,
-        ctor: &CtorVisibility,
-    ) -> Option<Visibility>
-        ensures { result ≡ ctor_vis (D.oracle db.now) (state_of self.now session.now) module_id ctor.now }
-    {
-        match ctor {
-            CtorVisibility::NoValueNsCtor => None,
-            CtorVisibility::ValueNsCtorWithVis(visibility) => {
-                Some(self.resolve_visibility(db, session, module_id, visibility))
-            }
-            CtorVisibility::ValueNsCtorWithMinVis(fields) => {
-                self.least_visibility(db, session, module_id, fields.as_slice())
-            }
+/// The visibility of a struct's constructor in a module of this world, if it has one.
+pub(super) fn constructor_visibility<D: SourceDatabase>(
+    world: &World<'_, D, Table>,
+    module_id: ModuleId,
+    ctor: &CtorVisibility,
+) -> Option<Visibility>
+    ensures { result ≡ ctor_vis_in (world_lent D.oracle bound_by world.now) module_id ctor.now }
+{
+    match ctor {
+        CtorVisibility::NoValueNsCtor => None,
+        CtorVisibility::ValueNsCtorWithVis(visibility) => {
+            Some(visibility_in(world, module_id, visibility))
+        }
+        CtorVisibility::ValueNsCtorWithMinVis(fields) => {
+            least_visibility(world, module_id, fields.as_slice())
         }
     }
+}
 
-    /// The least of the visibilities of a struct's fields, if there are any and each two that meet
-    /// are related.
-    fn least_visibility<D: SourceDatabase>(
-        &self,
-        db: &D,
-        session: &Interner,
-        module_id: ModuleId,
-        fields: &[RawVisibility],
-    ) -> Option<Visibility>
-        ensures { result ≡ (let s = state_of self.now session.now in
-            least_in (order s) (map (λ raw. written_vis (D.oracle db.now) s module_id raw) fields.now)) }
-    {
-        match fields {
-            [] => None,
-            [first, rest @ ..] => {
-                let first = self.resolve_visibility(db, session, module_id, first);
-                self.least_with(db, session, module_id, first, rest)
-            }
+/// The least of the visibilities of a struct's fields, if there are any and each two that meet are
+/// related.
+fn least_visibility<D: SourceDatabase>(
+    world: &World<'_, D, Table>,
+    module_id: ModuleId,
+    fields: &[RawVisibility],
+) -> Option<Visibility>
+    ensures { result ≡ (let w = world_lent D.oracle bound_by world.now in
+        least_in (order_in w) (map (λ raw. vis_in w module_id raw) fields.now)) }
+{
+    match fields {
+        [] => None,
+        [first, rest @ ..] => {
+            let first = visibility_in(world, module_id, first);
+            least_with(world, module_id, first, rest)
         }
     }
+}
 
-    /// The least of a visibility and those of fields, if each two that meet are related.
-    fn least_with<D: SourceDatabase>(
-        &self,
-        db: &D,
-        session: &Interner,
-        module_id: ModuleId,
-        first: Visibility,
-        fields: &[RawVisibility],
-    ) -> Option<Visibility>
-        ensures { result ≡ (let s = state_of self.now session.now in
-            least_of (order s) first (map (λ raw. written_vis (D.oracle db.now) s module_id raw) fields.now)) }
-    {
-        let mut least = first;
-        'fields: for field in fields {
-            let vis = self.resolve_visibility(db, session, module_id, field);
-            match self.def_map.tree.min(least, vis) {
-                Some(lesser) => least = lesser,
-                None => return None,
-            }
+/// The least of a visibility and those of fields, if each two that meet are related.
+fn least_with<D: SourceDatabase>(
+    world: &World<'_, D, Table>,
+    module_id: ModuleId,
+    first: Visibility,
+    fields: &[RawVisibility],
+) -> Option<Visibility>
+    ensures { result ≡ (let w = world_lent D.oracle bound_by world.now in
+        least_of (order_in w) first (map (λ raw. vis_in w module_id raw) fields.now)) }
+{
+    let mut least = first;
+    'fields: for field in fields {
+        let vis = visibility_in(world, module_id, field);
+        match world.map.tree.min(least, vis) {
+            Some(lesser) => least = lesser,
+            None => return None,
         }
-        Some(least)
     }
+    Some(least)
 }
