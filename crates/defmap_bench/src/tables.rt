@@ -11,6 +11,12 @@ use std::io;
 use std::rt::Clock;
 use std::time::{Duration, Instant};
 
+/// The map of the modules.
+const MAP: MapId = MapId {
+    krate: Crate(0),
+    block: None,
+};
+
 const MODULES: usize = 10_000;
 
 /// The names of each module.
@@ -62,13 +68,7 @@ type Times = [Duration; 3];
 
 fn place_of(index: usize, name: usize) -> Place {
     Place {
-        module: ModuleId {
-            map: MapId {
-                krate: Crate(0),
-                block: None,
-            },
-            index,
-        },
+        module: ModuleId { map: MAP, index },
         name: Name(name),
     }
 }
@@ -172,7 +172,7 @@ fn time_scope_table<C: Clock>(alloc: Global, clock: &C, places: &Places) -> io::
 }
 
 fn time_numbered_table<C: Clock>(alloc: Global, clock: &C, places: &Places) -> io::Result<Times> {
-    let mut table = NumberedTable::new(alloc)?;
+    let mut table = NumberedTable::new(alloc, MAP)?;
     time_table(clock, &mut table, places)
 }
 

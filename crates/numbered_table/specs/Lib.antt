@@ -1,3 +1,5 @@
+pub mod Short
+pub mod Parts
 pub mod BoundName
 pub mod Link
 pub mod Lists

@@ -1,96 +1,72 @@
 //! A table that keeps the names of all modules in one index.
 #![tactic(auto, unfolding(crate::specs::NumberedTable::content_of))]
 
-ghost use Rattle.std.specs.Prelude.{◌≡◌, ◌↔◌, IsTrue, None, Some, is_none, OnOk, OnErr, IfOk, IfSome, option_copied};
-ghost use Rattle.numbered_table.specs.BoundName.{stands_for, written_in};
-ghost use Rattle.def_bindings.specs.Content.{AreTied, bound_as, is_bound};
+ghost use Rattle.std.specs.Prelude.{◌≡◌, ◌↔◌, IsTrue, Some, is_none, OnOk, OnErr, IfOk, IfSome, option_copied};
+ghost use Rattle.indexmap.specs.IndexMap.{get};
+ghost use Rattle.def_bindings.specs.Content.{AreTied};
 ghost use Rattle.numbered_table.specs.Lists.{lists_of};
-ghost use Rattle.numbered_table.specs.Places.{bindings_of, name_of};
+ghost use Rattle.numbered_table.specs.Places.{AreStrangers, bindings_of, is_own_place};
 ghost use Rattle.def_bindings.specs.Puts.{if_vacant};
 
 use crate::bound_name::BoundName;
 use crate::keyed::Keyed;
 use crate::link::Link;
 use crate::lists::Lists;
-use crate::place::Placed;
-use def_bindings::{Binding, BindingTable, EdgeTo, LoneBinding, NameBindings, Namespace, Slot};
-use def_ids::{ModuleId, TraitId};
+use crate::place::{OwnPlace, Placed};
+use crate::puts::{Put, put_at, remove_at};
+use def_bindings::{
+    Binding, BindingTable, EdgeTo, LoneBinding, NameBindings, Namespace, Slot, Visibility,
+};
+use def_ids::{MapId, ModuleId, TraitId};
 use indexmap::IndexMap;
-use indexmap::map::Entry;
 use std::alloc::{AllocError, Global};
 use tree_ids::Name;
 
 /// What all names stand for in one index over modules and names, and so the unnamed traits and the
-/// edges; and the names of each module in first-bound order.
-pub struct NumberedTable<V> {
+/// edges; and the names of each module in first-bound order. Of the modules of one map, which are
+/// mostly all, the index holds no more than numbers.
+#[derive(Drop)]
+pub struct NumberedTable {
     alloc: Global,
-    bound: IndexMap<Placed<Name>, BoundName<V>>,
+    /// The map whose modules are found by their indices, and whose bindings are kept in short.
+    map: MapId,
+    own: IndexMap<OwnPlace, BoundName>,
+    others: IndexMap<Placed<Name>, BoundName>,
     names: Lists<Name>,
-    unnamed: Keyed<TraitId, V>,
-    edges: Keyed<ModuleId, Link<V>>,
-    ghost tied: { AreTied (bindings_of bound) (lists_of names) },
+    unnamed: Keyed<TraitId, Visibility>,
+    edges: Keyed<ModuleId, Link<Visibility>>,
+    ghost apart: { AreStrangers map others },
+    ghost tied: { AreTied (bindings_of map own others) (lists_of names) },
 }
 
-impl<V: Drop> Drop for NumberedTable<V> {
-    fn drop(self) {
-        let NumberedTable {
-            alloc: _,
-            bound: _,
-            names: _,
-            unnamed: _,
-            edges: _,
-        } = self;
-    }
-}
-
-/// What a name of a module stands for, if it stands for something.
-fn bound_at<V>(
-    bound: &IndexMap<Placed<Name>, BoundName<V>>,
-    module: ModuleId,
-    name: Name,
-) -> Option<&BoundName<V>>
-    ensures { option_copied result ≡ name_of bound.now «module» name }
-{
-    bound.get(&Placed {
-        at: module,
-        key: name,
-    })
-}
-
-/// What the entry with this number among all stands for, where it is that of this name.
-fn bound_numbered<V>(
-    bound: &IndexMap<Placed<Name>, BoundName<V>>,
+/// What the entry with this number among all stands for, where it is that of this place.
+fn bound_numbered(
+    own: &IndexMap<OwnPlace, BoundName>,
     number: usize,
-    module: ModuleId,
-    name: Name,
-) -> Option<&BoundName<V>>
-    ensures { IfSome result (λ there. name_of bound.now «module» name ≡ Some there.now) }
+    place: OwnPlace,
+) -> Option<&BoundName>
+    ensures { IfSome result (λ there. get is_own_place own.now place ≡ Some there.now) }
 {
-    match bound.get_index(number) {
-        Some((placed, there)) if placed.at == module && placed.key == name => Some(there),
+    match own.get_index(number) {
+        Some((found, there)) if *found == place => Some(there),
         _ => None,
     }
 }
 
-/// What a name of a module stands for, if it stands for something. It is looked for at the number
-/// `near` first, which is then the one after it.
-fn bound_near<'a, V>(
-    bound: &'a IndexMap<Placed<Name>, BoundName<V>>,
-    module: ModuleId,
-    name: Name,
+/// What a place stands for, if it stands for something. It is looked for at the number `near` first,
+/// which is then the one after it.
+fn bound_near<'a>(
+    own: &'a IndexMap<OwnPlace, BoundName>,
+    place: OwnPlace,
     near: &mut usize,
-) -> Option<&'a BoundName<V>>
-    ensures { option_copied result ≡ name_of bound.now «module» name }
+) -> Option<&'a BoundName>
+    ensures { option_copied result ≡ get is_own_place own.now place }
 {
-    if let Some(there) = bound_numbered(bound, *near, module, name) {
+    if let Some(there) = bound_numbered(own, *near, place) {
         *near = near.saturating_add(1);
         return Some(there);
     }
-    let placed = Placed {
-        at: module,
-        key: name,
-    };
-    match bound.get_full(&placed) {
+    match own.get_full(&place) {
         Some((number, _, there)) => {
             *near = number.saturating_add(1);
             Some(there)
@@ -99,66 +75,25 @@ fn bound_near<'a, V>(
     }
 }
 
-/// Takes a binding out, and answers whether its name has another.
-fn take_out<V: Copy>(
-    names: &mut IndexMap<Placed<Name>, BoundName<V>>,
-    module: ModuleId,
-    name: Name,
-    ns: Namespace,
-) -> bool
-    ensures bindings { bindings_of names.new
-        ≡ bound_as (bindings_of names.old) «module» name ns None }
-    ensures stays { result ≡ is_bound (bindings_of names.new) «module» name }
-{
-    let placed = Placed {
-        at: module,
-        key: name,
-    };
-    let Some(bound) = names.get_mut(&placed) else {
-        return false;
-    };
-    if bound.take(ns) {
-        return true;
-    }
-    let _ = names.swap_remove(&placed);
-    false
-}
-
-/// Binds a name beside its other bindings where nothing is bound, and answers whether that was so. A
-/// refused call changes nothing.
-fn bind_beside<V: Copy>(
-    alloc: Global,
-    bound: &mut BoundName<V>,
-    ns: Namespace,
-    binding: &Binding<V>,
-) -> Result<bool, AllocError>
-    ensures vacant { IfOk result (λ vacant. vacant ≡ is_none (stands_for bound.old ns)) }
-    ensures done { IfOk result (λ vacant. stands_for bound.new
-        ≡ written_in (stands_for bound.old) ns (if_vacant vacant binding.now)) }
-    ensures refused { OnErr result (bound.new ≡ bound.old) }
-{
-    if bound.get(ns).is_some() {
-        return Ok(false);
-    }
-    bound.set(alloc, ns, binding)?;
-    Ok(true)
-}
-
-impl<V: Copy> NumberedTable<V> {
-    ghost use Rattle.std.specs.Prelude.{◌<◌, ◌^◌, length, slice_get};
+impl NumberedTable {
+    ghost use Rattle.std.specs.Prelude.{◌<◌, ◌^◌, ◌||◌, length, slice_get};
     ghost use Rattle.def_bindings.specs.declared.bindings.Slot.TheVariants.{Named};
     ghost use Rattle.def_bindings.specs.Content.{empty};
     ghost use Rattle.def_bindings.specs.NameBindings.{bound_in, said};
     ghost use Rattle.numbered_table.specs.NumberedTable.{all_edges, content_of};
+    ghost use Rattle.numbered_table.specs.Places.{name_of};
     ghost use Rattle.def_bindings.specs.Puts.{written};
 
-    /// A table with nothing in it.
-    pub fn new(alloc: Global) -> Result<Self, AllocError>
+    /// A table with nothing in it. It takes the least room for modules of this map, and serves those of
+    /// any other as well.
+    pub fn new(alloc: Global, map: MapId) -> Result<Self, AllocError>
         ensures { IfOk result (λ table. content_of table ≡ empty) }
     {
         Ok(NumberedTable {
             alloc,
-            bound: IndexMap::new(alloc),
+            map,
+            own: IndexMap::new(alloc),
+            others: IndexMap::new(alloc),
             names: Lists::new(alloc),
             unnamed: Keyed::new(alloc),
             edges: Keyed::new(alloc),
@@ -169,7 +104,7 @@ impl<V: Copy> NumberedTable<V> {
     pub fn reserve(&mut self, names: usize, edges: usize) -> Result<(), AllocError>
         ensures { content_of self.new ≡ content_of self.old }
     {
-        self.bound.reserve(names)?;
+        self.own.reserve(names)?;
         self.edges.reserve(edges)
     }
 
@@ -180,45 +115,85 @@ impl<V: Copy> NumberedTable<V> {
         self.names.of(module)
     }
 
+    /// What a name of a module stands for, if it stands for something.
+    fn bound_at(&self, module: ModuleId, name: Name) -> Option<&BoundName>
+        ensures { option_copied result ≡ name_of self.now.map self.now.own self.now.others «module» name }
+    {
+        if module.map == self.map {
+            self.own.get(&OwnPlace {
+                index: module.index,
+                name,
+            })
+        } else {
+            self.others.get(&Placed {
+                at: module,
+                key: name,
+            })
+        }
+    }
+
     /// What a name stands for, in short where it can be said. Names that are read in the order in which
     /// they were bound mostly follow each other among all: `near` is where this one is looked for first,
     /// and then where the next one is.
-    pub fn lone_near(&self, module: ModuleId, name: Name, near: &mut usize) -> LoneBinding<'_, V>
+    #[inline(always)]
+    pub fn lone_near(
+        &self,
+        module: ModuleId,
+        name: Name,
+        near: &mut usize,
+    ) -> LoneBinding<Visibility>
         ensures { IfSome (said result) (λ all. (content_of self.now).binding «module» name ≡ bound_in all) }
     {
-        match bound_near(&self.bound, module, name, near) {
-            Some(bound) => bound.lone(),
+        if module.map != self.map {
+            return self.lone(module, name);
+        }
+        let place = OwnPlace {
+            index: module.index,
+            name,
+        };
+        match bound_near(&self.own, place, near) {
+            Some(bound) => bound.lone(self.map),
             None => LoneBinding::Nothing,
         }
     }
 
-    /// Binds a name where nothing is bound, and answers whether that was so. A refused call changes
-    /// nothing.
-    fn bind_name(
-        &mut self,
-        module: ModuleId,
-        name: Name,
-        ns: Namespace,
-        binding: &Binding<V>,
-    ) -> Result<bool, AllocError>
-        ensures done { IfOk result (λ vacant.
-            (vacant ≡ is_none ((content_of self.old).binding «module» name ns))
+    /// Puts a binding, and answers whether it did. A refused call changes nothing.
+    #[inline(always)]
+    fn put(&mut self, put: Put, binding: &Binding<Visibility>) -> Result<bool, AllocError>
+        ensures done { IfOk result (λ wrote.
+            (wrote ≡ (put.over || is_none ((content_of self.old).binding put.at put.name put.ns)))
             × (content_of self.new
-            ≡ written (content_of self.old) «module» (Named name ns) (if_vacant vacant binding.now))) }
+            ≡ written (content_of self.old) put.at (Named put.name put.ns) (if_vacant wrote binding.now))) }
         ensures refused { OnErr result (content_of self.new ≡ content_of self.old) }
     {
-        let alloc = self.alloc;
-        let placed = Placed {
-            at: module,
-            key: name,
-        };
-        match self.bound.entry(placed)? {
-            Entry::Occupied(there) => bind_beside(alloc, there.into_mut(), ns, binding),
-            Entry::Vacant(free) => {
-                self.names.push(module, name)?;
-                free.insert(BoundName::of(ns, binding));
-                Ok(true)
-            }
+        if put.at.map == self.map {
+            let place = OwnPlace {
+                index: put.at.index,
+                name: put.name,
+            };
+            put_at(
+                self.alloc,
+                self.map,
+                &mut self.own,
+                &mut self.names,
+                place,
+                put,
+                binding,
+            )
+        } else {
+            let place = Placed {
+                at: put.at,
+                key: put.name,
+            };
+            put_at(
+                self.alloc,
+                self.map,
+                &mut self.others,
+                &mut self.names,
+                place,
+                put,
+                binding,
+            )
         }
     }
 
@@ -226,7 +201,10 @@ impl<V: Copy> NumberedTable<V> {
     pub fn is_empty(&self) -> bool
         ensures { IsTrue result ↔ (content_of self.now ≡ empty) }
     {
-        if !self.bound.is_empty() {
+        if !self.own.is_empty() {
+            return false;
+        }
+        if !self.others.is_empty() {
             return false;
         }
         if !self.unnamed.is_empty() {
@@ -235,8 +213,15 @@ impl<V: Copy> NumberedTable<V> {
         self.edges.is_empty()
     }
 
+    /// How many edges there are.
+    pub fn edge_count(&self) -> usize
+        ensures { result ≡ length (all_edges self.now) }
+    {
+        self.edges.len()
+    }
+
     /// The edge with this number among all in order of recording, and its source.
-    pub fn numbered_edge(&self, number: usize) -> Option<(ModuleId, EdgeTo<V>)>
+    pub fn numbered_edge(&self, number: usize) -> Option<(ModuleId, EdgeTo<Visibility>)>
         ensures edge { result ≡ slice_get (all_edges self.now) number }
         ensures few { length (all_edges self.now) < 2 ^ 64 }
     {
@@ -254,41 +239,42 @@ impl<V: Copy> NumberedTable<V> {
     }
 }
 
-impl<V: Copy> BindingTable for NumberedTable<V> {
+impl BindingTable for NumberedTable {
     ghost use Rattle.def_bindings.specs.Content.{with_binding, with_unnamed, with_edge};
     ghost use Rattle.numbered_table.specs.NumberedTable.{content_of};
     ghost use Rattle.numbered_table.specs.NumberedTableLaws.{modules_of, are_sources, are_tied};
 
-    type Vis = V;
+    type Vis = Visibility;
 
     ghost content = { content_of };
 
     ghost sources = { λ t. modules_of t.edges.entries.entries };
 
-    fn binding(&self, module: ModuleId, name: Name, ns: Namespace) -> Option<Binding<V>> {
-        match bound_at(&self.bound, module, name) {
-            Some(bound) => bound.get(ns).copied(),
+    fn binding(&self, module: ModuleId, name: Name, ns: Namespace) -> Option<Binding<Visibility>> {
+        match self.bound_at(module, name) {
+            Some(bound) => bound.get(self.map, ns),
             None => None,
         }
     }
 
-    fn bindings(&self, module: ModuleId, name: Name) -> NameBindings<V> {
-        match bound_at(&self.bound, module, name) {
-            Some(bound) => bound.all(),
+    fn bindings(&self, module: ModuleId, name: Name) -> NameBindings<Visibility> {
+        match self.bound_at(module, name) {
+            Some(bound) => bound.all(self.map),
             None => NameBindings::unbound(),
         }
     }
 
-    fn lone(&self, module: ModuleId, name: Name) -> LoneBinding<'_, V> {
-        match bound_at(&self.bound, module, name) {
-            Some(bound) => bound.lone(),
+    #[inline(always)]
+    fn lone(&self, module: ModuleId, name: Name) -> LoneBinding<Visibility> {
+        match self.bound_at(module, name) {
+            Some(bound) => bound.lone(self.map),
             None => LoneBinding::Nothing,
         }
     }
 
     fn module_at(&self, module: ModuleId, name: Name) -> Option<ModuleId> {
-        match bound_at(&self.bound, module, name) {
-            Some(bound) => bound.module(),
+        match self.bound_at(module, name) {
+            Some(bound) => bound.module(self.map),
             None => None,
         }
     }
@@ -297,15 +283,15 @@ impl<V: Copy> BindingTable for NumberedTable<V> {
         self.names.at(module, index)
     }
 
-    fn unnamed_at(&self, module: ModuleId, index: usize) -> Option<(TraitId, V)> {
+    fn unnamed_at(&self, module: ModuleId, index: usize) -> Option<(TraitId, Visibility)> {
         self.unnamed.at(module, index)
     }
 
-    fn unnamed_vis(&self, module: ModuleId, item: TraitId) -> Option<V> {
+    fn unnamed_vis(&self, module: ModuleId, item: TraitId) -> Option<Visibility> {
         self.unnamed.get(module, item)
     }
 
-    fn edge_at(&self, module: ModuleId, index: usize) -> Option<EdgeTo<V>> {
+    fn edge_at(&self, module: ModuleId, index: usize) -> Option<EdgeTo<Visibility>> {
         match self.edges.at(module, index) {
             Some((importer, link)) => Some(EdgeTo {
                 importer,
@@ -316,7 +302,7 @@ impl<V: Copy> BindingTable for NumberedTable<V> {
         }
     }
 
-    fn edge_to(&self, module: ModuleId, importer: ModuleId) -> Option<EdgeTo<V>> {
+    fn edge_to(&self, module: ModuleId, importer: ModuleId) -> Option<EdgeTo<Visibility>> {
         match self.edges.get(module, importer) {
             Some(link) => Some(EdgeTo {
                 importer,
@@ -336,23 +322,19 @@ impl<V: Copy> BindingTable for NumberedTable<V> {
         module: ModuleId,
         name: Name,
         ns: Namespace,
-        binding: Binding<V>,
+        binding: Binding<Visibility>,
     ) -> Result<(), AllocError>
         ensures done { OnOk result (content_of self.new
             ≡ with_binding (content_of self.old) «module» name ns binding) }
         ensures refused { OnErr result (content_of self.new ≡ content_of self.old) }
     {
-        let alloc = self.alloc;
-        let placed = Placed {
+        let put = Put {
             at: module,
-            key: name,
+            name,
+            ns,
+            over: true,
         };
-        if let Some(bound) = self.bound.get_mut(&placed) {
-            return bound.set(alloc, ns, &binding);
-        }
-        self.bound.reserve(1)?;
-        self.names.push(module, name)?;
-        self.bound.insert(placed, BoundName::of(ns, &binding))?;
+        self.put(put, &binding)?;
         Ok(())
     }
 
@@ -360,10 +342,18 @@ impl<V: Copy> BindingTable for NumberedTable<V> {
         &mut self,
         module: ModuleId,
         slot: Slot,
-        binding: &Binding<V>,
+        binding: &Binding<Visibility>,
     ) -> Result<bool, AllocError> {
         match slot {
-            Slot::Named(name, ns) => self.bind_name(module, name, ns, binding),
+            Slot::Named(name, ns) => {
+                let put = Put {
+                    at: module,
+                    name,
+                    ns,
+                    over: false,
+                };
+                self.put(put, binding)
+            }
             Slot::Unnamed(item) => match self.unnamed_vis(module, item) {
                 Some(_) => Ok(false),
                 None => {
@@ -375,12 +365,43 @@ impl<V: Copy> BindingTable for NumberedTable<V> {
     }
 
     fn remove(&mut self, module: ModuleId, name: Name, ns: Namespace) {
-        if !take_out(&mut self.bound, module, name, ns) {
-            self.names.remove(module, name);
+        if module.map == self.map {
+            let place = OwnPlace {
+                index: module.index,
+                name,
+            };
+            remove_at(
+                self.map,
+                &mut self.own,
+                &mut self.names,
+                place,
+                module,
+                name,
+                ns,
+            )
+        } else {
+            let place = Placed {
+                at: module,
+                key: name,
+            };
+            remove_at(
+                self.map,
+                &mut self.others,
+                &mut self.names,
+                place,
+                module,
+                name,
+                ns,
+            )
         }
     }
 
-    fn set_unnamed(&mut self, module: ModuleId, item: TraitId, vis: V) -> Result<(), AllocError>
+    fn set_unnamed(
+        &mut self,
+        module: ModuleId,
+        item: TraitId,
+        vis: Visibility,
+    ) -> Result<(), AllocError>
         ensures done { OnOk result (content_of self.new
             ≡ with_unnamed (content_of self.old) «module» item vis) }
         ensures refused { OnErr result (content_of self.new ≡ content_of self.old) }
@@ -388,7 +409,7 @@ impl<V: Copy> BindingTable for NumberedTable<V> {
         self.unnamed.set(module, item, vis)
     }
 
-    fn set_edge(&mut self, module: ModuleId, edge: EdgeTo<V>) -> Result<(), AllocError>
+    fn set_edge(&mut self, module: ModuleId, edge: EdgeTo<Visibility>) -> Result<(), AllocError>
         ensures done { OnOk result (content_of self.new
             ≡ with_edge (content_of self.old) «module» edge) }
         ensures refused { OnErr result (content_of self.new ≡ content_of self.old) }
