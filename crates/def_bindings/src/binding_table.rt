@@ -40,7 +40,7 @@ pub trait BindingTable {
 
     /// What a name stands for, in short where it can be said: in no namespace, or in one alone. A table
     /// may say nothing of any name.
-    fn lone(&self, module: ModuleId, name: Name) -> LoneBinding<Self::Vis>
+    fn lone(&self, module: ModuleId, name: Name) -> LoneBinding<'_, Self::Vis>
         ensures { IfSome (said result) (λ all. (content self.now).binding «module» name ≡ bound_in all) }
     {
         LoneBinding::Unsaid

@@ -106,10 +106,11 @@ pub fn try_import<'a, D: SourceDatabase>(
     let Some(directive) = entries(collector, import.list)[import.index] else {
         return Ok(false);
     };
-    match &resolve_import_in_short(&collector.world(db, session), &directive.import) {
+    match resolve_import_in_short(&collector.world(db, session), &directive.import) {
         LoneBinding::Nothing => Ok(false),
         LoneBinding::Lone(ns, item) => {
-            let answer = PathAnswer::Lone(*ns, item);
+            let item = *item;
+            let answer = PathAnswer::Lone(ns, &item);
             record_ready(collector, db, session, import, &directive, &answer)
         }
         LoneBinding::Unsaid => try_whole(collector, db, session, import, &directive),

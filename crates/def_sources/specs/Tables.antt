@@ -6,7 +6,7 @@ use Rattle.numbered_table.specs.NumberedTable as table
 
 -- the table of a map
 abbrev pub Table : Type 0
-Table = NumberedTable
+Table = NumberedTable Visibility
 
 -- what is bound, which traits have no name, and where globs lead
 abbrev pub bound_by : Table → Content Visibility

@@ -46,7 +46,7 @@ pub fn bound_in_short<T: BindingTable<Vis = Visibility>>(
     table: &T,
     place: ModuleId,
     name: Name,
-) -> LoneBinding<Visibility>
+) -> LoneBinding<'_, Visibility>
     ensures { IfSome (said_in_short result) (λ found.
         per_namespace ((T.content table.now).binding place name) ≡ found) }
 {

@@ -57,7 +57,6 @@ impl<'a> GlobScope<'a> {
     }
 
     /// Appends the entry of what the module binds in a namespace, if the glob sees it.
-    #[inline(always)]
     fn push_seen(
         &self,
         entries: &mut Vec<Entry<Visibility>>,
@@ -118,7 +117,8 @@ impl<'a> GlobScope<'a> {
         )
     }
 
-    /// Appends the entries of a name, which the table keeps near a number.
+    /// Appends the entries of a name, which the table keeps near a number. The binding of one that stands
+    /// in one namespace is lent.
     fn push_name(
         &self,
         entries: &mut Vec<Entry<Visibility>>,
@@ -130,9 +130,9 @@ impl<'a> GlobScope<'a> {
         ensures { OnOk result (entries.new.items ≡ entries.old.items
             ++ name_entries (order_over (chain_in self.now.order.now)) self.now.glob self.now.own (bound_by self.now.table.now) self.now.source name) }
     {
-        match &self.table.lone_near(self.source, name, near) {
+        match self.table.lone_near(self.source, name, near) {
             LoneBinding::Nothing => Ok(()),
-            LoneBinding::Lone(ns, item) => self.push_seen(entries, inside, name, *ns, Some(item)),
+            LoneBinding::Lone(ns, item) => self.push_seen(entries, inside, name, ns, Some(item)),
             LoneBinding::Unsaid => self.push_each(entries, inside, name),
         }
     }

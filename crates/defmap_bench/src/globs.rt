@@ -186,7 +186,7 @@ fn time_round<C: Clock>(
     order: &ModuleTree,
     graph: Graph,
 ) -> io::Result<Duration> {
-    let mut globs = Globs::new(alloc, NumberedTable::new(alloc, MAP)?);
+    let mut globs = Globs::new(alloc, NumberedTable::new(alloc)?);
     time_graph(clock, order, &mut globs, graph)
 }
 

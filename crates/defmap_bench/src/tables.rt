@@ -11,12 +11,6 @@ use std::io;
 use std::rt::Clock;
 use std::time::{Duration, Instant};
 
-/// The map of the modules.
-const MAP: MapId = MapId {
-    krate: Crate(0),
-    block: None,
-};
-
 const MODULES: usize = 10_000;
 
 /// The names of each module.
@@ -68,7 +62,13 @@ type Times = [Duration; 3];
 
 fn place_of(index: usize, name: usize) -> Place {
     Place {
-        module: ModuleId { map: MAP, index },
+        module: ModuleId {
+            map: MapId {
+                krate: Crate(0),
+                block: None,
+            },
+            index,
+        },
         name: Name(name),
     }
 }
@@ -172,7 +172,7 @@ fn time_scope_table<C: Clock>(alloc: Global, clock: &C, places: &Places) -> io::
 }
 
 fn time_numbered_table<C: Clock>(alloc: Global, clock: &C, places: &Places) -> io::Result<Times> {
-    let mut table = NumberedTable::new(alloc, MAP)?;
+    let mut table = NumberedTable::new(alloc)?;
     time_table(clock, &mut table, places)
 }
 

@@ -1,4 +1,3 @@
-pub mod PartsLemmas
 pub mod BoundNameLemmas
 pub mod ByModuleLemmas
 pub mod ResultLemmas

@@ -1,5 +1,3 @@
-pub mod Short
-pub mod Parts
 pub mod BoundName
 pub mod Link
 pub mod Lists

@@ -26,11 +26,11 @@ among (p ∷ es) m e h =
     ]
 
 -- every module with an edge is that of a key
-pub are_sources : (t : NumberedTable) → AreSources (content_of t) (modules_of t.edges.entries.entries)
+pub are_sources : {V : Type 0} (t : NumberedTable V) → AreSources (content_of t) (modules_of t.edges.entries.entries)
 unfolding content_of
 are_sources t m e h = among t.edges.entries.entries m e h
 
 -- names and bindings are tied
-pub are_tied : (t : NumberedTable) → AreTied (content_of t).binding (content_of t).names
+pub are_tied : {V : Type 0} (t : NumberedTable V) → AreTied (content_of t).binding (content_of t).names
 unfolding content_of
 are_tied t = t.tied

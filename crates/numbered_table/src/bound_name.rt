@@ -1,209 +1,121 @@
 //! What one name stands for, as a numbered table keeps it.
-ghost use Rattle.std.specs.Prelude.{◌≡◌, Some, None, is_some, IfOk, IfSome, IsTrue, IsFalse, OnOk, OnErr};
-ghost use Rattle.def_ids.specs.declared.ids.MapId.{MapId};
+ghost use Rattle.std.specs.Prelude.{◌≡◌, Some, None, IfSome, IsTrue, IsFalse, OnOk, OnErr, option_copied};
 ghost use Rattle.def_bindings.specs.NameBindings.{bound_in, module_bound, said};
 ghost use Rattle.def_bindings.specs.declared.bindings.Namespace.TheVariants.{Types};
-ghost use Rattle.numbered_table.specs.BoundName.{stands_for, with_namespace};
-ghost use Rattle.numbered_table.specs.Parts.{part_in};
+ghost use Rattle.numbered_table.specs.BoundName.{beside, stands_for, with_namespace};
 
-use crate::each::Each;
-use crate::part::Part;
-use crate::parts::Parts;
-use crate::short::{Kind, Short, Source};
-use def_bindings::{Binding, LoneBinding, NameBindings, Namespace, Visibility};
-use def_ids::{MapId, ModuleId};
+use def_bindings::{Binding, LoneBinding, NameBindings, Namespace};
+use def_ids::ModuleId;
 use std::alloc::{AllocError, Global};
 
-/// What a name stands for in a table of one map. Most names stand in one namespace alone, for a
-/// definition that has a short form, and then nothing else is kept.
+/// What a name stands for: its binding in one namespace, and those beside it. Most names stand in
+/// one namespace alone, so what is beside is kept apart.
 #[derive(Drop)]
-pub enum BoundName {
-    One {
-        ns: Namespace,
-        kind: Kind,
-        source: Source,
-        idx: u32,
-        def: usize,
-        vis: usize,
-        import: usize,
-    },
-    Each(Box<Each>),
+pub struct BoundName<V> {
+    pub ns: Namespace,
+    pub binding: Binding<V>,
+    pub others: Option<Box<NameBindings<V>>>,
 }
 
-/// A name with one binding that has no short form.
-#[inline(never)]
-fn whole(
-    alloc: Global,
-    ns: Namespace,
-    binding: &Binding<Visibility>,
-) -> Result<BoundName, AllocError>
-    ensures { IfOk result (λ name. (map : MapId) → stands_for map name ≡ with_namespace (λ n. None) ns (Some binding.now)) }
+/// All that is kept beside.
+fn all_beside<V: Copy>(others: &Option<Box<NameBindings<V>>>) -> NameBindings<V>
+    ensures { bound_in result ≡ beside others.now }
 {
-    let part = Part::Whole(Box::new(alloc, *binding)?);
-    let mut parts = Parts::vacant();
-    parts.put(ns, part);
-    Ok(BoundName::Each(Box::new(alloc, Each { parts })?))
+    match others {
+        Some(there) => **there,
+        None => NameBindings::unbound(),
+    }
 }
 
-/// A name with a binding in each of two namespaces.
-#[inline(never)]
-fn both(
+/// Keeps these beside.
+fn keep<V: Copy>(
+    others: &mut Option<Box<NameBindings<V>>>,
     alloc: Global,
-    map: MapId,
-    own: Namespace,
-    first: Part,
-    ns: Namespace,
-    binding: &Binding<Visibility>,
-) -> Result<BoundName, AllocError>
-    ensures { IfOk result (λ name. stands_for map name
-        ≡ with_namespace (with_namespace (λ n. None) own (part_in map first)) ns (Some binding.now)) }
+    bindings: NameBindings<V>,
+) -> Result<(), AllocError>
+    ensures done { OnOk result (beside others.new ≡ bound_in bindings) }
+    ensures refused { OnErr result (others.new ≡ others.old) }
 {
-    let second = Part::of(alloc, map, binding)?;
-    let mut parts = Parts::vacant();
-    parts.put(own, first);
-    parts.put(ns, second);
-    Ok(BoundName::Each(Box::new(alloc, Each { parts })?))
-}
-
-impl BoundName {
-    /// A name with one binding.
-    #[inline(always)]
-    pub fn of(
-        alloc: Global,
-        map: MapId,
-        ns: Namespace,
-        binding: &Binding<Visibility>,
-    ) -> Result<Self, AllocError>
-        ensures { IfOk result (λ name. stands_for map name ≡ with_namespace (λ n. None) ns (Some binding.now)) }
-    {
-        match Short::of(map, binding) {
-            Some(short) => Ok(BoundName::One {
-                ns,
-                kind: short.kind,
-                source: short.source,
-                idx: short.idx,
-                def: short.def,
-                vis: short.vis,
-                import: short.import,
-            }),
-            None => whole(alloc, ns, binding),
+    match others {
+        Some(there) => {
+            **there = bindings;
+            Ok(())
+        }
+        None => {
+            *others = Some(Box::new(alloc, bindings)?);
+            Ok(())
         }
     }
+}
 
-    /// Whether the name is bound in a namespace.
-    pub fn is_bound_in(&self, ns: Namespace) -> bool
-        ensures { (map : MapId) → result ≡ is_some (stands_for map self.now ns) }
+/// Takes what is beside in a namespace out, and answers what is left.
+fn take_beside<V: Copy>(others: &mut Option<Box<NameBindings<V>>>, ns: Namespace) -> NameBindings<V>
+    ensures result { bound_in result ≡ beside others.new }
+    ensures left { beside others.new ≡ with_namespace (beside others.old) ns None }
+{
+    match others {
+        Some(there) => {
+            let left = there.with(ns, None);
+            **there = left;
+            left
+        }
+        None => NameBindings::unbound(),
+    }
+}
+
+impl<V: Copy> BoundName<V> {
+    /// A name with one binding.
+    pub fn of(ns: Namespace, binding: &Binding<V>) -> Self
+        ensures { stands_for result ≡ with_namespace (λ n. None) ns (Some binding.now) }
     {
-        match self {
-            BoundName::One { ns: own, .. } => own.is_same(ns),
-            BoundName::Each(each) => !each.parts.get(ns).is_vacant(),
+        BoundName {
+            ns,
+            binding: *binding,
+            others: None,
         }
     }
 
     /// The binding in a namespace.
-    pub fn get(&self, map: MapId, ns: Namespace) -> Option<Binding<Visibility>>
-        ensures { result ≡ stands_for map self.now ns }
+    pub fn get(&self, ns: Namespace) -> Option<&Binding<V>>
+        ensures { option_copied result ≡ stands_for self.now ns }
     {
-        match self {
-            BoundName::One {
-                ns: own,
-                kind,
-                source,
-                idx,
-                def,
-                vis,
-                import,
-            } => {
-                if !own.is_same(ns) {
-                    return None;
-                }
-                let short = Short {
-                    kind: *kind,
-                    source: *source,
-                    idx: *idx,
-                    def: *def,
-                    vis: *vis,
-                    import: *import,
-                };
-                Some(short.long(map))
-            }
-            BoundName::Each(each) => each.parts.get(ns).long(map),
+        if self.ns.is_same(ns) {
+            return Some(&self.binding);
+        }
+        match &self.others {
+            Some(others) => others.get(ns),
+            None => None,
         }
     }
 
     /// The bindings in all namespaces.
-    pub fn all(&self, map: MapId) -> NameBindings<Visibility>
-        ensures { bound_in result ≡ stands_for map self.now }
+    pub fn all(&self) -> NameBindings<V>
+        ensures { bound_in result ≡ stands_for self.now }
     {
-        match self {
-            BoundName::One {
-                ns,
-                kind,
-                source,
-                idx,
-                def,
-                vis,
-                import,
-            } => {
-                let short = Short {
-                    kind: *kind,
-                    source: *source,
-                    idx: *idx,
-                    def: *def,
-                    vis: *vis,
-                    import: *import,
-                };
-                NameBindings::of(*ns, short.long(map))
-            }
-            BoundName::Each(each) => each.parts.all(map),
+        // Most names stand in one namespace alone, and then nothing else is copied.
+        match &self.others {
+            Some(others) => others.with(self.ns, Some(self.binding)),
+            None => NameBindings::of(self.ns, self.binding),
         }
     }
 
-    /// The one binding, where the name is kept in short, and its namespace.
-    #[inline(always)]
-    pub fn lone(&self, map: MapId) -> LoneBinding<Visibility>
-        ensures { IfSome (said result) (λ all. stands_for map self.now ≡ bound_in all) }
+    /// The one binding, where nothing is kept beside it, and its namespace.
+    pub fn lone(&self) -> LoneBinding<'_, V>
+        ensures { IfSome (said result) (λ all. stands_for self.now ≡ bound_in all) }
     {
-        match self {
-            BoundName::One {
-                ns,
-                kind,
-                source,
-                idx,
-                def,
-                vis,
-                import,
-            } => {
-                let short = Short {
-                    kind: *kind,
-                    source: *source,
-                    idx: *idx,
-                    def: *def,
-                    vis: *vis,
-                    import: *import,
-                };
-                LoneBinding::Lone(*ns, short.long(map))
-            }
-            BoundName::Each(_) => LoneBinding::Unsaid,
+        match self.others {
+            Some(_) => LoneBinding::Unsaid,
+            None => LoneBinding::Lone(self.ns, &self.binding),
         }
     }
 
     /// The module that it is bound to in types, if it is bound to one.
-    pub fn module(&self, map: MapId) -> Option<ModuleId>
-        ensures { result ≡ module_bound (stands_for map self.now Types) }
+    pub fn module(&self) -> Option<ModuleId>
+        ensures { result ≡ module_bound (stands_for self.now Types) }
     {
-        match self {
-            BoundName::One {
-                ns: Namespace::Types,
-                kind: Kind::Module,
-                def,
-                ..
-            } => Some(ModuleId { map, index: *def }),
-            BoundName::One { .. } => None,
-            BoundName::Each(each) => match each.parts.types.long(map) {
-                Some(binding) => binding.def.as_module(),
-                None => None,
-            },
+        match self.get(Namespace::Types) {
+            Some(binding) => binding.def.as_module(),
+            None => None,
         }
     }
 
@@ -211,64 +123,39 @@ impl BoundName {
     pub fn set(
         &mut self,
         alloc: Global,
-        map: MapId,
         ns: Namespace,
-        binding: &Binding<Visibility>,
+        binding: &Binding<V>,
     ) -> Result<(), AllocError>
-        ensures done { OnOk result (stands_for map self.new
-            ≡ with_namespace (stands_for map self.old) ns (Some binding.now)) }
+        ensures done { OnOk result (stands_for self.new
+            ≡ with_namespace (stands_for self.old) ns (Some binding.now)) }
         ensures refused { OnErr result (self.new ≡ self.old) }
     {
-        match self {
-            BoundName::One {
-                ns: own,
-                kind,
-                source,
-                idx,
-                def,
-                vis,
-                import,
-            } => {
-                let own = *own;
-                if own.is_same(ns) {
-                    *self = BoundName::of(alloc, map, ns, binding)?;
-                    return Ok(());
-                }
-                let first = Part::Numbers {
-                    kind: *kind,
-                    source: *source,
-                    idx: *idx,
-                    def: *def,
-                    vis: *vis,
-                    import: *import,
-                };
-                *self = both(alloc, map, own, first, ns, binding)?;
-                Ok(())
-            }
-            BoundName::Each(each) => {
-                let part = Part::of(alloc, map, binding)?;
-                each.parts.put(ns, part);
-                Ok(())
-            }
+        if self.ns.is_same(ns) {
+            self.binding = *binding;
+            return Ok(());
         }
+        let bindings = all_beside(&self.others);
+        keep(&mut self.others, alloc, bindings.with(ns, Some(*binding)))
     }
 
     /// Takes a binding out, and answers whether another is left. A name that has none keeps what it
     /// had.
-    pub fn take(&mut self, map: MapId, ns: Namespace) -> bool
-        ensures left { IsTrue result → stands_for map self.new
-            ≡ with_namespace (stands_for map self.old) ns None }
-        ensures none { IsFalse result → with_namespace (stands_for map self.old) ns None ≡ (λ n. None) }
+    pub fn take(&mut self, ns: Namespace) -> bool
+        ensures left { IsTrue result → stands_for self.new
+            ≡ with_namespace (stands_for self.old) ns None }
+        ensures none { IsFalse result → with_namespace (stands_for self.old) ns None ≡ (λ n. None) }
     {
-        match self {
-            BoundName::One { ns: own, .. } => !own.is_same(ns),
-            BoundName::Each(each) => {
-                if each.parts.is_alone(ns) {
-                    return false;
-                }
-                each.parts.put(ns, Part::Vacant);
+        let left = take_beside(&mut self.others, ns);
+        if !self.ns.is_same(ns) {
+            return true;
+        }
+        match left.first() {
+            Some((first, binding)) => {
+                self.ns = first;
+                self.binding = binding;
                 true
             }
+            None => false,
         }
     }
 }

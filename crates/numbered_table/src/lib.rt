@@ -3,16 +3,11 @@
 #![tactic(auto)]
 
 mod bound_name;
-mod each;
 mod keyed;
 mod link;
 mod lists;
 mod numbered_table;
-mod part;
-mod parts;
 mod place;
-mod puts;
-mod short;
 
 pub use link::Link;
 pub use numbered_table::NumberedTable;

@@ -25,12 +25,6 @@ const MAP: MapId = MapId {
     block: None,
 };
 
-/// A map without modules.
-const ANOTHER: MapId = MapId {
-    krate: Crate(1),
-    block: None,
-};
-
 /// How many modules the tree has.
 const MODULES: usize = 5;
 
@@ -149,16 +143,7 @@ fn by_numbers(
     order: &ModuleTree,
     script: &Script,
 ) -> Result<Vec<Answers>, AllocError> {
-    play(alloc, order, script, NumberedTable::new(alloc, MAP)?)
-}
-
-/// The same, by a table that keeps what other modules bind in short.
-fn by_whole_places(
-    alloc: Global,
-    order: &ModuleTree,
-    script: &Script,
-) -> Result<Vec<Answers>, AllocError> {
-    play(alloc, order, script, NumberedTable::new(alloc, ANOTHER)?)
+    play(alloc, order, script, NumberedTable::new(alloc)?)
 }
 
 fn by_scopes(
@@ -193,7 +178,6 @@ fn are_alike(alloc: Global, order: &ModuleTree, script: &Script) -> Result<bool,
     let found = by_numbers(alloc, order, script)?;
     Ok(
         are_wanted(script, found.as_slice())
-            && by_whole_places(alloc, order, script)? == found
             && by_scopes(alloc, order, script)? == found
             && by_required_calls(alloc, order, script)? == found,
     )

@@ -5,9 +5,9 @@ use Rattle.numbered_table.proofs.numbered_table.NumberedTable.new.Goals as goal
 
 pub invariant_of-result : goal.invariant_of-result
 unfolding content_of
-invariant_of-result c =
-    record { apart = λ m x h. rw c.new-2.ensures.empty refl; tied = tied-same (λ m x n. None) _ (λ m. []) _ (bindings-empty c.args.map c.new.result c.new-2.result c.new.ensures.empty c.new-2.ensures.empty) c.new-3.ensures (λ m x. refl) }
+invariant_of-result g c =
+    record { tied = tied-same (λ m x n. None) _ (λ m. []) _ (bindings-empty c.new.result c.new.ensures.empty) c.new-2.ensures (λ m x. refl) }
 
 pub returns : goal.returns
 unfolding content_of
-returns c = content-none _ _ _ _ (bindings-empty c.args.map c.new.result c.new-2.result c.new.ensures.empty c.new-2.ensures.empty) c.new-3.ensures c.new-4.ensures c.new-5.ensures
+returns g c = content-none _ _ _ _ (bindings-empty c.new.result c.new.ensures.empty) c.new-2.ensures c.new-3.ensures c.new-4.ensures

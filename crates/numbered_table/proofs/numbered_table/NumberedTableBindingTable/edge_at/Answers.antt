@@ -8,12 +8,12 @@ use Rattle.numbered_table.proofs.numbered_table.NumberedTableBindingTable.edge_a
 
 pub returns-in-Some-clause-edge : goal.returns-in-Some-clause-edge
 unfolding content_of
-returns-in-Some-clause-edge c =
+returns-in-Some-clause-edge g c =
     let es = own_entries c.args.self.now.edges.entries.entries c.args.module in
     sym (slice_get-map edge_of es c.args.index ∙ ap (λ o. option_map edge_of o) (sym c.in-Some.ensures.entry))
 
 pub returns-in-None-clause-edge : goal.returns-in-None-clause-edge
 unfolding content_of
-returns-in-None-clause-edge c =
+returns-in-None-clause-edge g c =
     let es = own_entries c.args.self.now.edges.entries.entries c.args.module in
     sym (slice_get-map edge_of es c.args.index ∙ ap (λ o. option_map edge_of o) (sym c.in-None.ensures.entry))

@@ -6,8 +6,8 @@ use Rattle.numbered_table.proofs.numbered_table.NumberedTableBindingTable.edge_t
 
 pub returns-in-Some : goal.returns-in-Some
 unfolding content_of
-returns-in-Some c = edge_to-found (own_entries c.args.self.now.edges.entries.entries c.args.module) c.args.importer (Some c.in-Some.link) c.in-Some.ensures
+returns-in-Some g c = edge_to-found (own_entries c.args.self.now.edges.entries.entries c.args.module) c.args.importer (Some c.in-Some.link) c.in-Some.ensures
 
 pub returns-in-None : goal.returns-in-None
 unfolding content_of
-returns-in-None c = edge_to-found (own_entries c.args.self.now.edges.entries.entries c.args.module) c.args.importer None c.in-None.ensures
+returns-in-None g c = edge_to-found (own_entries c.args.self.now.edges.entries.entries c.args.module) c.args.importer None c.in-None.ensures
