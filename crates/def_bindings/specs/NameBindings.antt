@@ -28,7 +28,7 @@ with_bound s Macros b = record s { macros = b }
 -- the bindings that are said in short, if anything is said of them
 abbrev pub said : {V : Type 0} → LoneBinding V → Option (NameBindings V)
 said Nothing = Some unbound
-said (Lone ns b) = Some (with_bound unbound ns (Some b.now))
+said (Lone ns b) = Some (with_bound unbound ns (Some b))
 said Unsaid = None
 
 -- whether there is no binding in any namespace

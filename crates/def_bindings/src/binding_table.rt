@@ -1,5 +1,5 @@
 //! Tables of bindings.
-ghost use Rattle.std.specs.Prelude.{◌≡◌, ◌<◌, ◌^◌, List, is_none, length, slice_get, IfOk, IfSome, OnOk, OnErr};
+ghost use Rattle.std.specs.Prelude.{◌≡◌, ◌<◌, ◌^◌, List, is_none, length, option_map, slice_get, IfOk, IfSome, OnOk, OnErr};
 ghost use Rattle.def_ids.specs.declared.ids.ModuleId.{ModuleId};
 ghost use Rattle.def_bindings.specs.Content.{Content, with_binding, without_binding, with_unnamed, with_edge, vis_of, AreSources, AreTied};
 ghost use Rattle.def_bindings.specs.NameBindings.{bound_in, module_bound, said};
@@ -14,7 +14,7 @@ use tree_ids::Name;
 
 /// Bindings, names, unnamed traits and glob edges by module, however they are kept. What is read is
 /// copied. A table that finds all bindings of a name, an unnamed trait or an edge by one look-up, or
-/// that binds where it has looked, has bodies of its own for `bindings`, `lone`, `module_at`,
+/// that binds where it has looked, has bodies of its own for `visibility`, `bindings`, `lone`, `module_at`,
 /// `unnamed_vis`, `edge_to` and `bind`, and one that grows its lists for `expect_names`.
 pub trait BindingTable {
     type Vis: Copy;
@@ -26,6 +26,16 @@ pub trait BindingTable {
 
     fn binding(&self, module: ModuleId, name: Name, ns: Namespace) -> Option<Binding<Self::Vis>>
         ensures { result ≡ (content self.now).binding «module» name ns };
+
+    /// The visibility of what a name stands for in a namespace.
+    fn visibility(&self, module: ModuleId, name: Name, ns: Namespace) -> Option<Self::Vis>
+        ensures { result ≡ option_map (λ b. b.vis) ((content self.now).binding «module» name ns) }
+    {
+        match self.binding(module, name, ns) {
+            Some(binding) => Some(binding.vis),
+            None => None,
+        }
+    }
 
     /// What a name stands for in each namespace.
     fn bindings(&self, module: ModuleId, name: Name) -> NameBindings<Self::Vis>
@@ -40,7 +50,7 @@ pub trait BindingTable {
 
     /// What a name stands for, in short where it can be said: in no namespace, or in one alone. A table
     /// may say nothing of any name.
-    fn lone(&self, module: ModuleId, name: Name) -> LoneBinding<'_, Self::Vis>
+    fn lone(&self, module: ModuleId, name: Name) -> LoneBinding<Self::Vis>
         ensures { IfSome (said result) (λ all. (content self.now).binding «module» name ≡ bound_in all) }
     {
         LoneBinding::Unsaid

@@ -14,11 +14,11 @@ pub struct NameBindings<V> {
 
 /// What is said in short of the bindings of one name. Most names have one binding, or none.
 #[derive(Clone, Copy)]
-pub enum LoneBinding<'a, V> {
+pub enum LoneBinding<V> {
     /// There is none.
     Nothing,
     /// There is one, in this namespace.
-    Lone(Namespace, &'a Binding<V>),
+    Lone(Namespace, Binding<V>),
     /// Nothing is said of them.
     Unsaid,
 }

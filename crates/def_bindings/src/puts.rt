@@ -1,5 +1,5 @@
 //! Puts of bindings, and their copies along the edges of globs.
-ghost use Rattle.std.specs.Prelude.{◌≡◌, Some, is_some, IfOk, OnErr};
+ghost use Rattle.std.specs.Prelude.{◌≡◌, Some, is_some, option_map, IfOk, OnErr};
 ghost use Rattle.def_bindings.specs.Puts.{held, fitted, settled, settled_over, settled_by_glob, written, put, slot_of, answer, copied, glob_of, unnamed_binding};
 
 use crate::binding_table::BindingTable;
@@ -86,6 +86,17 @@ pub fn held_at<T: BindingTable>(table: &T, module: ModuleId, slot: Slot) -> Opti
             Some(vis) => Some(as_binding(item, vis)),
             None => None,
         },
+    }
+}
+
+/// The visibility of what a module binds at a slot.
+#[inline(always)]
+fn vis_at<T: BindingTable>(table: &T, module: ModuleId, slot: Slot) -> Option<T::Vis>
+    ensures { result ≡ option_map (λ b. b.vis) (held (T.content table.now) «module» slot) }
+{
+    match slot {
+        Slot::Named(name, ns) => table.visibility(module, name, ns),
+        Slot::Unnamed(item) => table.unnamed_vis(module, item),
     }
 }
 
@@ -193,12 +204,16 @@ pub fn copy_along<T: BindingTable, O: VisOrder<Vis = T::Vis>>(
         × (T.content table.new ≡ copied o source edge slot c)) }
     ensures refused { OnErr result (T.content table.new ≡ T.content table.old) }
 {
+    // Most of what is bound is seen by no importer, and then its visibility alone is read.
+    let Some(vis) = vis_at(table, source, slot) else {
+        return Ok(false);
+    };
+    if !order.visible(vis, edge.importer) {
+        return Ok(false);
+    }
     let Some(own) = held_at(table, source, slot) else {
         return Ok(false);
     };
-    if !order.visible(own.vis, edge.importer) {
-        return Ok(false);
-    }
     let offer = Binding {
         def: own.def,
         vis: lesser_or_import(order, own.vis, edge.vis),

@@ -12,7 +12,9 @@ use Rattle.def_steps.specs.declared.import_lists.ImportList.TheVariants.{Unresol
 use Rattle.def_collector.specs.Collector.{state_of}
 use Rattle.def_steps.specs.ImportLists.{IsRetired, directives_in, present}
 use Rattle.def_collector.specs.Passes.{IsUnready, entries_of}
-use Rattle.def_steps.specs.Shown.{directive_of, directives_kept, import_of, ns_set}
+use Rattle.def_steps.specs.declared.directive.Import.{Import}
+use Rattle.def_steps.specs.declared.directive.NamespaceSet.{NamespaceSet}
+use Rattle.def_steps.specs.Shown.{directive_of, directives_kept, import_of, kept_of, kept_with, ns_set}
 use Rattle.def_laws.specs.Turns.{Moves, turns_left, turns_of}
 use Rattle.def_laws.specs.Performs.{Performs}
 use Rattle.def_rules.specs.Imports.{answer_now, is_ready, kept_after}
@@ -47,6 +49,11 @@ turns_by s t imports = λ i. sum_by turns_of (imports i)
 pub turns_kept : (session : Interner) (old new : DefCollector) → new ≡ record old { def_map = new.def_map; table = new.table; targets = new.targets } → turns_left (state_of new session) ≡ turns_left (state_of old session)
 turns_kept session old new frame =
     turns_by (state_of old session) (state_of new session) (ap (λ (x : DefCollector). directives_in x.unresolved_imports.items ++ directives_in x.indeterminate_imports.items) frame)
+
+-- what stays of an import, as the rules list it
+pub kept-list : (import : Import) (kept : Option NamespaceSet) → directives_kept (kept_with import kept) ≡ kept_list (import_of import) (kept_of kept)
+kept-list import None = refl
+kept-list import (Some recorded) = refl
 
 -- an import left its place, stays among the others if it may be recorded again, and was recorded
 pub moved : (oracle : Oracle) (session : Interner) (old new kept : DefCollector) (d : ImportDirective) (answer : ResolvePathResult) (ready : Bool) (stays : Option ImportDirective)

@@ -19,8 +19,8 @@ use def_imports::{ImportAt, record_named, resolve_import, resolve_import_in_shor
 use def_interner::Interner;
 use def_map::{PathAnswer, SourceDatabase};
 use def_steps::{
-    Import, ImportDirective, ImportList, drop_left, is_ready, new_prelude, next_tried, retire,
-    still_indeterminate,
+    Import, ImportDirective, ImportList, drop_left, is_ready, kept_after, new_prelude, next_tried,
+    retire,
 };
 use item_tree::ImportKind;
 use std::alloc::AllocError;
@@ -106,11 +106,10 @@ pub fn try_import<'a, D: SourceDatabase>(
     let Some(directive) = entries(collector, import.list)[import.index] else {
         return Ok(false);
     };
-    match resolve_import_in_short(&collector.world(db, session), &directive.import) {
+    match &resolve_import_in_short(&collector.world(db, session), &directive.import) {
         LoneBinding::Nothing => Ok(false),
         LoneBinding::Lone(ns, item) => {
-            let item = *item;
-            let answer = PathAnswer::Lone(ns, &item);
+            let answer = PathAnswer::Lone(*ns, item);
             record_ready(collector, db, session, import, &directive, &answer)
         }
         LoneBinding::Unsaid => try_whole(collector, db, session, import, &directive),
@@ -171,10 +170,17 @@ fn record_ready<'a, D: SourceDatabase>(
     if !is_ready(directive.recorded, answer) {
         return Ok(false);
     }
-    let kept = still_indeterminate(*directive, answer);
+    let kept = kept_after(directive.recorded, answer);
     let unresolved = &mut collector.unresolved_imports;
     let indeterminate = &mut collector.indeterminate_imports;
-    retire(unresolved, indeterminate, at.list, at.index, kept)?;
+    retire(
+        unresolved,
+        indeterminate,
+        at.list,
+        at.index,
+        &directive.import,
+        kept,
+    )?;
     record_resolved_import(collector, db, session, &directive.import, answer)?;
     Ok(true)
 }

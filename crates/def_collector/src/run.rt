@@ -130,7 +130,14 @@ fn make_room<'a>(collector: &mut DefCollector<'a>, room: Room) -> Result<(), All
     ensures state { (session : Interner) → state_of collector.new session ≡ state_of collector.old session }
     ensures bare { collector.new.expansions ≡ collector.old.expansions }
 {
+    let alloc = collector.alloc;
+    let root = ModuleId {
+        map: collector.def_map.tree.map,
+        index: 0,
+    };
+    collector.table.expect_names(root, room.root_items);
     collector.def_map.reserve(room.modules)?;
+    collector.def_map.expect_items(alloc, 0, room.root_items)?;
     collector.unresolved_imports.reserve(room.imports)?;
     collector.indeterminate_imports.reserve(room.imports)
 }
@@ -145,6 +152,8 @@ fn room_for<D: SourceDatabase>(db: &D, map: MapId, tree_id: TreeId) -> Room
         result.modules ≤ option_map_or (λ t. length t.items) tree 0 }
     ensures globs { let tree = (D.oracle db.now).item_tree (first_tree (D.oracle db.now) map tree_id) in
         result.globs ≤ option_map_or (λ t. imports_written t.items) tree 0 }
+    ensures root_items { let tree = (D.oracle db.now).item_tree (first_tree (D.oracle db.now) map tree_id) in
+        result.root_items ≤ option_map_or (λ t. length t.top) tree 0 }
 {
     match db.item_tree(first_tree(db, map, tree_id)) {
         Some(tree) => Room::of_tree(tree),
@@ -153,6 +162,7 @@ fn room_for<D: SourceDatabase>(db: &D, map: MapId, tree_id: TreeId) -> Room
             imports: 0,
             modules: 0,
             globs: 0,
+            root_items: 0,
         },
     }
 }

@@ -1,5 +1,5 @@
 -- What a database answers after a write.
-use Rattle.std.proofs.Common.{◌≡◌, refl, ap, ◌∙◌, ℕ, Bool, true, false, ◌&&◌, cond, List, Option, Some, None}
+use Rattle.std.proofs.Common.{◌≡◌, refl, ap, ◌∙◌, ℕ, Bool, true, false, ◌&&◌, cond, List, Option, Some, None, Result, Ok, Err, OnErr, rules}
 use Rattle.std.specs.Prelude.{String, bytes_eq, option_map, unwrap_or}
 use Rattle.std.specs.String.{string_bytes}
 use Rattle.std.specs.Map.{lookup}
@@ -33,6 +33,11 @@ module _ {K X Y S : Type 0} (eq : K → K → Bool) (f : Option X → Y) (old ne
 pub shown-set : {K X Y S : Type 0} (eq : K → K → Bool) (f : X → Y) (old new : IndexMap K X S) (k : K) (x : X)
     → ((q : K) → get eq new q ≡ cond (eq k q) (Some x) (get eq old q)) → (λ (q : K). option_map f (get eq new q)) ≡ set_where (eq k) (Some (f x)) (λ (q : K). option_map f (get eq old q))
 shown-set eq f = read-set eq (option_map f)
+
+-- what is so anyway is so of a refused call
+pub refused : {T E : Type 0} (r : Result T E) {P : Type 0} → P → OnErr r P
+refused (Ok x) h = search rules
+refused (Err e) h = h
 
 file-same : (f g : HirFileId) → files.ghosts.eq f g ≡ file_eq f g
 file-same (File f) (File g) = refl

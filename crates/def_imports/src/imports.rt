@@ -24,10 +24,11 @@ use std::alloc::{AllocError, Global};
 
 /// What the path of an import gives in this world, in short where it can be said: nothing, or one item
 /// in one namespace.
-pub fn resolve_import_in_short<'a, D: SourceDatabase>(
-    world: &World<'a, D, Table>,
+#[inline(always)]
+pub fn resolve_import_in_short<D: SourceDatabase>(
+    world: &World<'_, D, Table>,
     import: &Import,
-) -> LoneBinding<'a, Visibility>
+) -> LoneBinding<Visibility>
     ensures { IfSome (said_in_short result) (λ found.
         resolve (world_lent D.oracle bound_by world.now) for_import import.now.module_id import.now.written.now.path
         ≡ reached found None false) }

@@ -5,17 +5,18 @@ ghost use Rattle.def_imports.specs.Room.{imports_of, imports_written};
 use item_tree::{ImportKind, ItemNode, ItemTree, ModItemKind, UseImport};
 
 /// How much to make room for, so that what is there is not copied while it grows: names, imports,
-/// modules, and globs among the imports.
+/// modules, globs among the imports, and items of the root.
 #[derive(Clone, Copy)]
 pub struct Room {
     pub names: usize,
     pub imports: usize,
     pub modules: usize,
     pub globs: usize,
+    pub root_items: usize,
 }
 
 impl Room {
-    /// Room for a tree: one name for each item, and thrice as many where it has globs, each of which
+    /// Room for a tree: one name for each item, and five for two items where it has globs, each of which
     /// brings the names of a whole module. An entry is a small multiple of an item in size, and so is the
     /// room of what is written.
     pub fn of_tree(tree: &ItemTree) -> Room
@@ -23,6 +24,7 @@ impl Room {
         ensures imports { result.imports ≤ imports_written tree.now.items }
         ensures modules { result.modules ≤ length tree.now.items }
         ensures globs { result.globs ≤ imports_written tree.now.items }
+        ensures root_items { result.root_items ≤ length tree.now.top }
     {
         let nodes = tree.items.as_slice();
         let globs = globs_in(nodes);
@@ -30,11 +32,12 @@ impl Room {
             names: if globs == 0 {
                 nodes.len()
             } else {
-                nodes.len().saturating_mul(3)
+                nodes.len().saturating_mul(5) / 2
             },
             imports: imports_in(nodes),
             modules: modules_in(nodes),
             globs,
+            root_items: tree.top.len(),
         }
     }
 }

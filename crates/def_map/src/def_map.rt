@@ -44,14 +44,16 @@ impl DefMap {
         ensures fresh { IfOk result (λ map. IsFresh (state_of map) (content_of map)) }
     {
         match block {
-            None => Ok(DefMap {
-                table: Table::new(alloc)?,
-                data: crate_data(alloc, krate, edition)?,
-            }),
-            Some(BlockInfo { data }) => Ok(DefMap {
-                table: Table::new(alloc)?,
-                data: block_data(alloc, edition, data)?,
-            }),
+            None => {
+                let data = crate_data(alloc, krate, edition)?;
+                let table = Table::of_map(alloc, data.tree.map)?;
+                Ok(DefMap { data, table })
+            }
+            Some(BlockInfo { data: block }) => {
+                let data = block_data(alloc, edition, block)?;
+                let table = Table::of_map(alloc, data.tree.map)?;
+                Ok(DefMap { data, table })
+            }
         }
     }
 

@@ -50,5 +50,5 @@ pub use def_locs::{
     ExternCrateLoc, FunctionLoc, ImplLoc, Macro2Loc, MacroExpander, MacroRulesLoc, ProcMacroLoc,
     ProcMacroUse, StaticLoc, StructLoc, TraitLoc, TypeAliasLoc, UnionLoc, UseLoc,
 };
-pub use numbered_table::NumberedTable;
+pub use numbered_table::{Kept, NumberedTable, VisNumber};
 pub use scope_table::ScopeTable;

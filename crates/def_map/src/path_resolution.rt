@@ -88,12 +88,13 @@ pub fn resolve_path_fp_with_macro<D: SourceDatabase, T: BindingTable<Vis = Visib
 
 /// What a path means, asked from a module, in short where it can be said: nothing, or one item in one
 /// namespace, and then it leads through modules of its crate.
-pub fn resolve_path_in_short<'a, D: SourceDatabase, T: BindingTable<Vis = Visibility>>(
-    world: &World<'a, D, T>,
+#[inline(always)]
+pub fn resolve_path_in_short<D: SourceDatabase, T: BindingTable<Vis = Visibility>>(
+    world: &World<'_, D, T>,
     asked: Asked,
     original_module: ModuleId,
     path: &ModPath,
-) -> LoneBinding<'a, Visibility>
+) -> LoneBinding<Visibility>
     ensures { IfSome (said_in_short result) (λ found.
         resolve (world_lent D.oracle T.content world.now) asked original_module path.now ≡ reached found None false) }
 {

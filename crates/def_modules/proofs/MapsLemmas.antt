@@ -18,6 +18,12 @@ shown-set shown [] i was new f within at is = absurd (omega arith)
 shown-set shown (x ∷ xs) zero was new f within at is = ap (λ y. y ∷ map shown xs) (is ∙ ap (λ y. f (shown y)) at)
 shown-set shown (x ∷ xs) (suc i) was new f within at is = ap (λ ys. shown x ∷ ys) (shown-set shown xs i was new f (omega arith) at is)
 
+-- and after one that shows the same
+shown-same : {X Y : Type 0} (shown : X → Y) (xs : List X) (i : ℕ) (was new : X) → i < length xs → was ≡ get_or xs i was → shown new ≡ shown was → map shown (set xs i new) ≡ map shown xs
+shown-same shown [] i was new within at is = absurd (omega arith)
+shown-same shown (x ∷ xs) zero was new within at is = ap (λ y. y ∷ map shown xs) (is ∙ ap shown at)
+shown-same shown (x ∷ xs) (suc i) was new within at is = ap (λ ys. shown x ∷ ys) (shown-same shown xs i was new (omega arith) at is)
+
 -- one element replaced
 pub set-update : {X : Type 0} (xs : List X) (i : ℕ) (new : X) → i < length xs → set xs i new ≡ update_at xs i (λ before. new)
 set-update [] i new within = absurd (omega arith)
@@ -38,6 +44,12 @@ module_changed (Ok x) d i was new f within at is =
     let same : length d.modules.items ≡ vec_len d.modules = sym d.modules.ok.0 in
     ap (λ ms. record (map_state d) { modules = ms }) (shown-set module_state d.modules.items i was new f (omega arith) at is)
 module_changed (Err e) d i was new f within at is = tt
+
+-- one module that shows the same
+pub module_same : (d : MapData) (i : ℕ) (was new : ModuleData) → i < vec_len d.modules → was ≡ get_or d.modules.items i was → module_state new ≡ module_state was → map_state (record d { modules = with_item d.modules i new }) ≡ map_state d
+module_same d i was new within at is =
+    let same : length d.modules.items ≡ vec_len d.modules = sym d.modules.ok.0 in
+    ap (λ ms. record (map_state d) { modules = ms }) (shown-same module_state d.modules.items i was new (omega arith) at is)
 
 -- a module that is not there
 pub module_missing : (d : MapData) (i : ℕ) (f : ModuleState → ModuleState) → vec_len d.modules ≤ i → map_state d ≡ with_module (map_state d) i f

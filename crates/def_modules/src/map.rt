@@ -8,7 +8,7 @@ use crate::module_data::{DeriveCall, ModuleData, Position};
 use def_bindings::ModuleTree;
 use def_ids::{MacroId, ModuleId};
 use indexmap::IndexMap;
-use std::alloc::AllocError;
+use std::alloc::{AllocError, Global};
 use tree_ids::{Name, Seq};
 
 /// An attribute that a derive macro reads, with the macro and what its derive gave.
@@ -68,6 +68,21 @@ impl MapData {
         ensures { map_state self.new ≡ map_state self.old }
     {
         self.modules.reserve(modules)
+    }
+
+    /// Makes room in a module for the declarations of so many items, where it has none yet.
+    pub fn expect_items(
+        &mut self,
+        alloc: Global,
+        module: usize,
+        items: usize,
+    ) -> Result<(), AllocError>
+        ensures { map_state self.new ≡ map_state self.old }
+    {
+        match self.modules.get_mut(module) {
+            Some(found) => found.expect_items(alloc, items),
+            None => Ok(()),
+        }
     }
 
     /// Adds a module under its parent. Where the parent is not there, the module has none.

@@ -262,6 +262,16 @@ impl ModuleData {
         Ok(ModuleData::with_legacy_macros(alloc, name, origin, visibility, shared, declarations))
     }
 
+    /// Makes room for the declarations of so many items, where there is none yet.
+    pub(crate) fn expect_items(&mut self, alloc: Global, items: usize) -> Result<(), AllocError>
+        ensures { module_state self.new ≡ module_state self.old }
+    {
+        if self.scope.declarations.is_empty() {
+            self.scope.declarations = room_for(alloc, items)?;
+        }
+        Ok(())
+    }
+
     /// Adds a declaration behind the others.
     pub(crate) fn declare(&mut self, def: Def) -> Result<(), AllocError>
         ensures { OnOk result (module_state self.new ≡ declared_in def (module_state self.old)) }

@@ -34,7 +34,7 @@ alone Macros item = record { types = None; values = None; macros = Some item }
 -- what is said in short of a name, if anything is said of it
 abbrev pub said_in_short : LoneBinding Visibility → Option PerNs
 said_in_short Nothing = Some nothing
-said_in_short (Lone ns item) = Some (alone ns item.now)
+said_in_short (Lone ns item) = Some (alone ns item)
 said_in_short Unsaid = None
 
 -- in each namespace the first, and else the second

@@ -42,11 +42,12 @@ pub fn bound<T: BindingTable<Vis = Visibility>>(table: &T, place: ModuleId, name
 }
 
 /// What a table binds, in short where it can be said: nothing, or one item in one namespace.
+#[inline(always)]
 pub fn bound_in_short<T: BindingTable<Vis = Visibility>>(
     table: &T,
     place: ModuleId,
     name: Name,
-) -> LoneBinding<'_, Visibility>
+) -> LoneBinding<Visibility>
     ensures { IfSome (said_in_short result) (λ found.
         per_namespace ((T.content table.now).binding place name) ≡ found) }
 {

@@ -1,7 +1,7 @@
 //! The table of bindings that maps have.
 
 use def_bindings::Visibility;
-use numbered_table::NumberedTable;
+use numbered_table::{NumberedTable, VisNumber};
 
-/// The bindings, unnamed traits and glob edges of a map.
-pub type Table = NumberedTable<Visibility>;
+/// The bindings, unnamed traits and glob edges of a map, with visibilities by number.
+pub type Table = NumberedTable<Visibility, VisNumber>;

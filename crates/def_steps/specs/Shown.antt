@@ -27,6 +27,10 @@ kept_of kept = option_map ns_set kept
 abbrev pub directive_of : ImportDirective → rules.ImportDirective
 directive_of d = record { import = import_of d.import; recorded = ns_set d.recorded }
 
+-- an import that stays with these namespaces, if it does
+abbrev pub kept_with : Import → Option NamespaceSet → Option ImportDirective
+kept_with import kept = option_map (λ recorded. record { import = import; recorded = recorded }) kept
+
 -- what stays of an import, as a list
 abbrev pub directives_kept : Option ImportDirective → List rules.ImportDirective
 directives_kept None = []

@@ -5,7 +5,7 @@ ghost use Rattle.def_rules.specs.Recording as recording;
 ghost use Rattle.def_rules.specs.Items as items;
 ghost use Rattle.def_rules.specs.ExternCrates as crate_rules;
 ghost use Rattle.def_map.specs.PathAnswer.{whole};
-ghost use Rattle.def_steps.specs.Shown.{directives_kept, import_of, kept_of, ns_set};
+ghost use Rattle.def_steps.specs.Shown.{import_of, kept_of, ns_set};
 
 use crate::answer::{found_in, is_foreign, is_missing, kept_in};
 use def_bindings::{ImportOrExternCrate, Namespace, Visibility};
@@ -102,7 +102,7 @@ impl NamespaceSet {
 
 /// What an import that is recorded stays indeterminate with, after what it had recorded. It is
 /// resolved where another crate was entered, or where it has all three namespaces.
-fn kept_after(recorded: NamespaceSet, answer: &PathAnswer) -> Option<NamespaceSet>
+pub fn kept_after(recorded: NamespaceSet, answer: &PathAnswer) -> Option<NamespaceSet>
     ensures { kept_of result ≡ imports.kept_after (ns_set recorded) (whole answer.now) }
 {
     if is_foreign(answer) {
@@ -110,23 +110,6 @@ fn kept_after(recorded: NamespaceSet, answer: &PathAnswer) -> Option<NamespaceSe
     }
     let all = recorded.union(NamespaceSet::given(answer));
     if all.is_full() { None } else { Some(all) }
-}
-
-/// What stays of an import that is recorded with this answer, if it does not become resolved.
-pub fn still_indeterminate<'a>(
-    directive: ImportDirective<'a>,
-    answer: &PathAnswer,
-) -> Option<ImportDirective<'a>>
-    ensures { directives_kept result
-        ≡ recording.kept_list (import_of directive.entry.import) (imports.kept_after (ns_set directive.entry.recorded) (whole answer.now)) }
-{
-    match kept_after(directive.recorded, answer) {
-        Some(recorded) => Some(ImportDirective {
-            import: directive.import,
-            recorded,
-        }),
-        None => None,
-    }
 }
 
 /// Whether an import that was recorded from these namespaces is to be recorded, for the first time

@@ -57,6 +57,7 @@ impl<'a> GlobScope<'a> {
     }
 
     /// Appends the entry of what the module binds in a namespace, if the glob sees it.
+    #[inline(always)]
     fn push_seen(
         &self,
         entries: &mut Vec<Entry<Visibility>>,
@@ -80,6 +81,24 @@ impl<'a> GlobScope<'a> {
         push_item(entries, self.order, self.glob, name, ns, item)
     }
 
+    /// Appends the entry of what a name stands for in a namespace, if the glob sees it.
+    fn push_in(
+        &self,
+        entries: &mut Vec<Entry<Visibility>>,
+        inside: bool,
+        name: Name,
+        ns: Namespace,
+    ) -> Result<(), AllocError>
+        requires { inside ≡ sees_inside self.now }
+        ensures { OnOk result (let o = order_over (chain_in self.now.order.now) in
+            entries.new.items ≡ entries.old.items
+            ++ brought o self.now.glob name ns
+            (kept (λ item. scope_sees self.now item.vis) ((bound_by self.now.table.now).binding self.now.source name ns))) }
+    {
+        let found = self.table.binding(self.source, name, ns);
+        self.push_seen(entries, inside, name, ns, found.as_ref())
+    }
+
     /// Appends the entries of a name that may stand in several namespaces, in types, values and
     /// macros. It stands apart, since most names stand in one.
     #[inline(never)]
@@ -93,32 +112,12 @@ impl<'a> GlobScope<'a> {
         ensures { OnOk result (entries.new.items ≡ entries.old.items
             ++ name_entries (order_over (chain_in self.now.order.now)) self.now.glob self.now.own (bound_by self.now.table.now) self.now.source name) }
     {
-        let found = self.table.bindings(self.source, name);
-        self.push_seen(
-            entries,
-            inside,
-            name,
-            Namespace::Types,
-            found.types.as_ref(),
-        )?;
-        self.push_seen(
-            entries,
-            inside,
-            name,
-            Namespace::Values,
-            found.values.as_ref(),
-        )?;
-        self.push_seen(
-            entries,
-            inside,
-            name,
-            Namespace::Macros,
-            found.macros.as_ref(),
-        )
+        self.push_in(entries, inside, name, Namespace::Types)?;
+        self.push_in(entries, inside, name, Namespace::Values)?;
+        self.push_in(entries, inside, name, Namespace::Macros)
     }
 
-    /// Appends the entries of a name, which the table keeps near a number. The binding of one that stands
-    /// in one namespace is lent.
+    /// Appends the entries of a name, which the table keeps near a number.
     fn push_name(
         &self,
         entries: &mut Vec<Entry<Visibility>>,
@@ -130,9 +129,9 @@ impl<'a> GlobScope<'a> {
         ensures { OnOk result (entries.new.items ≡ entries.old.items
             ++ name_entries (order_over (chain_in self.now.order.now)) self.now.glob self.now.own (bound_by self.now.table.now) self.now.source name) }
     {
-        match self.table.lone_near(self.source, name, near) {
+        match &self.table.lone_near(self.source, name, near) {
             LoneBinding::Nothing => Ok(()),
-            LoneBinding::Lone(ns, item) => self.push_seen(entries, inside, name, ns, Some(item)),
+            LoneBinding::Lone(ns, item) => self.push_seen(entries, inside, name, *ns, Some(item)),
             LoneBinding::Unsaid => self.push_each(entries, inside, name),
         }
     }

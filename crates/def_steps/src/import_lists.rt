@@ -1,6 +1,6 @@
 //! The lists of imports that are not resolved, and places of theirs that imports leave.
 ghost use Rattle.std.specs.Prelude.{◌≡◌, ◌<◌, ◌≤◌, ◌++◌, ℕ, None, Some, length, slice_get, unwrap_or, IfSome, OnOk};
-ghost use Rattle.def_steps.specs.Shown.{directive_of, directives_kept};
+ghost use Rattle.def_steps.specs.Shown.{directive_of, directives_kept, kept_with};
 ghost use Rattle.def_steps.specs.ImportLists.{IsRetired, directives_in, entries_in, present, queued};
 
 use crate::directive::{Import, ImportDirective, NamespaceSet};
@@ -70,14 +70,17 @@ pub fn next_tried<T>(entries: &[Option<T>], from: usize) -> Option<usize>
     None
 }
 
-/// Takes an import out of its place. What is kept of it stands at the end of the indeterminate
-/// ones, or where it stood among them. On `Err` nothing but safety is promised.
+/// Takes an import out of its place. Where it stays indeterminate with these namespaces it stands at
+/// the end of the indeterminate ones, or where it stood among them. On `Err` nothing but safety is
+/// promised.
+#[inline(always)]
 pub fn retire<'a>(
     unresolved: &mut Vec<Option<ImportDirective<'a>>>,
     indeterminate: &mut Vec<Option<ImportDirective<'a>>>,
     list: ImportList,
     i: usize,
-    kept: Option<ImportDirective<'a>>,
+    import: &Import<'a>,
+    kept: Option<NamespaceSet>,
 ) -> Result<(), AllocError>
     requires { i < length (entries_in list unresolved.old.items indeterminate.old.items) }
     ensures len { OnOk result (length (entries_in list unresolved.new.items indeterminate.new.items)
@@ -85,17 +88,28 @@ pub fn retire<'a>(
     ensures retired { OnOk result ((d : ImportDirective) →
         slice_get (entries_in list unresolved.old.items indeterminate.old.items) i ≡ Some (Some d) →
         IsRetired (directives_in unresolved.old.items ++ directives_in indeterminate.old.items)
-        (directive_of d) (directives_kept kept.entry)
+        (directive_of d) (directives_kept (kept_with import.now kept))
         (directives_in unresolved.new.items ++ directives_in indeterminate.new.items)) }
 {
     match list {
         ImportList::Unresolved => {
             unresolved[i] = None;
-            if let Some(kept) = kept {
-                indeterminate.push(Some(kept))?;
+            if let Some(recorded) = kept {
+                indeterminate.push(Some(ImportDirective {
+                    import: *import,
+                    recorded,
+                }))?;
             }
         }
-        ImportList::Indeterminate => indeterminate[i] = kept,
+        ImportList::Indeterminate => match kept {
+            Some(recorded) => {
+                indeterminate[i] = Some(ImportDirective {
+                    import: *import,
+                    recorded,
+                });
+            }
+            None => indeterminate[i] = None,
+        },
     }
     Ok(())
 }

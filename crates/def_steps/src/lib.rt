@@ -13,8 +13,8 @@ mod targets;
 
 pub use answer::{is_public, kept_in};
 pub use directive::{
-    Import, ImportDirective, NamespaceSet, crate_name, is_prelude_import, is_ready, new_prelude,
-    still_indeterminate,
+    Import, ImportDirective, NamespaceSet, crate_name, is_prelude_import, is_ready, kept_after,
+    new_prelude,
 };
 pub use glob_scope::{GlobScope, variants_entries};
 pub use import_lists::{ImportList, WrittenUse, drop_left, next_tried, queue_imports, retire};

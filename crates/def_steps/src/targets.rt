@@ -74,6 +74,7 @@ pub fn edges_of(alloc: Global, table: &Table) -> Result<Vec<Edge>, AllocError>
     ensures { IfOk result (λ edges. edges.items ≡ map shown_edge (all_edges table.now)) }
 {
     let mut edges = Vec::new(alloc);
+    edges.reserve(table.edge_count())?;
     let mut number = 0;
     'edges: while let Some((source, edge)) = table.numbered_edge(number) {
         edges.push(Edge {
@@ -96,8 +97,8 @@ pub fn targets_of(
     ensures once { IsUnique glob_eq targets.now }
 {
     let mut list = Vec::new(alloc);
+    list.reserve(targets.len())?;
     let mut number = 0;
-    let _ = targets.len();
     'targets: while let Some((glob, defs)) = targets.get_index(number) {
         let copy = defs.as_slice().to_vec(alloc)?;
         list.push((*glob, copy))?;

@@ -3,9 +3,9 @@
 use crate::report::{Entry as Shown, print_report};
 use def_bindings::{BindingTable, Entry, ModuleTree, Namespace, VisOrder, Visibility};
 use def_ids::{Def, GlobId, MapId, ModuleId, StructId, UseId};
+use def_map::Table;
 use def_parts::Globs;
 use item_tree::{Crate, Name, Seq};
-use numbered_table::NumberedTable;
 use std::alloc::{AllocError, Global};
 use std::io;
 use std::rt::Clock;
@@ -186,7 +186,7 @@ fn time_round<C: Clock>(
     order: &ModuleTree,
     graph: Graph,
 ) -> io::Result<Duration> {
-    let mut globs = Globs::new(alloc, NumberedTable::new(alloc)?);
+    let mut globs = Globs::new(alloc, Table::of_map(alloc, MAP)?);
     time_graph(clock, order, &mut globs, graph)
 }
 

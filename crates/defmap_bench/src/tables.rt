@@ -3,13 +3,19 @@
 use crate::report::{Entry, print_report};
 use def_bindings::{Binding, BindingTable, Namespace, Visibility};
 use def_ids::{Def, MapId, ModuleId, StructId};
+use def_map::Table;
 use item_tree::{Crate, Name};
-use numbered_table::NumberedTable;
 use scope_table::ScopeTable;
 use std::alloc::{AllocError, Global};
 use std::io;
 use std::rt::Clock;
 use std::time::{Duration, Instant};
+
+/// The map of the modules.
+const MAP: MapId = MapId {
+    krate: Crate(0),
+    block: None,
+};
 
 const MODULES: usize = 10_000;
 
@@ -62,13 +68,7 @@ type Times = [Duration; 3];
 
 fn place_of(index: usize, name: usize) -> Place {
     Place {
-        module: ModuleId {
-            map: MapId {
-                krate: Crate(0),
-                block: None,
-            },
-            index,
-        },
+        module: ModuleId { map: MAP, index },
         name: Name(name),
     }
 }
@@ -172,7 +172,7 @@ fn time_scope_table<C: Clock>(alloc: Global, clock: &C, places: &Places) -> io::
 }
 
 fn time_numbered_table<C: Clock>(alloc: Global, clock: &C, places: &Places) -> io::Result<Times> {
-    let mut table = NumberedTable::new(alloc)?;
+    let mut table = Table::of_map(alloc, MAP)?;
     time_table(clock, &mut table, places)
 }
 

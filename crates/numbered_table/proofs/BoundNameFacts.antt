@@ -1,40 +1,47 @@
 -- What a name stands for that is kept small, at worked rows.
-use Rattle.std.proofs.Common.{◌≡◌, ℕ, Some, None, Global, refl}
-use Rattle.std.specs.Prelude.{Box}
-use Rattle.def_ids.specs.declared.ids.Def.TheVariants.{Struct}
+use Rattle.std.proofs.Common.{◌≡◌, Some, None, refl}
+use Rattle.def_ids.specs.declared.ids.MapId.{MapId}
+use Rattle.def_ids.specs.declared.ids.Def.TheVariants as def
 use Rattle.def_bindings.specs.declared.bindings.Namespace.TheVariants.{Types, Values, Macros}
 use Rattle.def_bindings.specs.declared.bindings.Binding.{Binding}
-use Rattle.def_bindings.specs.declared.name_bindings.NameBindings.{NameBindings}
+use Rattle.def_bindings.specs.declared.bindings.ImportOrExternCrate.TheVariants as origin
+use Rattle.def_bindings.specs.declared.visibility.Visibility.{Visibility}
+use Rattle.def_bindings.specs.declared.visibility.Visibility.TheVariants as visibility
 use Rattle.numbered_table.specs.declared.bound_name.BoundName.{BoundName}
-use Rattle.def_bindings.specs.NameBindings.{bound_in, unbound, with_bound}
-use Rattle.numbered_table.specs.BoundName.{beside, stands_for, with_namespace}
+use Rattle.numbered_table.specs.declared.bound_name.BoundName.TheVariants.{One}
+use Rattle.numbered_table.specs.declared.short.Kind.TheVariants as kind
+use Rattle.numbered_table.specs.declared.short.Source.TheVariants as source
+use Rattle.def_bindings.specs.NameBindings.{bound_in}
+use Rattle.numbered_table.specs.declared.kept.VisNumber.{VisNumber}
+use Rattle.numbered_table.specs.Kept.{numbered_vis}
+use Rattle.numbered_table.specs.BoundName.{stands_for, with_namespace}
 
-abbrev bind : ℕ → Binding ℕ
-bind n = record { def = Struct (record { 0 = n }); vis = 0; import = None }
+module _ (map : MapId) where
+  -- a public struct that is declared
+  abbrev struct_alone : BoundName Visibility VisNumber
+  struct_alone = One Types kind.Struct source.Declaration 0 7 (record { 0 = 0 }) 0
 
--- a value, and nothing beside it
-abbrev value_alone : BoundName ℕ
-value_alone = record { ns = Values; binding = bind 1; others = None }
+  abbrev struct_binding : Binding Visibility
+  struct_binding = record { def = def.Struct (record { 0 = 7 }); vis = visibility.Public; import = None }
 
-alone : (stands_for value_alone Types ≡ None) × (stands_for value_alone Values ≡ Some (bind 1)) × (stands_for value_alone Macros ≡ None)
-alone = (refl, refl, refl)
+  alone : (stands_for numbered_vis map struct_alone Types ≡ Some struct_binding) × (stands_for numbered_vis map struct_alone Values ≡ None) × (stands_for numbered_vis map struct_alone Macros ≡ None)
+  alone = (refl, refl, refl)
 
-module _ (b : Box (NameBindings ℕ) Global) (is : b.value ≡ with_bound (with_bound unbound Types (Some (bind 2))) Values (Some (bind 3))) where
-  -- a macro, and a type and a value beside it
-  three : (stands_for (record { ns = Macros; binding = bind 1; others = Some b }) Types ≡ beside (Some b) Types) × (stands_for (record { ns = Macros; binding = bind 1; others = Some b }) Macros ≡ Some (bind 1))
-  three = (refl, refl)
+  -- a module that the third import of a `use` brings, seen in the module with index 4
+  abbrev module_alone : BoundName Visibility VisNumber
+  module_alone = One Types kind.Module source.Import 3 1 (record { 0 = 6 }) 5
 
-  -- what is beside it in its own namespace is hidden
-  hidden : stands_for (record { ns = Values; binding = bind 1; others = Some b }) Values ≡ Some (bind 1)
-  hidden = refl
+  imported : stands_for numbered_vis map module_alone Types ≡ Some (record {
+    def = def.Module (record { map = map; index = 1 });
+    vis = visibility.Module (record { map = map; index = 4 });
+    import = Some (origin.Import (record { use_id = record { 0 = 5 }; idx = 3 }));
+  })
+  imported = refl
 
-  what_is_beside : (beside (Some b) Types ≡ Some (bind 2)) × (beside (Some b) Values ≡ Some (bind 3)) × (beside (Some b) Macros ≡ None)
-  what_is_beside = rw is (refl, refl, refl)
-
--- one namespace changed, and the others not
-changed : (with_namespace (stands_for value_alone) Types (Some (bind 2)) Types ≡ Some (bind 2)) × (with_namespace (stands_for value_alone) Types (Some (bind 2)) Values ≡ Some (bind 1)) × (with_namespace (stands_for value_alone) Values None Values ≡ None)
-changed = (refl, refl, refl)
+  -- one namespace changed, and the others not
+  changed : (b : Binding Visibility) → (with_namespace (stands_for numbered_vis map struct_alone) Values (Some b) Types ≡ Some struct_binding) × (with_namespace (stands_for numbered_vis map struct_alone) Values (Some b) Values ≡ Some b) × (with_namespace (stands_for numbered_vis map struct_alone) Types None Types ≡ None)
+  changed b = (refl, refl, refl)
 
 -- the three together, by namespace
-kept : (t v : Binding ℕ) → (bound_in (record { types = Some t; values = Some v; macros = None }) Types ≡ Some t) × (bound_in (record { types = Some t; values = Some v; macros = None }) Values ≡ Some v) × (bound_in (record { types = Some t; values = Some v; macros = None }) Macros ≡ None)
+kept : (t v : Binding Visibility) → (bound_in (record { types = Some t; values = Some v; macros = None }) Types ≡ Some t) × (bound_in (record { types = Some t; values = Some v; macros = None }) Values ≡ Some v) × (bound_in (record { types = Some t; values = Some v; macros = None }) Macros ≡ None)
 kept t v = (refl, refl, refl)

@@ -1,3 +1,4 @@
+pub mod PartsLemmas
 pub mod BoundNameLemmas
 pub mod ByModuleLemmas
 pub mod ResultLemmas

@@ -2,7 +2,7 @@
 use Rattle.std.proofs.Common.{◌≡◌, Bool, true, false, not, ◌&&◌, ◌||◌, cond, Option, Some, None, List, [], ◌∷◌, ◌++◌, refl, sym, ap, subst, ◌∙◌, inl, inr}
 use Rattle.std.proofs.Common.{Result, Ok, Err}
 use Rattle.std.specs.declared.alloc.AllocError.{AllocError}
-use Rattle.std.specs.Prelude.{ℕ, IfOk, OnOk, OnErr, is_none, is_some, map, option_map, option_and_then, slice_get}
+use Rattle.std.specs.Prelude.{ℕ, IfOk, OnOk, OnErr, is_none, is_some, map, option_map, slice_get}
 use Rattle.std.proofs.lemmas.Option.{slice_get-map}
 use Rattle.numbered_table.specs.declared.place.Placed.{Placed}
 use Rattle.std.specs.Map.{keys_of}
@@ -21,114 +21,102 @@ use Rattle.def_bindings.specs.declared.bindings.EdgeTo.{EdgeTo}
 use Rattle.def_ids.specs.declared.ids.TraitId.{TraitId}
 use Rattle.numbered_table.specs.declared.link.Link.{Link}
 use Rattle.def_bindings.specs.declared.bindings.Namespace.TheVariants.{Types, Values, Macros}
-use Rattle.def_ids.specs.Ids.{is_same_module}
-use Rattle.def_bindings.specs.Content.{Content, is_name, is_namespace, bound_as, listed_as, is_bound, is_listed, with_name, without_name, AreTied, replaced, empty}
-use Rattle.numbered_table.specs.BoundName.{stands_for, with_namespace, written_in}
+use Rattle.def_ids.specs.declared.ids.MapId.{MapId}
+use Rattle.def_ids.specs.Ids.{is_same_map, is_same_module}
+use Rattle.numbered_table.specs.declared.place.OwnPlace.{OwnPlace}
+use Rattle.def_bindings.specs.Content.{Content, is_name, is_namespace, bound_as, listed_as, is_bound, is_listed, with_name, without_name, without_binding, AreTied, replaced, empty}
+use Rattle.numbered_table.specs.BoundName.{meaning_of, with_namespace, written_in}
 use Rattle.def_bindings.specs.declared.bindings.Slot.TheVariants.{Named}
 use Rattle.def_bindings.specs.Puts.{if_vacant, written}
 use Rattle.numbered_table.specs.Numbers.{is_placed, placed_at}
-use Rattle.numbered_table.specs.Places.{name_of, bindings_of}
-use Rattle.numbered_table.proofs.BoundNameLemmas.{stands-there}
+use Rattle.numbered_table.specs.Places.{name_of, bindings_of, is_own_place, own_at, AreListed, AreStrangers}
+use Rattle.numbered_table.specs.BoundNameLaws.{known-bound, listed-tied, tied-listed}
 use Rattle.numbered_table.proofs.ByModuleLemmas.{listed_as-same}
-use Rattle.def_bindings.specs.IdLaws.{cases_module, cases_name, module-refl, name-refl, name-sym}
+use Rattle.def_bindings.specs.IdLaws.{cases_module, cases_name, module-refl, name-refl, name-sym, same_map_equal, same_map_itself}
 
--- the names are the old ones but for one
-abbrev pub ChangesName : {B S : Type 0} → HashMap (Placed Name) B S → HashMap (Placed Name) B S → ModuleId → Name → Option B → Type 0
-ChangesName old new m x w = (q : Placed Name) → get (is_placed is_name) new q ≡ cond (is_placed is_name (placed_at m x) q) w (get (is_placed is_name) old q)
+-- one name may have another meaning, and every other one has what it had
+abbrev pub ChangesAt : {B : Type 0} → (ModuleId → Name → Namespace → Option B) → (ModuleId → Name → Namespace → Option B) → ModuleId → Name → Type 0
+ChangesAt old new m x = (m' : ModuleId) (x' : Name) → (is_same_module m m' && is_name x x') ≡ false → new m' x' ≡ old m' x'
 
--- a map with one place changed
-pub bindings-updated : {V S : Type 0} (old new : HashMap (Placed Name) (BoundName V) S) (m : ModuleId) (x : Name) (n : Namespace) (w : Option (Binding V)) (s : Option (BoundName V))
-    → ChangesName old new m x s
-    → (λ k. option_and_then (λ t. stands_for t k) s) ≡ with_namespace (λ k. bindings_of old m x k) n w
-    → bindings_of new ≡ bound_as (bindings_of old) m x n w
-bindings-updated {V} old new m x n w s h now = λ i m' x' n'. at m' x' n' i
-  where
-    meaning : Option (BoundName V) → Namespace → Option (Binding V)
-    meaning o k = option_and_then (λ t. stands_for t k) o
-
-    at : (m' : ModuleId) (x' : Name) (n' : Namespace) → bindings_of new m' x' n' ≡ bound_as (bindings_of old) m x n w m' x' n'
-    at m' x' n' = ap (λ o. meaning o n') (h (placed_at m' x')) ∙ elim (cases_module m m') [
-      | inl e ↦ elim (cases_name x x') [
-        | inl f ↦ rw (e.1, f.1) (ap (λ g. g n') now ∙ ap (λ q. cond (is_namespace n n') w (bindings_of old q x n')) e.0 ∙ ap (λ y. cond (is_namespace n n') w (bindings_of old m' y n')) f.0)
-        | inr f ↦ rw (e.1, f) refl
+module _ {V K S : Type 0} (meaning : MapId → K → V) (map : MapId) (own own' : HashMap OwnPlace (BoundName V K) S) (others others' : HashMap (Placed Name) (BoundName V K) S) (m : ModuleId) (x : Name) where
+  -- a name of the map's own modules is changed
+  pub own-changed : is_same_map m.map map ≡ true → ((q : OwnPlace) → is_own_place (own_at m.index x) q ≡ false → get is_own_place own' q ≡ get is_own_place own q)
+      → ChangesAt (bindings_of meaning map own others) (bindings_of meaning map own' others) m x
+  own-changed is apart m' x' h =
+      elim (cases_Bool (is_same_map m'.map map)) [
+        | inl k ↦
+            let maps : is_same_map m.map m'.map ≡ true = ap (λ q. is_same_map q m'.map) (same_map_equal m.map map is ∙ sym (same_map_equal m'.map map k)) ∙ same_map_itself m'.map in
+            rw k (ap (meaning_of meaning map) (apart (own_at m'.index x') (rw maps at h)))
+        | inr k ↦ rw k refl
       ]
-      | inr e ↦ rw e refl
-    ]
 
-pub bindings-same : {V S : Type 0} (old new : HashMap (Placed Name) (BoundName V) S) → new.entries ≡ old.entries → bindings_of new ≡ bindings_of old
-bindings-same old new e = rw e refl
+  -- and so one of another map
+  pub other-changed : is_same_map m.map map ≡ false → ((q : Placed Name) → is_placed is_name (placed_at m x) q ≡ false → get (is_placed is_name) others' q ≡ get (is_placed is_name) others q)
+      → ChangesAt (bindings_of meaning map own others) (bindings_of meaning map own others') m x
+  other-changed is apart m' x' h =
+      elim (cases_Bool (is_same_map m'.map map)) [
+        | inl k ↦ rw k refl
+        | inr k ↦ rw k (ap (meaning_of meaning map) (apart (placed_at m' x') h))
+      ]
 
--- a name that has nothing, written so
-pub bindings-absent : {V S : Type 0} (old : HashMap (Placed Name) (BoundName V) S) (m : ModuleId) (x : Name) (n : Namespace) → name_of old m x ≡ None → bindings_of old ≡ bound_as (bindings_of old) m x n None
-bindings-absent old m x n none = λ i m' x' n'. at m' x' n' i
+  pub own-here : is_same_map m.map map ≡ true → name_of map own others m x ≡ get is_own_place own (own_at m.index x)
+  own-here is = rw is refl
+
+  pub other-here : is_same_map m.map map ≡ false → name_of map own others m x ≡ get (is_placed is_name) others (placed_at m x)
+  other-here is = rw is refl
+
+-- what is put in a module of another map leaves those of the map out
+pub strangers-kept : {B S : Type 0} (map : MapId) (others others' : HashMap (Placed Name) B S) (m : ModuleId) (x : Name) → AreStrangers map others → is_same_map m.map map ≡ false
+    → ((q : Placed Name) → is_placed is_name (placed_at m x) q ≡ false → get (is_placed is_name) others' q ≡ get (is_placed is_name) others q) → AreStrangers map others'
+strangers-kept map others others' m x strangers is apart m' x' h =
+    let maps : is_same_map m.map m'.map ≡ false = ap (is_same_map m.map) (same_map_equal m'.map map h) ∙ is in
+    apart (placed_at m' x') (rw maps refl) ∙ strangers m' x' h
+
+-- where one name is changed in one namespace
+pub changed-whole : {B : Type 0} (old new : ModuleId → Name → Namespace → Option B) (m : ModuleId) (x : Name) (n : Namespace) (w : Option B) → ChangesAt old new m x → new m x ≡ with_namespace (old m x) n w → new ≡ bound_as old m x n w
+changed-whole old new m x n w apart here = λ i m' x' n'. at m' x' n' i
   where
-    at : (m' : ModuleId) (x' : Name) (n' : Namespace) → bindings_of old m' x' n' ≡ bound_as (bindings_of old) m x n None m' x' n'
+    at : (m' : ModuleId) (x' : Name) (n' : Namespace) → new m' x' n' ≡ bound_as old m x n w m' x' n'
     at m' x' n' = elim (cases_module m m') [
       | inl e ↦ elim (cases_name x x') [
-        | inl f ↦ let here : bindings_of old m' x' n' ≡ None = ap (λ q. bindings_of old q x' n') (sym e.0) ∙ ap (λ y. bindings_of old m y n') (sym f.0) ∙ ap (λ o. option_and_then (λ t. stands_for t n') o) none in
-            rw (e.1, f.1) (either (is_namespace n n') (bindings_of old m' x' n') here)
-        | inr f ↦ rw (e.1, f) refl
+        | inl f ↦ rw (e.1, f.1) (ap (λ q. new q x' n') (sym e.0) ∙ ap (λ y. new m y n') (sym f.0) ∙ ap (λ g. g n') here ∙ ap (λ y. cond (is_namespace n n') w (old m y n')) f.0 ∙ ap (λ q. cond (is_namespace n n') w (old q x' n')) e.0)
+        | inr f ↦ ap (λ g. g n') (apart m' x' (rw (e.1, f) refl)) ∙ rw (e.1, f) refl
       ]
-      | inr e ↦ rw e refl
+      | inr e ↦ ap (λ g. g n') (apart m' x' (rw e refl)) ∙ rw e refl
     ]
-      where
-        either : {B : Type 0} (b : Bool) (o : Option B) → o ≡ None → o ≡ cond b None o
-        either true o h = h
-        either false o h = refl
 
-module _ {V S : Type 0} (old new : HashMap (Placed Name) (BoundName V) S) (m : ModuleId) (x : Name) (was row : BoundName V) (there : name_of old m x ≡ Some was) (after : ChangesName old new m x (Some row)) where
-  -- a name that stands for something else in one namespace
-  pub bindings-written : (n : Namespace) (w : Option (Binding V)) → stands_for row ≡ with_namespace (stands_for was) n w → bindings_of new ≡ bound_as (bindings_of old) m x n w
-  bindings-written n w now = bindings-updated old new m x n w (Some row) after (now ∙ ap (λ o. with_namespace (λ k. option_and_then (λ t. stands_for t k) o) n w) (sym there))
-
-  -- a name that stands for what it stood for
-  pub bindings-still : stands_for row ≡ stands_for was → bindings_of new ≡ bindings_of old
-  bindings-still same = λ i m' x' n'. at m' x' n' i
-    where
-      at : (m' : ModuleId) (x' : Name) (n' : Namespace) → bindings_of new m' x' n' ≡ bindings_of old m' x' n'
-      at m' x' n' = ap (λ o. option_and_then (λ t. stands_for t n') o) (after (placed_at m' x')) ∙ elim (cases_module m m') [
-        | inl e ↦ elim (cases_name x x') [
-          | inl f ↦ rw (e.1, f.1) (ap (λ f. f n') same ∙ ap (λ o. option_and_then (λ t. stands_for t n') o) (sym there ∙ ap (λ q. name_of old q x) e.0 ∙ ap (λ y. name_of old m' y) f.0))
-          | inr f ↦ rw (e.1, f) refl
-        ]
-        | inr e ↦ rw e refl
-      ]
-
-  -- a name written as it was
-  pub bindings-kept : row ≡ was → bindings_of new ≡ bindings_of old
-  bindings-kept same = bindings-still (ap stands_for same)
-
-  -- a name that went with its last binding
-  pub bindings-gone : (left : HashMap (Placed Name) (BoundName V) S) (n : Namespace) → ChangesName new left m x None → with_namespace (stands_for was) n None ≡ (λ k. None)
-      → bindings_of left ≡ bound_as (bindings_of old) m x n None
-  bindings-gone left n removed none =
-      bindings-updated old left m x n None None (λ q. removed q ∙ ap (λ o. cond (is_placed is_name (placed_at m x) q) None o) (after q) ∙ twice (is_placed is_name (placed_at m x) q) (Some row) (get (is_placed is_name) old q))
-      (sym none ∙ ap (λ o. with_namespace (λ k. option_and_then (λ t. stands_for t k) o) n None) (sym there))
-    where
-      twice : {B : Type 0} (b : Bool) (o r : Option B) → cond b None (cond b o r) ≡ cond b None r
-      twice true o r = refl
-      twice false o r = refl
-
--- a name that has something is bound, and no other
-pub bound-there : {V S : Type 0} (names : HashMap (Placed Name) (BoundName V) S) (m : ModuleId) (x : Name) (s : BoundName V) → name_of names m x ≡ Some s → is_bound (bindings_of names) m x ≡ true
-bound-there names m x s there = each (λ n. bindings_of names m x n) s.ns (ap is_some (ap (λ o. option_and_then (λ t. stands_for t s.ns) o) there ∙ stands-there s))
+pub unchanged-whole : {B : Type 0} (old new : ModuleId → Name → Namespace → Option B) (m : ModuleId) (x : Name) → ChangesAt old new m x → new m x ≡ old m x → new ≡ old
+unchanged-whole old new m x apart here = λ i m' x'. at m' x' i
   where
-    each : {B : Type 0} (f : Namespace → Option B) (n : Namespace) → is_some (f n) ≡ true → (is_some (f Types) || (is_some (f Values) || is_some (f Macros))) ≡ true
-    each f Types h = rw h refl
-    each f Values h = rw h (or-true (is_some (f Types)))
-      where
-        or-true : (b : Bool) → (b || true) ≡ true
-        or-true true = refl
-        or-true false = refl
-    each f Macros h = rw h (or-twice (is_some (f Types)) (is_some (f Values)))
-      where
-        or-twice : (a b : Bool) → (a || (b || true)) ≡ true
-        or-twice true b = refl
-        or-twice false true = refl
-        or-twice false false = refl
+    at : (m' : ModuleId) (x' : Name) → new m' x' ≡ old m' x'
+    at m' x' = elim (cases_module m m') [
+      | inl e ↦ elim (cases_name x x') [
+        | inl f ↦ ap (λ q. new q x') (sym e.0) ∙ ap (new m) (sym f.0) ∙ here ∙ ap (old m) f.0 ∙ ap (λ q. old q x') e.0
+        | inr f ↦ apart m' x' (rw (e.1, f) refl)
+      ]
+      | inr e ↦ apart m' x' (rw e refl)
+    ]
 
-pub bound-nowhere : {V S : Type 0} (names : HashMap (Placed Name) (BoundName V) S) (m : ModuleId) (x : Name) → name_of names m x ≡ None → is_bound (bindings_of names) m x ≡ false
-bound-nowhere names m x none = rw none refl
+-- what is bound in one namespace is bound
+bound-in : {B : Type 0} (f : Namespace → Option B) (n : Namespace) → is_none (f n) ≡ false → (is_some (f Types) || (is_some (f Values) || is_some (f Macros))) ≡ true
+bound-in f Types h = some (f Types) _ h
+  where
+    some : {B : Type 0} (o : Option B) (p : Bool) → is_none o ≡ false → (is_some o || p) ≡ true
+    some None p h = cc
+    some (Some b) p h = refl
+bound-in f Values h = some (is_some (f Types)) (f Values) _ h
+  where
+    some : {B : Type 0} (a : Bool) (o : Option B) (p : Bool) → is_none o ≡ false → (a || (is_some o || p)) ≡ true
+    some a None p h = cc
+    some true (Some b) p h = refl
+    some false (Some b) p h = refl
+bound-in f Macros h = some (is_some (f Types)) (is_some (f Values)) (f Macros) h
+  where
+    some : {B : Type 0} (a b : Bool) (o : Option B) → is_none o ≡ false → (a || (b || is_some o)) ≡ true
+    some a b None h = cc
+    some true b (Some c) h = refl
+    some false true (Some c) h = refl
+    some false false (Some c) h = refl
 
 listed-push : (ks : List Name) (x y : Name) → is_listed (ks ++ x ∷ []) y ≡ (is_listed ks y || is_name y x)
 listed-push [] x y = or-false (is_name y x)
@@ -252,24 +240,15 @@ module _ {B : Type 0} (p : ModuleId → Name → Namespace → Option B) (l : Mo
 pub tied-same : {B : Type 0} (p p' : ModuleId → Name → Namespace → Option B) (l l' : ModuleId → List Name) → p' ≡ p → l' ≡ l → AreTied p l → AreTied p' l'
 tied-same p p' l l' e f tied q y = ap (λ k. is_listed (k q) y) f ∙ tied q y ∙ ap (λ k. is_bound k q y) (sym e)
 
+-- other lists with the same names
+pub listed-same : {B : Type 0} (found : ModuleId → Name → Option B) (l l' : ModuleId → List Name) → l' ≡ l → AreListed found l → AreListed found l'
+listed-same found l l' e listed m x = ap (λ k. is_listed (k m) x) e ∙ listed m x
+
 pub content-parts : {V : Type 0} (c : Content V) (p p' : ModuleId → Name → Namespace → Option (Binding V)) (l l' : ModuleId → List Name) → p ≡ p' → l ≡ l'
     → record c { binding = p; names = l } ≡ record c { binding = p'; names = l' }
 content-parts c p p' l l' e f = λ i. record c { binding = e i; names = f i }
 
 module _ {B : Type 0} (p p' : ModuleId → Name → Namespace → Option B) (l : ModuleId → List Name) (tied : AreTied p l) (m : ModuleId) (x : Name) (n : Namespace) where
-  -- a name bound for the first time: it goes last, and names and bindings stay tied
-  pub numbered-new : (b : B) (l' : ModuleId → List Name) → p' ≡ bound_as p m x n (Some b) → is_bound p m x ≡ false → l' ≡ listed_as l m (l m ++ x ∷ [])
-      → (l' ≡ listed_as l m (with_name (l m) x)) × AreTied p' l'
-  numbered-new b l' set new listed =
-      let names : l' ≡ listed_as l m (with_name (l m) x) = listed ∙ ap (λ c. listed_as l m (cond c (l m) (l m ++ x ∷ []))) (sym (tied m x ∙ new)) in
-      (names, tied-same _ _ _ _ set names (tied-set p l tied m x n b))
-
-  -- a name bound once more: it keeps its place
-  pub numbered-known : (b : B) → p' ≡ bound_as p m x n (Some b) → is_bound p m x ≡ true → (l ≡ listed_as l m (with_name (l m) x)) × AreTied p' l
-  numbered-known b set known =
-      let names : l ≡ listed_as l m (with_name (l m) x) = sym (ap (λ c. listed_as l m (cond c (l m) (l m ++ x ∷ []))) (tied m x ∙ known) ∙ listed_as-same l m) in
-      (names, tied-same _ _ _ _ set names (tied-set p l tied m x n b))
-
   -- a binding taken out: its name loses its place with the last one
   pub numbered-left : (l' : ModuleId → List Name) (stays : Bool) → p' ≡ bound_as p m x n None → stays ≡ is_bound p' m x → l' ≡ listed_as l m (cond stays (l m) (without_name (l m) x))
       → (l' ≡ listed_as l m (cond (is_bound (bound_as p m x n None) m x) (l m) (without_name (l m) x))) × AreTied p' l'
@@ -277,57 +256,131 @@ module _ {B : Type 0} (p p' : ModuleId → Name → Namespace → Option B) (l :
       let names = listed ∙ ap (λ c. listed_as l m (cond c (l m) (without_name (l m) x))) (is ∙ ap (λ f. is_bound f m x) left) in
       (names, tied-same _ _ _ _ left names (tied-remove p l tied m x n))
 
--- a name that has nothing, bound once
-pub bindings-begun : {V S : Type 0} (old there new : HashMap (Placed Name) (BoundName V) S) (m : ModuleId) (x : Name) (n : Namespace) (b : Binding V) (row : BoundName V) → there.entries ≡ old.entries → name_of old m x ≡ None
-    → ChangesName there new m x (Some row) → stands_for row ≡ with_namespace (λ k. None) n (Some b) → bindings_of new ≡ bound_as (bindings_of old) m x n (Some b)
-bindings-begun old there new m x n b row same none after is =
-    let here : bindings_of there ≡ bindings_of old = bindings-same old there same in
-    bindings-updated there new m x n (Some b) (Some row) after
-    (is ∙ ap (λ o. with_namespace (λ k. option_and_then (λ t. stands_for t k) o) n (Some b)) (sym none) ∙ ap (λ f. with_namespace (f m x) n (Some b)) (sym here))
-    ∙ ap (λ f. bound_as f m x n (Some b)) here
+-- a binding is put at one name, and names and bindings stay tied
+module _ {V : Type 0} (old new : ModuleId → Name → Namespace → Option (Binding V)) (l l' : ModuleId → List Name) (tied : AreTied old l) (m : ModuleId) (x : Name) (n : Namespace) (apart : ChangesAt old new m x) where
+  pub put-whole : (c : Content V) (b : Binding V) (known wrote over : Bool) → known ≡ is_bound old m x → wrote ≡ (over || is_none (old m x n)) → new m x ≡ written_in (old m x) n (if_vacant wrote b)
+      → l' ≡ cond known l (listed_as l m (l m ++ x ∷ []))
+      → (record c { binding = new; names = l' } ≡ written (record c { binding = old; names = l }) m (Named x n) (if_vacant wrote b)) × AreTied new l'
+  put-whole c b known true over bound vacant here listed =
+      let set = changed-whole old new m x n (Some b) apart here in
+      let names : l' ≡ listed_as l m (with_name (l m) x) = listed ∙ either known ∙ ap (λ k. listed_as l m (cond k (l m) (l m ++ x ∷ []))) (bound ∙ sym (tied m x)) in
+      (content-parts c _ _ _ _ set names, tied-same _ _ _ _ set names (tied-set old l tied m x n b))
+    where
+      either : (k : Bool) → cond k l (listed_as l m (l m ++ x ∷ [])) ≡ listed_as l m (cond k (l m) (l m ++ x ∷ []))
+      either true = sym (listed_as-same l m)
+      either false = refl
+  put-whole c b known false over bound vacant here listed =
+      let same = unchanged-whole old new m x apart here in
+      let there : known ≡ true = bound ∙ bound-in (old m x) n (neither over (is_none (old m x n)) (sym vacant)) in
+      let names : l' ≡ l = listed ∙ ap (λ k. cond k l (listed_as l m (l m ++ x ∷ []))) there in
+      (content-parts c _ _ _ _ same names, tied-same _ _ _ _ same names tied)
+    where
+      neither : (p q : Bool) → (p || q) ≡ false → q ≡ false
+      neither true q h = cc
+      neither false q h = h
 
--- a name that is bound once more, or as it was where that was refused
-pub tied-written : {V S : Type 0} (old new : HashMap (Placed Name) (BoundName V) S) (l : ModuleId → List Name) (m : ModuleId) (x : Name) (was row : BoundName V) → name_of old m x ≡ Some was → ChangesName old new m x (Some row)
-    → AreTied (bindings_of old) l → (n : Namespace) (b : Binding V) (r : Result Unit AllocError) → OnOk r (stands_for row ≡ with_namespace (stands_for was) n (Some b)) → OnErr r (row ≡ was) → AreTied (bindings_of new) l
-tied-written old new l m x was row there after tied n b (Ok done) set same =
-    (numbered-known (bindings_of old) (bindings_of new) l tied m x n b (bindings-written old new m x was row there after n (Some b) set) (bound-there old m x was there)).1
-tied-written old new l m x was row there after tied n b (Err e) set same = tied-same _ _ l l (bindings-kept old new m x was row there after same) refl tied
+  -- a refused put changes nothing
+  pub kept-whole : (c : Content V) → new m x ≡ old m x → l' ≡ l → (record c { binding = new; names = l' } ≡ record c { binding = old; names = l }) × AreTied new l'
+  kept-whole c here names =
+      let same = unchanged-whole old new m x apart here in
+      (content-parts c _ _ _ _ same names, tied-same _ _ _ _ same names tied)
 
--- a name that has something, and what is put there in one namespace
-module _ {V S : Type 0} (old new : HashMap (Placed Name) (BoundName V) S) (l : ModuleId → List Name) (tied : AreTied (bindings_of old) l) (m : ModuleId) (x : Name) (was row : BoundName V) (there : name_of old m x ≡ Some was) (after : ChangesName old new m x (Some row)) (n : Namespace) where
-  pub put-known : (c : Content V) (s : Option (Binding V)) → stands_for row ≡ written_in (stands_for was) n s
-      → (record c { binding = bindings_of new; names = l } ≡ written (record c { binding = bindings_of old; names = l }) m (Named x n) s) × AreTied (bindings_of new) l
-  put-known c None e =
-      let same = bindings-still old new m x was row there after e in
-      (content-parts c _ _ l l same refl, tied-same _ _ l l same refl tied)
-  put-known c (Some b) e =
-      let set = bindings-written old new m x was row there after n (Some b) e in
-      let names = numbered-known (bindings_of old) (bindings_of new) l tied m x n b set (bound-there old m x was there) in
-      (content-parts c _ _ _ _ set names.0, names.1)
+  -- a binding is taken out, and with the last one the name
+  pub taken-whole : (c : Content V) (stays : Bool) → stays ≡ is_bound new m x → new m x ≡ with_namespace (old m x) n None → l' ≡ cond stays l (listed_as l m (without_name (l m) x))
+      → (record c { binding = new; names = l' } ≡ without_binding (record c { binding = old; names = l }) m x n) × AreTied new l'
+  taken-whole c stays bound here listed =
+      let left = changed-whole old new m x n None apart here in
+      let names = numbered-left old new l tied m x n l' stays left bound (listed ∙ either stays) in
+      (content-parts c _ _ _ _ left names.0, names.1)
+    where
+      either : (k : Bool) → cond k l (listed_as l m (without_name (l m) x)) ≡ listed_as l m (cond k (l m) (without_name (l m) x))
+      either true = sym (listed_as-same l m)
+      either false = refl
 
-  -- so a binding where it is not bound
-  pub bound-beside : (c : Content V) (b : Binding V) (vacant : Bool) → vacant ≡ is_none (stands_for was n) → stands_for row ≡ written_in (stands_for was) n (if_vacant vacant b)
-      → (vacant ≡ is_none (bindings_of old m x n)) × (record c { binding = bindings_of new; names = l } ≡ written (record c { binding = bindings_of old; names = l }) m (Named x n) (if_vacant vacant b))
-  bound-beside c b vacant is now = (is ∙ sym (ap (λ k. is_none (option_and_then (λ s. stands_for s n) k)) there), (put-known c (if_vacant vacant b) now).0)
+-- what a put answers, at a name that is found as it says
+module _ {V : Type 0} (old new : ModuleId → Name → Namespace → Option (Binding V)) (l l' : ModuleId → List Name) (tied : AreTied old l) (m : ModuleId) (x : Name) (n : Namespace) (apart : ChangesAt old new m x) where
+  put-answered : (c : Content V) (b : Binding V) (over known : Bool) (was now : Namespace → Option (Binding V)) → old m x ≡ was → new m x ≡ now → known ≡ is_bound old m x
+      → (r : Result Bool AllocError) → IfOk r (λ wrote. wrote ≡ (over || is_none (was n))) → IfOk r (λ wrote. now ≡ written_in was n (if_vacant wrote b))
+      → OnOk r (l' ≡ cond known l (listed_as l m (l m ++ x ∷ []))) → OnErr r ((now ≡ was) × (l' ≡ l))
+      → IfOk r (λ wrote. (wrote ≡ (over || is_none (old m x n))) × (record c { binding = new; names = l' } ≡ written (record c { binding = old; names = l }) m (Named x n) (if_vacant wrote b)))
+      × OnErr r (record c { binding = new; names = l' } ≡ record c { binding = old; names = l }) × AreTied new l'
+  put-answered c b over known was now before after bound (Ok wrote) vacant done listed refused =
+      let is : wrote ≡ (over || is_none (old m x n)) = vacant ∙ ap (λ f. over || is_none (f n)) (sym before) in
+      let put = put-whole old new l l' tied m x n apart c b known wrote over bound is (after ∙ done ∙ ap (λ f. written_in f n (if_vacant wrote b)) (sym before)) listed in
+      ((is, put.0), refused, put.1)
+  put-answered c b over known was now before after bound (Err e) vacant done listed refused =
+      let kept = kept-whole old new l l' tied m x n apart c (after ∙ refused.0 ∙ sym before) refused.1 in
+      (vacant, kept.0, kept.1)
 
-  -- names and bindings stay tied, whether that was refused or not
-  pub tied-beside : (b : Binding V) (r : Result Bool AllocError) → IfOk r (λ vacant. stands_for row ≡ written_in (stands_for was) n (if_vacant vacant b)) → OnErr r (row ≡ was) → AreTied (bindings_of new) l
-  tied-beside b (Ok vacant) now same = (put-known empty (if_vacant vacant b) now).1
-  tied-beside b (Err e) now same = tied-same _ _ l l (bindings-kept old new m x was row there after same) refl tied
+-- a put at a name of the map's own modules
+pub put-own : {V K S : Type 0} (meaning : MapId → K → V) (map : MapId) (own own' : HashMap OwnPlace (BoundName V K) S) (others : HashMap (Placed Name) (BoundName V K) S) (m : ModuleId) (x : Name) (n : Namespace) (l l' : ModuleId → List Name)
+    → AreListed (name_of map own others) l → is_same_map m.map map ≡ true
+    → ((q : OwnPlace) → is_own_place (own_at m.index x) q ≡ false → get is_own_place own' q ≡ get is_own_place own q)
+    → (c : Content V) (b : Binding V) (over : Bool) (r : Result Bool AllocError)
+    → IfOk r (λ wrote. wrote ≡ (over || is_none (meaning_of meaning map (get is_own_place own (own_at m.index x)) n)))
+    → IfOk r (λ wrote. meaning_of meaning map (get is_own_place own' (own_at m.index x)) ≡ written_in (meaning_of meaning map (get is_own_place own (own_at m.index x))) n (if_vacant wrote b))
+    → OnOk r (l' ≡ cond (is_some (get is_own_place own (own_at m.index x))) l (listed_as l m (l m ++ x ∷ [])))
+    → OnErr r ((meaning_of meaning map (get is_own_place own' (own_at m.index x)) ≡ meaning_of meaning map (get is_own_place own (own_at m.index x))) × (l' ≡ l))
+    → IfOk r (λ wrote. (wrote ≡ (over || is_none (bindings_of meaning map own others m x n)))
+    × (record c { binding = bindings_of meaning map own' others; names = l' } ≡ written (record c { binding = bindings_of meaning map own others; names = l }) m (Named x n) (if_vacant wrote b)))
+    × OnErr r (record c { binding = bindings_of meaning map own' others; names = l' } ≡ record c { binding = bindings_of meaning map own others; names = l }) × AreListed (name_of map own' others) l'
+put-own meaning map own own' others m x n l l' listed is apart c b over r wrote done names refused =
+    let before = ap (meaning_of meaning map) (own-here meaning map own own' others others m x is) in
+    let put = put-answered (bindings_of meaning map own others) (bindings_of meaning map own' others) l l' (listed-tied meaning map own others l listed) m x n (own-changed meaning map own own' others others m x is apart) c b over
+    (is_some (get is_own_place own (own_at m.index x))) _ _ before (ap (meaning_of meaning map) (own-here meaning map own' own others others m x is)) (known-bound meaning map _ (bindings_of meaning map own others m x) before) r wrote done names refused in
+    (put.0, put.1, tied-listed meaning map own' others l' put.2)
 
--- a name that has nothing is bound nowhere
-pub vacant-nowhere : {V S : Type 0} (old : HashMap (Placed Name) (BoundName V) S) (m : ModuleId) (x : Name) (n : Namespace) → name_of old m x ≡ None → true ≡ is_none (bindings_of old m x n)
-vacant-nowhere old m x n none = sym (ap (λ k. is_none (option_and_then (λ s. stands_for s n) k)) none)
+-- a put at a name of another module
+pub put-other : {V K S : Type 0} (meaning : MapId → K → V) (map : MapId) (own : HashMap OwnPlace (BoundName V K) S) (others others' : HashMap (Placed Name) (BoundName V K) S) (m : ModuleId) (x : Name) (n : Namespace) (l l' : ModuleId → List Name)
+    → AreListed (name_of map own others) l → is_same_map m.map map ≡ false
+    → ((q : Placed Name) → is_placed is_name (placed_at m x) q ≡ false → get (is_placed is_name) others' q ≡ get (is_placed is_name) others q)
+    → (c : Content V) (b : Binding V) (over : Bool) (r : Result Bool AllocError)
+    → IfOk r (λ wrote. wrote ≡ (over || is_none (meaning_of meaning map (get (is_placed is_name) others (placed_at m x)) n)))
+    → IfOk r (λ wrote. meaning_of meaning map (get (is_placed is_name) others' (placed_at m x)) ≡ written_in (meaning_of meaning map (get (is_placed is_name) others (placed_at m x))) n (if_vacant wrote b))
+    → OnOk r (l' ≡ cond (is_some (get (is_placed is_name) others (placed_at m x))) l (listed_as l m (l m ++ x ∷ [])))
+    → OnErr r ((meaning_of meaning map (get (is_placed is_name) others' (placed_at m x)) ≡ meaning_of meaning map (get (is_placed is_name) others (placed_at m x))) × (l' ≡ l))
+    → IfOk r (λ wrote. (wrote ≡ (over || is_none (bindings_of meaning map own others m x n)))
+    × (record c { binding = bindings_of meaning map own others'; names = l' } ≡ written (record c { binding = bindings_of meaning map own others; names = l }) m (Named x n) (if_vacant wrote b)))
+    × OnErr r (record c { binding = bindings_of meaning map own others'; names = l' } ≡ record c { binding = bindings_of meaning map own others; names = l }) × AreListed (name_of map own others') l'
+put-other meaning map own others others' m x n l l' listed is apart c b over r wrote done names refused =
+    let before = ap (meaning_of meaning map) (other-here meaning map own own others others' m x is) in
+    let put = put-answered (bindings_of meaning map own others) (bindings_of meaning map own others') l l' (listed-tied meaning map own others l listed) m x n (other-changed meaning map own own others others' m x is apart) c b over
+    (is_some (get (is_placed is_name) others (placed_at m x))) _ _ before (ap (meaning_of meaning map) (other-here meaning map own own others' others m x is)) (known-bound meaning map _ (bindings_of meaning map own others m x) before) r wrote done names refused in
+    (put.0, put.1, tied-listed meaning map own others' l' put.2)
 
--- names that stay are a list written as it was
-pub kept_names : (l : ModuleId → List Name) (m : ModuleId) (ks : List Name) (known : Bool) → known ≡ true → l ≡ listed_as l m (cond known (l m) ks)
-kept_names l m ks known h = sym (listed_as-same l m) ∙ ap (λ b. listed_as l m (cond b (l m) ks)) (sym h)
+-- a binding is taken out at a name of the map's own modules
+pub taken-own : {V K S : Type 0} (meaning : MapId → K → V) (map : MapId) (own own' : HashMap OwnPlace (BoundName V K) S) (others : HashMap (Placed Name) (BoundName V K) S) (m : ModuleId) (x : Name) (n : Namespace) (l l' : ModuleId → List Name)
+    → AreListed (name_of map own others) l → is_same_map m.map map ≡ true
+    → ((q : OwnPlace) → is_own_place (own_at m.index x) q ≡ false → get is_own_place own' q ≡ get is_own_place own q)
+    → (c : Content V) → meaning_of meaning map (get is_own_place own' (own_at m.index x)) ≡ with_namespace (meaning_of meaning map (get is_own_place own (own_at m.index x))) n None
+    → l' ≡ cond (is_some (get is_own_place own' (own_at m.index x))) l (listed_as l m (without_name (l m) x))
+    → (record c { binding = bindings_of meaning map own' others; names = l' } ≡ without_binding (record c { binding = bindings_of meaning map own others; names = l }) m x n) × AreListed (name_of map own' others) l'
+taken-own meaning map own own' others m x n l l' listed is apart c left names =
+    let after = ap (meaning_of meaning map) (own-here meaning map own' own others others m x is) in
+    let taken = taken-whole (bindings_of meaning map own others) (bindings_of meaning map own' others) l l' (listed-tied meaning map own others l listed) m x n (own-changed meaning map own own' others others m x is apart) c
+    (is_some (get is_own_place own' (own_at m.index x))) (known-bound meaning map _ (bindings_of meaning map own' others m x) after)
+    (after ∙ left ∙ ap (λ o. with_namespace (meaning_of meaning map o) n None) (sym (own-here meaning map own own' others others m x is))) names in
+    (taken.0, tied-listed meaning map own' others l' taken.1)
 
-pub left_names : (l l' : ModuleId → List Name) (m : ModuleId) (ks : List Name) (known : Bool) → known ≡ false → l' ≡ listed_as l m ks → l' ≡ listed_as l m (cond known (l m) ks)
-left_names l l' m ks known h e = e ∙ ap (λ b. listed_as l m (cond b (l m) ks)) (sym h)
+-- and at one of another module
+pub taken-other : {V K S : Type 0} (meaning : MapId → K → V) (map : MapId) (own : HashMap OwnPlace (BoundName V K) S) (others others' : HashMap (Placed Name) (BoundName V K) S) (m : ModuleId) (x : Name) (n : Namespace) (l l' : ModuleId → List Name)
+    → AreListed (name_of map own others) l → is_same_map m.map map ≡ false
+    → ((q : Placed Name) → is_placed is_name (placed_at m x) q ≡ false → get (is_placed is_name) others' q ≡ get (is_placed is_name) others q)
+    → (c : Content V) → meaning_of meaning map (get (is_placed is_name) others' (placed_at m x)) ≡ with_namespace (meaning_of meaning map (get (is_placed is_name) others (placed_at m x))) n None
+    → l' ≡ cond (is_some (get (is_placed is_name) others' (placed_at m x))) l (listed_as l m (without_name (l m) x))
+    → (record c { binding = bindings_of meaning map own others'; names = l' } ≡ without_binding (record c { binding = bindings_of meaning map own others; names = l }) m x n) × AreListed (name_of map own others') l'
+taken-other meaning map own others others' m x n l l' listed is apart c left names =
+    let after = ap (meaning_of meaning map) (other-here meaning map own own others' others m x is) in
+    let taken = taken-whole (bindings_of meaning map own others) (bindings_of meaning map own others') l l' (listed-tied meaning map own others l listed) m x n (other-changed meaning map own own others others' m x is apart) c
+    (is_some (get (is_placed is_name) others' (placed_at m x))) (known-bound meaning map _ (bindings_of meaning map own others' m x) after)
+    (after ∙ left ∙ ap (λ o. with_namespace (meaning_of meaning map o) n None) (sym (other-here meaning map own own others others' m x is))) names in
+    (taken.0, tied-listed meaning map own others' l' taken.1)
 
-pub bindings-empty : {V S : Type 0} (new : HashMap (Placed Name) (BoundName V) S) → new.entries ≡ [] → bindings_of new ≡ (λ m x n. None)
-bindings-empty new e = rw e refl
+pub bindings-empty : {V K S : Type 0} (meaning : MapId → K → V) (map : MapId) (own : HashMap OwnPlace (BoundName V K) S) (others : HashMap (Placed Name) (BoundName V K) S) → own.entries ≡ [] → others.entries ≡ [] → bindings_of meaning map own others ≡ (λ m x n. None)
+bindings-empty meaning map own others e f = λ i m x n. at m x n i
+  where
+    at : (m : ModuleId) (x : Name) (n : Namespace) → bindings_of meaning map own others m x n ≡ None
+    at m x n = elim (cases_Bool (is_same_map m.map map)) [ inl k ↦ rw (k, e) refl | inr k ↦ rw (k, f) refl ]
 
 pub content-none : {V : Type 0} (p : ModuleId → Name → Namespace → Option (Binding V)) (l : ModuleId → List Name) (u : ModuleId → List (TraitId × V)) (d : ModuleId → List (ModuleId × Link V))
     → p ≡ (λ m x n. None) → l ≡ (λ m. []) → u ≡ (λ m. []) → d ≡ (λ m. []) → record { binding = p; names = l; unnamed = u; edges = λ m. map edge_of (d m) } ≡ empty

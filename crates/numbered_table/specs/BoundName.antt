@@ -1,26 +1,29 @@
 -- What a name stands for, as a numbered table keeps it.
-use Rattle.std.specs.Prelude.{Option, Some, None, cond, Box, option_and_then}
+use Rattle.std.specs.Prelude.{Option, Some, None, cond, option_and_then}
+use Rattle.def_ids.specs.declared.ids.MapId.{MapId}
 use Rattle.def_bindings.specs.declared.bindings.Namespace.{Namespace}
 use Rattle.def_bindings.specs.declared.bindings.Binding.{Binding}
-use Rattle.def_bindings.specs.declared.name_bindings.NameBindings.{NameBindings}
 use Rattle.numbered_table.specs.declared.bound_name.BoundName.{BoundName}
+use Rattle.numbered_table.specs.declared.bound_name.BoundName.TheVariants.{One, Each}
 use Rattle.def_bindings.specs.Content.{is_namespace}
-use Rattle.def_bindings.specs.NameBindings.{bound_in}
+use Rattle.numbered_table.specs.Parts.{parts_in}
+use Rattle.numbered_table.specs.Short.{long}
 
 -- one namespace changed
 abbrev pub with_namespace : {B : Type 0} → (Namespace → Option B) → Namespace → Option B → Namespace → Option B
 with_namespace f ns b n = cond (is_namespace ns n) b (f n)
 
-module _ {V : Type 0} where
-  -- what is kept beside the first binding
-  abbrev pub beside : {A : Type 0} → Option (Box (NameBindings V) A) → Namespace → Option (Binding V)
-  beside others n = option_and_then (λ o. bound_in o.value n) others
+-- what is put in a namespace, where something is
+abbrev pub written_in : {B : Type 0} → (Namespace → Option B) → Namespace → Option B → Namespace → Option B
+written_in f n None = f
+written_in f n (Some b) = with_namespace f n (Some b)
 
-  -- the first binding hides what is beside it in its namespace
-  abbrev pub stands_for : BoundName V → Namespace → Option (Binding V)
-  stands_for s n = cond (is_namespace s.ns n) (Some s.binding) (beside s.others n)
+module _ {V K : Type 0} where
+  -- the bindings of a name in a table of this map
+  abbrev pub stands_for : (MapId → K → V) → MapId → BoundName V K → Namespace → Option (Binding V)
+  stands_for meaning map (One ns kind source idx def vis import) n = cond (is_namespace ns n) (Some (long meaning map (record { kind = kind; source = source; idx = idx; def = def; vis = vis; import = import }))) None
+  stands_for meaning map (Each each) n = parts_in meaning map each.value.parts n
 
-  -- what is put in a namespace, where something is
-  abbrev pub written_in : (Namespace → Option (Binding V)) → Namespace → Option (Binding V) → Namespace → Option (Binding V)
-  written_in f n None = f
-  written_in f n (Some b) = with_namespace f n (Some b)
+  -- those of a name that may have none
+  abbrev pub meaning_of : (MapId → K → V) → MapId → Option (BoundName V K) → Namespace → Option (Binding V)
+  meaning_of meaning map s n = option_and_then (λ t. stands_for meaning map t n) s

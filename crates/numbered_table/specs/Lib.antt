@@ -1,7 +1,11 @@
+pub mod Kept
+pub mod Short
+pub mod Parts
 pub mod BoundName
 pub mod Link
 pub mod Lists
 pub mod Numbers
 pub mod Places
+pub mod BoundNameLaws
 pub mod NumberedTable
 pub mod NumberedTableLaws

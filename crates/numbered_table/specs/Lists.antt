@@ -1,5 +1,5 @@
 -- What lists by module are.
-use Rattle.std.specs.Prelude.{List, Option, Some, None, slice_get, cond, Vec}
+use Rattle.std.specs.Prelude.{List, Option, None, slice_get, cond, Vec}
 use Rattle.std.specs.Global.{Global}
 use Rattle.std.specs.Option.{option_map, option_map_or, option_and_then}
 use Rattle.indexmap.specs.IndexMap.{IndexMap, get}

@@ -1,5 +1,6 @@
 -- What a numbered table contains.
 use Rattle.std.specs.Prelude.{List, map}
+use Rattle.def_ids.specs.declared.ids.MapId.{MapId}
 use Rattle.def_ids.specs.declared.ids.ModuleId.{ModuleId}
 use Rattle.def_bindings.specs.declared.bindings.EdgeTo.{EdgeTo}
 use Rattle.numbered_table.specs.declared.numbered_table.NumberedTable.{NumberedTable}
@@ -10,14 +11,14 @@ use Rattle.numbered_table.specs.Numbers.{own_entries}
 use Rattle.numbered_table.specs.Places.{bindings_of}
 
 -- a word of its own to those who use a table: only the proofs of this crate look into it
-unfoldable pub content_of : {V : Type 0} → NumberedTable V → Content V
-content_of t = record {
-  binding = bindings_of t.bound;
+unfoldable pub content_of : {V K : Type 0} → (MapId → K → V) → NumberedTable V K → Content V
+content_of meaning t = record {
+  binding = bindings_of meaning t.map t.own t.others;
   names = lists_of t.names;
   unnamed = own_entries t.unnamed.entries.entries;
   edges = λ m. map edge_of (own_entries t.edges.entries.entries m);
 }
 
 -- all edges in order of recording, each with its source
-abbrev pub all_edges : {V : Type 0} → NumberedTable V → List (ModuleId × EdgeTo V)
+abbrev pub all_edges : {V K : Type 0} → NumberedTable V K → List (ModuleId × EdgeTo V)
 all_edges t = map (λ e. (e.0.at, edge_of (e.0.key, e.1))) t.edges.entries.entries

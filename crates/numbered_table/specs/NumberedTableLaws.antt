@@ -2,6 +2,7 @@
 use Rattle.std.specs.Prelude.{◌<◌, List, [], ◌∷◌, map, Contains}
 use Rattle.std.proofs.Common.{arith, sym, subst, inl, inr}
 use Rattle.std.proofs.lemmas.List.Elements.{Contains-append_left, Contains-append_right, Contains-push}
+use Rattle.def_ids.specs.declared.ids.MapId.{MapId}
 use Rattle.def_ids.specs.declared.ids.ModuleId.{ModuleId}
 use Rattle.def_bindings.specs.declared.bindings.EdgeTo.{EdgeTo}
 use Rattle.numbered_table.specs.declared.link.Link.{Link}
@@ -10,8 +11,10 @@ use Rattle.numbered_table.specs.declared.numbered_table.NumberedTable.{NumberedT
 use Rattle.def_bindings.specs.IdLaws.{cases_module}
 use Rattle.def_bindings.specs.Content.{AreSources, AreTied}
 use Rattle.numbered_table.specs.Link.{edge_of}
+use Rattle.numbered_table.specs.Lists.{lists_of}
 use Rattle.numbered_table.specs.Numbers.{own_entries}
 use Rattle.numbered_table.specs.NumberedTable.{content_of}
+use Rattle.numbered_table.specs.BoundNameLaws.{listed-tied}
 
 -- the modules of the keys
 abbrev pub modules_of : {K W : Type 0} → List (Placed K × W) → List ModuleId
@@ -26,11 +29,11 @@ among (p ∷ es) m e h =
     ]
 
 -- every module with an edge is that of a key
-pub are_sources : {V : Type 0} (t : NumberedTable V) → AreSources (content_of t) (modules_of t.edges.entries.entries)
+pub are_sources : {V K : Type 0} (meaning : MapId → K → V) (t : NumberedTable V K) → AreSources (content_of meaning t) (modules_of t.edges.entries.entries)
 unfolding content_of
-are_sources t m e h = among t.edges.entries.entries m e h
+are_sources meaning t m e h = among t.edges.entries.entries m e h
 
 -- names and bindings are tied
-pub are_tied : {V : Type 0} (t : NumberedTable V) → AreTied (content_of t).binding (content_of t).names
+pub are_tied : {V K : Type 0} (meaning : MapId → K → V) (t : NumberedTable V K) → AreTied (content_of meaning t).binding (content_of meaning t).names
 unfolding content_of
-are_tied t = t.tied
+are_tied meaning t = listed-tied meaning t.map t.own t.others (lists_of t.names) t.listed

@@ -1,121 +1,242 @@
 //! What one name stands for, as a numbered table keeps it.
-ghost use Rattle.std.specs.Prelude.{◌≡◌, Some, None, IfSome, IsTrue, IsFalse, OnOk, OnErr, option_copied};
+ghost use Rattle.std.specs.Prelude.{◌≡◌, Some, None, is_some, option_map, IfOk, IfSome, IsTrue, IsFalse, OnOk, OnErr};
+ghost use Rattle.def_ids.specs.declared.ids.MapId.{MapId};
 ghost use Rattle.def_bindings.specs.NameBindings.{bound_in, module_bound, said};
 ghost use Rattle.def_bindings.specs.declared.bindings.Namespace.TheVariants.{Types};
-ghost use Rattle.numbered_table.specs.BoundName.{beside, stands_for, with_namespace};
+ghost use Rattle.numbered_table.specs.BoundName.{stands_for, with_namespace};
+ghost use Rattle.numbered_table.specs.Parts.{part_in};
+ghost use Rattle.numbered_table.specs.Short as meant;
 
+use crate::each::Each;
+use crate::kept::Kept;
+use crate::part::Part;
+use crate::parts::Parts;
+use crate::short::{Kind, Short, Source, in_full, in_short};
 use def_bindings::{Binding, LoneBinding, NameBindings, Namespace};
-use def_ids::ModuleId;
+use def_ids::{MapId, ModuleId};
 use std::alloc::{AllocError, Global};
 
-/// What a name stands for: its binding in one namespace, and those beside it. Most names stand in
-/// one namespace alone, so what is beside is kept apart.
+/// What a name stands for in a table of one map. Most names stand in one namespace alone, for a
+/// definition that has a short form, and then nothing else is kept.
 #[derive(Drop)]
-pub struct BoundName<V> {
-    pub ns: Namespace,
-    pub binding: Binding<V>,
-    pub others: Option<Box<NameBindings<V>>>,
+pub enum BoundName<V, K> {
+    One {
+        ns: Namespace,
+        kind: Kind,
+        source: Source,
+        idx: u32,
+        def: usize,
+        vis: K,
+        import: usize,
+    },
+    Each(Box<Each<V, K>>),
 }
 
-/// All that is kept beside.
-fn all_beside<V: Copy>(others: &Option<Box<NameBindings<V>>>) -> NameBindings<V>
-    ensures { bound_in result ≡ beside others.now }
+/// A name with one binding that has a short form.
+#[inline(always)]
+fn one<V: Copy, K: Kept<V>>(ns: Namespace, short: Short<K>) -> BoundName<V, K>
+    ensures { (map : MapId) → stands_for K.meaning map result
+        ≡ with_namespace (λ n. None) ns (Some (meant.long K.meaning map short)) }
 {
-    match others {
-        Some(there) => **there,
-        None => NameBindings::unbound(),
+    BoundName::One {
+        ns,
+        kind: short.kind,
+        source: short.source,
+        idx: short.idx,
+        def: short.def,
+        vis: short.vis,
+        import: short.import,
     }
 }
 
-/// Keeps these beside.
-fn keep<V: Copy>(
-    others: &mut Option<Box<NameBindings<V>>>,
+/// A name with one binding that has no short form.
+#[inline(never)]
+fn whole<V: Copy, K: Kept<V>>(
     alloc: Global,
-    bindings: NameBindings<V>,
-) -> Result<(), AllocError>
-    ensures done { OnOk result (beside others.new ≡ bound_in bindings) }
-    ensures refused { OnErr result (others.new ≡ others.old) }
+    ns: Namespace,
+    binding: &Binding<V>,
+) -> Result<BoundName<V, K>, AllocError>
+    ensures { IfOk result (λ name. (map : MapId) → stands_for K.meaning map name
+        ≡ with_namespace (λ n. None) ns (Some binding.now)) }
 {
-    match others {
-        Some(there) => {
-            **there = bindings;
-            Ok(())
-        }
-        None => {
-            *others = Some(Box::new(alloc, bindings)?);
-            Ok(())
-        }
-    }
+    let part = Part::Whole(Box::new(alloc, *binding)?);
+    let mut parts = Parts::vacant();
+    parts.put(ns, part);
+    Ok(BoundName::Each(Box::new(alloc, Each { parts })?))
 }
 
-/// Takes what is beside in a namespace out, and answers what is left.
-fn take_beside<V: Copy>(others: &mut Option<Box<NameBindings<V>>>, ns: Namespace) -> NameBindings<V>
-    ensures result { bound_in result ≡ beside others.new }
-    ensures left { beside others.new ≡ with_namespace (beside others.old) ns None }
+/// A name with a binding in each of two namespaces.
+#[inline(never)]
+fn both<V: Copy, K: Kept<V>>(
+    alloc: Global,
+    map: MapId,
+    own: Namespace,
+    first: Short<K>,
+    ns: Namespace,
+    binding: &Binding<V>,
+) -> Result<BoundName<V, K>, AllocError>
+    ensures { IfOk result (λ name. stands_for K.meaning map name
+        ≡ with_namespace (with_namespace (λ n. None) own (Some (meant.long K.meaning map first))) ns (Some binding.now)) }
 {
-    match others {
-        Some(there) => {
-            let left = there.with(ns, None);
-            **there = left;
-            left
-        }
-        None => NameBindings::unbound(),
-    }
+    let second = Part::of(alloc, map, binding)?;
+    let mut parts = Parts::vacant();
+    parts.put(own, Part::Numbers(first));
+    parts.put(ns, second);
+    Ok(BoundName::Each(Box::new(alloc, Each { parts })?))
 }
 
-impl<V: Copy> BoundName<V> {
+impl<V: Copy, K: Kept<V>> BoundName<V, K> {
     /// A name with one binding.
-    pub fn of(ns: Namespace, binding: &Binding<V>) -> Self
-        ensures { stands_for result ≡ with_namespace (λ n. None) ns (Some binding.now) }
+    #[inline(always)]
+    pub fn of(
+        alloc: Global,
+        map: MapId,
+        ns: Namespace,
+        binding: &Binding<V>,
+    ) -> Result<Self, AllocError>
+        ensures { IfOk result (λ name. stands_for K.meaning map name ≡ with_namespace (λ n. None) ns (Some binding.now)) }
     {
-        BoundName {
-            ns,
-            binding: *binding,
-            others: None,
+        match in_short(map, binding) {
+            Some(short) => Ok(one(ns, short)),
+            None => whole(alloc, ns, binding),
+        }
+    }
+
+    /// Whether the name is bound in a namespace.
+    pub fn is_bound_in(&self, ns: Namespace) -> bool
+        ensures { (map : MapId) → result ≡ is_some (stands_for K.meaning map self.now ns) }
+    {
+        match self {
+            BoundName::One { ns: own, .. } => own.is_same(ns),
+            BoundName::Each(each) => !each.parts.get(ns).is_vacant(),
+        }
+    }
+
+    /// The one binding, where the name is kept in short, and its namespace.
+    #[inline(always)]
+    pub fn lone(&self, map: MapId) -> LoneBinding<V>
+        ensures { IfSome (said result) (λ all. stands_for K.meaning map self.now ≡ bound_in all) }
+    {
+        match self {
+            BoundName::One {
+                ns,
+                kind,
+                source,
+                idx,
+                def,
+                vis,
+                import,
+            } => {
+                let short = Short {
+                    kind: *kind,
+                    source: *source,
+                    idx: *idx,
+                    def: *def,
+                    vis: *vis,
+                    import: *import,
+                };
+                LoneBinding::Lone(*ns, in_full(map, short))
+            }
+            BoundName::Each(_) => LoneBinding::Unsaid,
         }
     }
 
     /// The binding in a namespace.
-    pub fn get(&self, ns: Namespace) -> Option<&Binding<V>>
-        ensures { option_copied result ≡ stands_for self.now ns }
+    #[inline(always)]
+    pub fn get(&self, map: MapId, ns: Namespace) -> Option<Binding<V>>
+        ensures { result ≡ stands_for K.meaning map self.now ns }
     {
-        if self.ns.is_same(ns) {
-            return Some(&self.binding);
+        match self {
+            BoundName::One {
+                ns: own,
+                kind,
+                source,
+                idx,
+                def,
+                vis,
+                import,
+            } => {
+                if !own.is_same(ns) {
+                    return None;
+                }
+                let short = Short {
+                    kind: *kind,
+                    source: *source,
+                    idx: *idx,
+                    def: *def,
+                    vis: *vis,
+                    import: *import,
+                };
+                Some(in_full(map, short))
+            }
+            BoundName::Each(each) => {
+                let whole = each.parts.get(ns).long(map);
+                whole
+            }
         }
-        match &self.others {
-            Some(others) => others.get(ns),
-            None => None,
+    }
+
+    /// The visibility of the binding in a namespace.
+    #[inline(always)]
+    pub fn visibility(&self, map: MapId, ns: Namespace) -> Option<V>
+        ensures { result ≡ option_map (λ b. b.vis) (stands_for K.meaning map self.now ns) }
+    {
+        match self {
+            BoundName::One { ns: own, vis, .. } => {
+                if own.is_same(ns) {
+                    Some((*vis).vis(map))
+                } else {
+                    None
+                }
+            }
+            BoundName::Each(each) => each.parts.get(ns).visibility(map),
         }
     }
 
     /// The bindings in all namespaces.
-    pub fn all(&self) -> NameBindings<V>
-        ensures { bound_in result ≡ stands_for self.now }
+    pub fn all(&self, map: MapId) -> NameBindings<V>
+        ensures { bound_in result ≡ stands_for K.meaning map self.now }
     {
-        // Most names stand in one namespace alone, and then nothing else is copied.
-        match &self.others {
-            Some(others) => others.with(self.ns, Some(self.binding)),
-            None => NameBindings::of(self.ns, self.binding),
-        }
-    }
-
-    /// The one binding, where nothing is kept beside it, and its namespace.
-    pub fn lone(&self) -> LoneBinding<'_, V>
-        ensures { IfSome (said result) (λ all. stands_for self.now ≡ bound_in all) }
-    {
-        match self.others {
-            Some(_) => LoneBinding::Unsaid,
-            None => LoneBinding::Lone(self.ns, &self.binding),
+        match self {
+            BoundName::One {
+                ns,
+                kind,
+                source,
+                idx,
+                def,
+                vis,
+                import,
+            } => {
+                let short = Short {
+                    kind: *kind,
+                    source: *source,
+                    idx: *idx,
+                    def: *def,
+                    vis: *vis,
+                    import: *import,
+                };
+                NameBindings::of(*ns, in_full(map, short))
+            }
+            BoundName::Each(each) => each.parts.all(map),
         }
     }
 
     /// The module that it is bound to in types, if it is bound to one.
-    pub fn module(&self) -> Option<ModuleId>
-        ensures { result ≡ module_bound (stands_for self.now Types) }
+    pub fn module(&self, map: MapId) -> Option<ModuleId>
+        ensures { result ≡ module_bound (stands_for K.meaning map self.now Types) }
     {
-        match self.get(Namespace::Types) {
-            Some(binding) => binding.def.as_module(),
-            None => None,
+        match self {
+            BoundName::One {
+                ns: Namespace::Types,
+                kind: Kind::Module,
+                def,
+                ..
+            } => Some(ModuleId { map, index: *def }),
+            BoundName::One { .. } => None,
+            BoundName::Each(each) => match each.parts.types.long(map) {
+                Some(binding) => binding.def.as_module(),
+                None => None,
+            },
         }
     }
 
@@ -123,39 +244,64 @@ impl<V: Copy> BoundName<V> {
     pub fn set(
         &mut self,
         alloc: Global,
+        map: MapId,
         ns: Namespace,
         binding: &Binding<V>,
     ) -> Result<(), AllocError>
-        ensures done { OnOk result (stands_for self.new
-            ≡ with_namespace (stands_for self.old) ns (Some binding.now)) }
+        ensures done { OnOk result (stands_for K.meaning map self.new
+            ≡ with_namespace (stands_for K.meaning map self.old) ns (Some binding.now)) }
         ensures refused { OnErr result (self.new ≡ self.old) }
     {
-        if self.ns.is_same(ns) {
-            self.binding = *binding;
-            return Ok(());
+        match self {
+            BoundName::One {
+                ns: own,
+                kind,
+                source,
+                idx,
+                def,
+                vis,
+                import,
+            } => {
+                let own = *own;
+                if own.is_same(ns) {
+                    *self = BoundName::of(alloc, map, ns, binding)?;
+                    return Ok(());
+                }
+                let first = Short {
+                    kind: *kind,
+                    source: *source,
+                    idx: *idx,
+                    def: *def,
+                    vis: *vis,
+                    import: *import,
+                };
+                *self = both(alloc, map, own, first, ns, binding)?;
+                Ok(())
+            }
+            BoundName::Each(each) => {
+                let part = Part::of(alloc, map, binding)?;
+                each.parts.put(ns, part);
+                Ok(())
+            }
         }
-        let bindings = all_beside(&self.others);
-        keep(&mut self.others, alloc, bindings.with(ns, Some(*binding)))
     }
 
     /// Takes a binding out, and answers whether another is left. A name that has none keeps what it
     /// had.
-    pub fn take(&mut self, ns: Namespace) -> bool
-        ensures left { IsTrue result → stands_for self.new
-            ≡ with_namespace (stands_for self.old) ns None }
-        ensures none { IsFalse result → with_namespace (stands_for self.old) ns None ≡ (λ n. None) }
+    pub fn take(&mut self, map: MapId, ns: Namespace) -> bool
+        ensures left { IsTrue result → stands_for K.meaning map self.new
+            ≡ with_namespace (stands_for K.meaning map self.old) ns None }
+        ensures none { IsFalse result → with_namespace (stands_for K.meaning map self.old) ns None ≡ (λ n. None) }
     {
-        let left = take_beside(&mut self.others, ns);
-        if !self.ns.is_same(ns) {
-            return true;
-        }
-        match left.first() {
-            Some((first, binding)) => {
-                self.ns = first;
-                self.binding = binding;
+        match self {
+            BoundName::One { ns: own, .. } => !own.is_same(ns),
+            BoundName::Each(each) => {
+                if each.parts.is_alone(ns) {
+                    return false;
+                }
+                each.parts.put(ns, Part::Vacant);
                 true
             }
-            None => false,
         }
     }
 }

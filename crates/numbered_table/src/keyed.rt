@@ -95,6 +95,13 @@ impl<K: Copy + Eq + Hash, W: Copy> Keyed<K, W> {
         self.entries.get(&Placed { at: module, key }).copied()
     }
 
+    /// How many values there are.
+    pub fn len(&self) -> usize
+        ensures { result ≡ length self.now.entries.entries }
+    {
+        self.entries.len()
+    }
+
     /// Whether there are no values.
     pub fn is_empty(&self) -> bool
         ensures { IsTrue result ↔ (own_entries self.now.entries.entries ≡ (λ m. [])) }

@@ -3,11 +3,18 @@
 #![tactic(auto)]
 
 mod bound_name;
+mod each;
+mod kept;
 mod keyed;
 mod link;
 mod lists;
 mod numbered_table;
+mod part;
+mod parts;
 mod place;
+mod puts;
+mod short;
 
+pub use kept::{Kept, VisNumber};
 pub use link::Link;
 pub use numbered_table::NumberedTable;

@@ -74,6 +74,7 @@ fn begin_other<K: Copy>(
 }
 
 /// Adds an element at the end of a row's list.
+#[inline(always)]
 fn push_in_row<K: Copy>(row: &mut Option<Vec<K>>, item: K) -> Result<(), AllocError>
     ensures done { OnOk result (row_items row.new ≡ option_map (λ xs. xs ++ item ∷ []) (row_items row.old)) }
     ensures refused { OnErr result (row_items row.new ≡ row_items row.old) }
@@ -106,6 +107,7 @@ impl<K: Copy> Lists<K> {
     }
 
     /// The list of a module that has a row.
+    #[inline(always)]
     fn row(&self, module: ModuleId) -> Option<&[K]>
         ensures { option_map (λ list. list.now) result ≡ rows_of self.now «module» }
     {

@@ -1,41 +1,49 @@
 //! A table that keeps the names of all modules in one index.
 #![tactic(auto, unfolding(crate::specs::NumberedTable::content_of))]
 
-ghost use Rattle.std.specs.Prelude.{◌≡◌, ◌↔◌, IsTrue, None, Some, is_none, OnOk, OnErr, IfOk, IfSome, option_copied};
-ghost use Rattle.numbered_table.specs.BoundName.{stands_for, written_in};
-ghost use Rattle.def_bindings.specs.Content.{AreTied, bound_as, is_bound};
+ghost use Rattle.std.specs.Prelude.{◌≡◌, ◌↔◌, IsTrue, IsFalse, Some, true, false, is_none, OnOk, OnErr, IfOk, IfSome, option_copied};
+ghost use Rattle.indexmap.specs.IndexMap.{get};
 ghost use Rattle.numbered_table.specs.Lists.{lists_of};
-ghost use Rattle.numbered_table.specs.Places.{bindings_of, name_of};
+ghost use Rattle.numbered_table.specs.Places.{AreListed, AreStrangers, is_own_place, name_of};
 ghost use Rattle.def_bindings.specs.Puts.{if_vacant};
 
 use crate::bound_name::BoundName;
+use crate::kept::Kept;
 use crate::keyed::Keyed;
 use crate::link::Link;
 use crate::lists::Lists;
-use crate::place::Placed;
+use crate::place::{OwnPlace, Placed};
+use crate::puts::{Put, put_at, remove_at};
 use def_bindings::{Binding, BindingTable, EdgeTo, LoneBinding, NameBindings, Namespace, Slot};
-use def_ids::{ModuleId, TraitId};
+use def_ids::{MapId, ModuleId, TraitId};
 use indexmap::IndexMap;
-use indexmap::map::Entry;
 use std::alloc::{AllocError, Global};
-use tree_ids::Name;
+use tree_ids::{Crate, Name};
 
 /// What all names stand for in one index over modules and names, and so the unnamed traits and the
-/// edges; and the names of each module in first-bound order.
-pub struct NumberedTable<V> {
+/// edges; and the names of each module in first-bound order. Of the modules of one map, which are
+/// mostly all, the index holds no more than numbers. Visibilities `V` are kept as `K`: as they are, or
+/// in a form that takes less room, as `VisNumber` for those of a map.
+pub struct NumberedTable<V, K = V> {
     alloc: Global,
-    bound: IndexMap<Placed<Name>, BoundName<V>>,
+    /// The map whose modules are found by their indices, and whose bindings are kept in short.
+    map: MapId,
+    own: IndexMap<OwnPlace, BoundName<V, K>>,
+    others: IndexMap<Placed<Name>, BoundName<V, K>>,
     names: Lists<Name>,
     unnamed: Keyed<TraitId, V>,
     edges: Keyed<ModuleId, Link<V>>,
-    ghost tied: { AreTied (bindings_of bound) (lists_of names) },
+    ghost apart: { AreStrangers map others },
+    ghost listed: { AreListed (name_of map own others) (lists_of names) },
 }
 
-impl<V: Drop> Drop for NumberedTable<V> {
+impl<V: Drop, K: Drop> Drop for NumberedTable<V, K> {
     fn drop(self) {
         let NumberedTable {
             alloc: _,
-            bound: _,
+            map: _,
+            own: _,
+            others: _,
             names: _,
             unnamed: _,
             edges: _,
@@ -43,54 +51,34 @@ impl<V: Drop> Drop for NumberedTable<V> {
     }
 }
 
-/// What a name of a module stands for, if it stands for something.
-fn bound_at<V>(
-    bound: &IndexMap<Placed<Name>, BoundName<V>>,
-    module: ModuleId,
-    name: Name,
-) -> Option<&BoundName<V>>
-    ensures { option_copied result ≡ name_of bound.now «module» name }
-{
-    bound.get(&Placed {
-        at: module,
-        key: name,
-    })
-}
-
-/// What the entry with this number among all stands for, where it is that of this name.
-fn bound_numbered<V>(
-    bound: &IndexMap<Placed<Name>, BoundName<V>>,
+/// What the entry with this number among all stands for, where it is that of this place.
+fn bound_numbered<V, K>(
+    own: &IndexMap<OwnPlace, BoundName<V, K>>,
     number: usize,
-    module: ModuleId,
-    name: Name,
-) -> Option<&BoundName<V>>
-    ensures { IfSome result (λ there. name_of bound.now «module» name ≡ Some there.now) }
+    place: OwnPlace,
+) -> Option<&BoundName<V, K>>
+    ensures { IfSome result (λ there. get is_own_place own.now place ≡ Some there.now) }
 {
-    match bound.get_index(number) {
-        Some((placed, there)) if placed.at == module && placed.key == name => Some(there),
+    match own.get_index(number) {
+        Some((found, there)) if *found == place => Some(there),
         _ => None,
     }
 }
 
-/// What a name of a module stands for, if it stands for something. It is looked for at the number
-/// `near` first, which is then the one after it.
-fn bound_near<'a, V>(
-    bound: &'a IndexMap<Placed<Name>, BoundName<V>>,
-    module: ModuleId,
-    name: Name,
+/// What a place stands for, if it stands for something. It is looked for at the number `near` first,
+/// which is then the one after it.
+fn bound_near<'a, V, K>(
+    own: &'a IndexMap<OwnPlace, BoundName<V, K>>,
+    place: OwnPlace,
     near: &mut usize,
-) -> Option<&'a BoundName<V>>
-    ensures { option_copied result ≡ name_of bound.now «module» name }
+) -> Option<&'a BoundName<V, K>>
+    ensures { option_copied result ≡ get is_own_place own.now place }
 {
-    if let Some(there) = bound_numbered(bound, *near, module, name) {
+    if let Some(there) = bound_numbered(own, *near, place) {
         *near = near.saturating_add(1);
         return Some(there);
     }
-    let placed = Placed {
-        at: module,
-        key: name,
-    };
-    match bound.get_full(&placed) {
+    match own.get_full(&place) {
         Some((number, _, there)) => {
             *near = number.saturating_add(1);
             Some(there)
@@ -99,66 +87,43 @@ fn bound_near<'a, V>(
     }
 }
 
-/// Takes a binding out, and answers whether its name has another.
-fn take_out<V: Copy>(
-    names: &mut IndexMap<Placed<Name>, BoundName<V>>,
-    module: ModuleId,
-    name: Name,
-    ns: Namespace,
-) -> bool
-    ensures bindings { bindings_of names.new
-        ≡ bound_as (bindings_of names.old) «module» name ns None }
-    ensures stays { result ≡ is_bound (bindings_of names.new) «module» name }
-{
-    let placed = Placed {
-        at: module,
-        key: name,
-    };
-    let Some(bound) = names.get_mut(&placed) else {
-        return false;
-    };
-    if bound.take(ns) {
-        return true;
-    }
-    let _ = names.swap_remove(&placed);
-    false
-}
-
-/// Binds a name beside its other bindings where nothing is bound, and answers whether that was so. A
-/// refused call changes nothing.
-fn bind_beside<V: Copy>(
-    alloc: Global,
-    bound: &mut BoundName<V>,
-    ns: Namespace,
-    binding: &Binding<V>,
-) -> Result<bool, AllocError>
-    ensures vacant { IfOk result (λ vacant. vacant ≡ is_none (stands_for bound.old ns)) }
-    ensures done { IfOk result (λ vacant. stands_for bound.new
-        ≡ written_in (stands_for bound.old) ns (if_vacant vacant binding.now)) }
-    ensures refused { OnErr result (bound.new ≡ bound.old) }
-{
-    if bound.get(ns).is_some() {
-        return Ok(false);
-    }
-    bound.set(alloc, ns, binding)?;
-    Ok(true)
-}
-
 impl<V: Copy> NumberedTable<V> {
-    ghost use Rattle.std.specs.Prelude.{◌<◌, ◌^◌, length, slice_get};
+    ghost use Rattle.def_bindings.specs.Content.{empty};
+    ghost use Rattle.numbered_table.specs.Kept.{as_it_is};
+    ghost use Rattle.numbered_table.specs.NumberedTable.{content_of};
+
+    /// A table with nothing in it, which takes the least room for modules of the map that is bound in
+    /// first.
+    pub fn new(alloc: Global) -> Result<Self, AllocError>
+        ensures { IfOk result (λ table. content_of as_it_is table ≡ empty) }
+    {
+        let map = MapId {
+            krate: Crate(0),
+            block: None,
+        };
+        NumberedTable::of_map(alloc, map)
+    }
+}
+
+impl<V: Copy, K: Kept<V>> NumberedTable<V, K> {
+    ghost use Rattle.std.specs.Prelude.{◌<◌, ◌^◌, ◌||◌, length, slice_get};
     ghost use Rattle.def_bindings.specs.declared.bindings.Slot.TheVariants.{Named};
     ghost use Rattle.def_bindings.specs.Content.{empty};
     ghost use Rattle.def_bindings.specs.NameBindings.{bound_in, said};
+    ghost use Rattle.def_ids.specs.Ids.{is_same_map};
     ghost use Rattle.numbered_table.specs.NumberedTable.{all_edges, content_of};
     ghost use Rattle.def_bindings.specs.Puts.{written};
 
-    /// A table with nothing in it.
-    pub fn new(alloc: Global) -> Result<Self, AllocError>
-        ensures { IfOk result (λ table. content_of table ≡ empty) }
+    /// A table with nothing in it, which takes the least room for modules of this map, and serves those
+    /// of any other as well.
+    pub fn of_map(alloc: Global, map: MapId) -> Result<Self, AllocError>
+        ensures { IfOk result (λ table. content_of K.meaning table ≡ empty) }
     {
         Ok(NumberedTable {
             alloc,
-            bound: IndexMap::new(alloc),
+            map,
+            own: IndexMap::new(alloc),
+            others: IndexMap::new(alloc),
             names: Lists::new(alloc),
             unnamed: Keyed::new(alloc),
             edges: Keyed::new(alloc),
@@ -167,72 +132,178 @@ impl<V: Copy> NumberedTable<V> {
 
     /// Makes room for more names and edges, so that as many are added with no copy of what is there.
     pub fn reserve(&mut self, names: usize, edges: usize) -> Result<(), AllocError>
-        ensures { content_of self.new ≡ content_of self.old }
+        ensures { content_of K.meaning self.new ≡ content_of K.meaning self.old }
     {
-        self.bound.reserve(names)?;
+        self.own.reserve(names)?;
         self.edges.reserve(edges)
     }
 
     /// The names of a module, in first-bound order.
     pub fn names(&self, module: ModuleId) -> &[Name]
-        ensures { result.now ≡ (content_of self.now).names «module» }
+        ensures { result.now ≡ (content_of K.meaning self.now).names «module» }
     {
         self.names.of(module)
+    }
+
+    /// What a name of a module stands for, if it stands for something.
+    fn bound_at(&self, module: ModuleId, name: Name) -> Option<&BoundName<V, K>>
+        ensures { option_copied result ≡ name_of self.now.map self.now.own self.now.others «module» name }
+    {
+        if module.map == self.map {
+            self.own.get(&OwnPlace {
+                index: module.index,
+                name,
+            })
+        } else {
+            self.others.get(&Placed {
+                at: module,
+                key: name,
+            })
+        }
     }
 
     /// What a name stands for, in short where it can be said. Names that are read in the order in which
     /// they were bound mostly follow each other among all: `near` is where this one is looked for first,
     /// and then where the next one is.
-    pub fn lone_near(&self, module: ModuleId, name: Name, near: &mut usize) -> LoneBinding<'_, V>
-        ensures { IfSome (said result) (λ all. (content_of self.now).binding «module» name ≡ bound_in all) }
+    #[inline(always)]
+    pub fn lone_near(&self, module: ModuleId, name: Name, near: &mut usize) -> LoneBinding<V>
+        ensures { IfSome (said result) (λ all. (content_of K.meaning self.now).binding «module» name ≡ bound_in all) }
     {
-        match bound_near(&self.bound, module, name, near) {
-            Some(bound) => bound.lone(),
+        if module.map != self.map {
+            return self.lone(module, name);
+        }
+        let place = OwnPlace {
+            index: module.index,
+            name,
+        };
+        match bound_near(&self.own, place, near) {
+            Some(bound) => bound.lone(self.map),
             None => LoneBinding::Nothing,
         }
     }
 
-    /// Binds a name where nothing is bound, and answers whether that was so. A refused call changes
+    /// Puts a binding in a module of the table's map, and answers whether it did. A refused call changes
     /// nothing.
-    fn bind_name(
-        &mut self,
-        module: ModuleId,
-        name: Name,
-        ns: Namespace,
-        binding: &Binding<V>,
-    ) -> Result<bool, AllocError>
-        ensures done { IfOk result (λ vacant.
-            (vacant ≡ is_none ((content_of self.old).binding «module» name ns))
-            × (content_of self.new
-            ≡ written (content_of self.old) «module» (Named name ns) (if_vacant vacant binding.now))) }
-        ensures refused { OnErr result (content_of self.new ≡ content_of self.old) }
+    #[inline(always)]
+    fn put_own(&mut self, put: Put, binding: &Binding<V>) -> Result<bool, AllocError>
+        requires { is_same_map put.at.map self.now.map ≡ true }
+        ensures done { IfOk result (λ wrote.
+            (wrote ≡ (put.over || is_none ((content_of K.meaning self.old).binding put.at put.name put.ns)))
+            × (content_of K.meaning self.new
+            ≡ written (content_of K.meaning self.old) put.at (Named put.name put.ns) (if_vacant wrote binding.now))) }
+        ensures refused { OnErr result (content_of K.meaning self.new ≡ content_of K.meaning self.old) }
     {
-        let alloc = self.alloc;
-        let placed = Placed {
-            at: module,
-            key: name,
+        let place = OwnPlace {
+            index: put.at.index,
+            name: put.name,
         };
-        match self.bound.entry(placed)? {
-            Entry::Occupied(there) => bind_beside(alloc, there.into_mut(), ns, binding),
-            Entry::Vacant(free) => {
-                self.names.push(module, name)?;
-                free.insert(BoundName::of(ns, binding));
-                Ok(true)
-            }
+        put_at(
+            self.alloc,
+            self.map,
+            &mut self.own,
+            &mut self.names,
+            place,
+            put,
+            binding,
+        )
+    }
+
+    /// Puts a binding in a module of another map, and answers whether it did. A refused call changes
+    /// nothing.
+    fn put_other(&mut self, put: Put, binding: &Binding<V>) -> Result<bool, AllocError>
+        requires { is_same_map put.at.map self.now.map ≡ false }
+        ensures done { IfOk result (λ wrote.
+            (wrote ≡ (put.over || is_none ((content_of K.meaning self.old).binding put.at put.name put.ns)))
+            × (content_of K.meaning self.new
+            ≡ written (content_of K.meaning self.old) put.at (Named put.name put.ns) (if_vacant wrote binding.now))) }
+        ensures refused { OnErr result (content_of K.meaning self.new ≡ content_of K.meaning self.old) }
+    {
+        let place = Placed {
+            at: put.at,
+            key: put.name,
+        };
+        put_at(
+            self.alloc,
+            self.map,
+            &mut self.others,
+            &mut self.names,
+            place,
+            put,
+            binding,
+        )
+    }
+
+    /// Takes a map for the table's where nothing is bound yet, and answers whether it did.
+    fn adopt(&mut self, map: MapId) -> bool
+        ensures content { content_of K.meaning self.new ≡ content_of K.meaning self.old }
+        ensures taken { IsTrue result → self.new.map ≡ map }
+        ensures left { IsFalse result → self.new.map ≡ self.old.map }
+    {
+        if !self.own.is_empty() {
+            return false;
+        }
+        if !self.others.is_empty() {
+            return false;
+        }
+        self.map = map;
+        true
+    }
+
+    /// Puts a binding in a module of a map that is not the table's, and answers whether it did. Where
+    /// nothing is bound yet the table takes that map for its own. A refused call changes nothing.
+    #[inline(never)]
+    fn put_elsewhere(&mut self, put: Put, binding: &Binding<V>) -> Result<bool, AllocError>
+        requires { is_same_map put.at.map self.now.map ≡ false }
+        ensures done { IfOk result (λ wrote.
+            (wrote ≡ (put.over || is_none ((content_of K.meaning self.old).binding put.at put.name put.ns)))
+            × (content_of K.meaning self.new
+            ≡ written (content_of K.meaning self.old) put.at (Named put.name put.ns) (if_vacant wrote binding.now))) }
+        ensures refused { OnErr result (content_of K.meaning self.new ≡ content_of K.meaning self.old) }
+    {
+        if self.adopt(put.at.map) {
+            self.put_own(put, binding)
+        } else {
+            self.put_other(put, binding)
+        }
+    }
+
+    /// Puts a binding, and answers whether it did. A refused call changes nothing.
+    #[inline(always)]
+    fn put(&mut self, put: Put, binding: &Binding<V>) -> Result<bool, AllocError>
+        ensures done { IfOk result (λ wrote.
+            (wrote ≡ (put.over || is_none ((content_of K.meaning self.old).binding put.at put.name put.ns)))
+            × (content_of K.meaning self.new
+            ≡ written (content_of K.meaning self.old) put.at (Named put.name put.ns) (if_vacant wrote binding.now))) }
+        ensures refused { OnErr result (content_of K.meaning self.new ≡ content_of K.meaning self.old) }
+    {
+        if put.at.map == self.map {
+            self.put_own(put, binding)
+        } else {
+            self.put_elsewhere(put, binding)
         }
     }
 
     /// Whether the table has nothing in it.
     pub fn is_empty(&self) -> bool
-        ensures { IsTrue result ↔ (content_of self.now ≡ empty) }
+        ensures { IsTrue result ↔ (content_of K.meaning self.now ≡ empty) }
     {
-        if !self.bound.is_empty() {
+        if !self.own.is_empty() {
+            return false;
+        }
+        if !self.others.is_empty() {
             return false;
         }
         if !self.unnamed.is_empty() {
             return false;
         }
         self.edges.is_empty()
+    }
+
+    /// How many edges there are.
+    pub fn edge_count(&self) -> usize
+        ensures { result ≡ length (all_edges self.now) }
+    {
+        self.edges.len()
     }
 
     /// The edge with this number among all in order of recording, and its source.
@@ -254,41 +325,49 @@ impl<V: Copy> NumberedTable<V> {
     }
 }
 
-impl<V: Copy> BindingTable for NumberedTable<V> {
+impl<V: Copy, K: Kept<V>> BindingTable for NumberedTable<V, K> {
     ghost use Rattle.def_bindings.specs.Content.{with_binding, with_unnamed, with_edge};
     ghost use Rattle.numbered_table.specs.NumberedTable.{content_of};
     ghost use Rattle.numbered_table.specs.NumberedTableLaws.{modules_of, are_sources, are_tied};
 
     type Vis = V;
 
-    ghost content = { content_of };
+    ghost content = { content_of K.meaning };
 
     ghost sources = { λ t. modules_of t.edges.entries.entries };
 
     fn binding(&self, module: ModuleId, name: Name, ns: Namespace) -> Option<Binding<V>> {
-        match bound_at(&self.bound, module, name) {
-            Some(bound) => bound.get(ns).copied(),
+        match self.bound_at(module, name) {
+            Some(bound) => bound.get(self.map, ns),
+            None => None,
+        }
+    }
+
+    fn visibility(&self, module: ModuleId, name: Name, ns: Namespace) -> Option<V> {
+        match self.bound_at(module, name) {
+            Some(bound) => bound.visibility(self.map, ns),
             None => None,
         }
     }
 
     fn bindings(&self, module: ModuleId, name: Name) -> NameBindings<V> {
-        match bound_at(&self.bound, module, name) {
-            Some(bound) => bound.all(),
+        match self.bound_at(module, name) {
+            Some(bound) => bound.all(self.map),
             None => NameBindings::unbound(),
         }
     }
 
-    fn lone(&self, module: ModuleId, name: Name) -> LoneBinding<'_, V> {
-        match bound_at(&self.bound, module, name) {
-            Some(bound) => bound.lone(),
+    #[inline(always)]
+    fn lone(&self, module: ModuleId, name: Name) -> LoneBinding<V> {
+        match self.bound_at(module, name) {
+            Some(bound) => bound.lone(self.map),
             None => LoneBinding::Nothing,
         }
     }
 
     fn module_at(&self, module: ModuleId, name: Name) -> Option<ModuleId> {
-        match bound_at(&self.bound, module, name) {
-            Some(bound) => bound.module(),
+        match self.bound_at(module, name) {
+            Some(bound) => bound.module(self.map),
             None => None,
         }
     }
@@ -338,21 +417,17 @@ impl<V: Copy> BindingTable for NumberedTable<V> {
         ns: Namespace,
         binding: Binding<V>,
     ) -> Result<(), AllocError>
-        ensures done { OnOk result (content_of self.new
-            ≡ with_binding (content_of self.old) «module» name ns binding) }
-        ensures refused { OnErr result (content_of self.new ≡ content_of self.old) }
+        ensures done { OnOk result (content_of K.meaning self.new
+            ≡ with_binding (content_of K.meaning self.old) «module» name ns binding) }
+        ensures refused { OnErr result (content_of K.meaning self.new ≡ content_of K.meaning self.old) }
     {
-        let alloc = self.alloc;
-        let placed = Placed {
+        let put = Put {
             at: module,
-            key: name,
+            name,
+            ns,
+            over: true,
         };
-        if let Some(bound) = self.bound.get_mut(&placed) {
-            return bound.set(alloc, ns, &binding);
-        }
-        self.bound.reserve(1)?;
-        self.names.push(module, name)?;
-        self.bound.insert(placed, BoundName::of(ns, &binding))?;
+        self.put(put, &binding)?;
         Ok(())
     }
 
@@ -363,7 +438,15 @@ impl<V: Copy> BindingTable for NumberedTable<V> {
         binding: &Binding<V>,
     ) -> Result<bool, AllocError> {
         match slot {
-            Slot::Named(name, ns) => self.bind_name(module, name, ns, binding),
+            Slot::Named(name, ns) => {
+                let put = Put {
+                    at: module,
+                    name,
+                    ns,
+                    over: false,
+                };
+                self.put(put, binding)
+            }
             Slot::Unnamed(item) => match self.unnamed_vis(module, item) {
                 Some(_) => Ok(false),
                 None => {
@@ -375,23 +458,49 @@ impl<V: Copy> BindingTable for NumberedTable<V> {
     }
 
     fn remove(&mut self, module: ModuleId, name: Name, ns: Namespace) {
-        if !take_out(&mut self.bound, module, name, ns) {
-            self.names.remove(module, name);
+        if module.map == self.map {
+            let place = OwnPlace {
+                index: module.index,
+                name,
+            };
+            remove_at(
+                self.map,
+                &mut self.own,
+                &mut self.names,
+                place,
+                module,
+                name,
+                ns,
+            )
+        } else {
+            let place = Placed {
+                at: module,
+                key: name,
+            };
+            remove_at(
+                self.map,
+                &mut self.others,
+                &mut self.names,
+                place,
+                module,
+                name,
+                ns,
+            )
         }
     }
 
     fn set_unnamed(&mut self, module: ModuleId, item: TraitId, vis: V) -> Result<(), AllocError>
-        ensures done { OnOk result (content_of self.new
-            ≡ with_unnamed (content_of self.old) «module» item vis) }
-        ensures refused { OnErr result (content_of self.new ≡ content_of self.old) }
+        ensures done { OnOk result (content_of K.meaning self.new
+            ≡ with_unnamed (content_of K.meaning self.old) «module» item vis) }
+        ensures refused { OnErr result (content_of K.meaning self.new ≡ content_of K.meaning self.old) }
     {
         self.unnamed.set(module, item, vis)
     }
 
     fn set_edge(&mut self, module: ModuleId, edge: EdgeTo<V>) -> Result<(), AllocError>
-        ensures done { OnOk result (content_of self.new
-            ≡ with_edge (content_of self.old) «module» edge) }
-        ensures refused { OnErr result (content_of self.new ≡ content_of self.old) }
+        ensures done { OnOk result (content_of K.meaning self.new
+            ≡ with_edge (content_of K.meaning self.old) «module» edge) }
+        ensures refused { OnErr result (content_of K.meaning self.new ≡ content_of K.meaning self.old) }
     {
         let link = Link {
             vis: edge.vis,
@@ -400,7 +509,7 @@ impl<V: Copy> BindingTable for NumberedTable<V> {
         self.edges.set(module, edge.importer, link)
     }
 
-    ghost finite = { are_sources };
+    ghost finite = { are_sources K.meaning };
 
-    ghost tied = { are_tied };
+    ghost tied = { are_tied K.meaning };
 }

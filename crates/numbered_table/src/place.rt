@@ -7,6 +7,14 @@ ghost use Rattle.std.specs.Hash as fed;
 
 use def_ids::ModuleId;
 use std::hash::{Hash, Hasher};
+use tree_ids::Name;
+
+/// A name in a module of the table's own map, which the module's index says.
+#[derive(Clone, Copy, PartialEq, Eq, Hash)]
+pub struct OwnPlace {
+    pub index: usize,
+    pub name: Name,
+}
 
 /// A key in a module.
 #[derive(Clone, Copy, PartialEq, Eq)]

@@ -8,11 +8,11 @@ mod travels;
 
 use answers::{Answers, ask};
 use calls::call;
-use def_bindings::{BindingTable, ModuleTree, Namespace, Visibility};
-use def_ids::{GlobId, MapId, ModuleId, UseId};
+use def_bindings::{Binding, BindingTable, ModuleTree, Namespace, Visibility};
+use def_ids::{Def, FunctionId, GlobId, MapId, ModuleId, UseId};
 use def_parts::Globs;
-use item_tree::{Crate, Seq};
-use numbered_table::NumberedTable;
+use item_tree::{Crate, Name, Seq};
+use numbered_table::{NumberedTable, VisNumber};
 use plain_table::PlainTable;
 use scope_table::ScopeTable;
 use scripts::{CHAIN, SCRIPTS, Script, Step};
@@ -22,6 +22,12 @@ use std::test::Fail;
 /// The map of the modules.
 const MAP: MapId = MapId {
     krate: Crate(0),
+    block: None,
+};
+
+/// A map with a module that no script asks of.
+const ANOTHER: MapId = MapId {
+    krate: Crate(3),
     block: None,
 };
 
@@ -146,6 +152,36 @@ fn by_numbers(
     play(alloc, order, script, NumberedTable::new(alloc)?)
 }
 
+/// The same, by the table that maps have, which keeps visibilities by number.
+fn in_short(
+    alloc: Global,
+    order: &ModuleTree,
+    script: &Script,
+) -> Result<Vec<Answers>, AllocError> {
+    let table: NumberedTable<Visibility, VisNumber> = NumberedTable::of_map(alloc, MAP)?;
+    play(alloc, order, script, table)
+}
+
+/// The same, by a table that is another map's, since that was bound in first.
+fn by_whole_places(
+    alloc: Global,
+    order: &ModuleTree,
+    script: &Script,
+) -> Result<Vec<Answers>, AllocError> {
+    let mut table: NumberedTable<Visibility, VisNumber> = NumberedTable::of_map(alloc, MAP)?;
+    let root = ModuleId {
+        map: ANOTHER,
+        index: 0,
+    };
+    let binding = Binding {
+        def: Def::Function(FunctionId(0)),
+        vis: Visibility::Module(root),
+        import: None,
+    };
+    table.set(root, Name(0), Namespace::Values, binding)?;
+    play(alloc, order, script, table)
+}
+
 fn by_scopes(
     alloc: Global,
     order: &ModuleTree,
@@ -178,6 +214,8 @@ fn are_alike(alloc: Global, order: &ModuleTree, script: &Script) -> Result<bool,
     let found = by_numbers(alloc, order, script)?;
     Ok(
         are_wanted(script, found.as_slice())
+            && in_short(alloc, order, script)? == found
+            && by_whole_places(alloc, order, script)? == found
             && by_scopes(alloc, order, script)? == found
             && by_required_calls(alloc, order, script)? == found,
     )

@@ -1,5 +1,5 @@
 use Rattle.std.proofs.Common.{true, false, refl, sym, ◌∙◌}
-use Rattle.def_ids.specs.Equality.{def_eq, glob_eq}
+use Rattle.def_ids.specs.Equality.{glob_eq}
 use Rattle.def_bindings.specs.Order.{rises_to}
 use Rattle.def_bindings.proofs.SettledLemmas.{def-same, settled_as}
 use Rattle.def_bindings.proofs.puts.settle_by_glob.Goals as goal

@@ -4,7 +4,7 @@ use Rattle.def_steps.proofs.GatherLemmas.{taken_more}
 use Rattle.def_steps.proofs.targets.targets_of.Goals as goal
 
 pub targets-init : goal.targets-init
-targets-init c = ap (map shown_targets) c.new-list.ensures.items
+targets-init c = ap (map shown_targets) (c.reserve.ensures.items ∙ c.new-list.ensures.items)
 
 pub targets-preserved : goal.targets-preserved
 targets-preserved c =

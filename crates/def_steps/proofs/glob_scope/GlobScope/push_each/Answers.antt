@@ -1,4 +1,4 @@
-use Rattle.std.proofs.Common.{ap, ◌∙◌}
+use Rattle.std.proofs.Common.{refl}
 use Rattle.def_bindings.specs.declared.bindings.Namespace.TheVariants.{Types, Values, Macros}
 use Rattle.def_bindings.specs.ModuleTree.{chain_in}
 use Rattle.def_bindings.specs.Visibility.{order_over}
@@ -13,9 +13,6 @@ returns c =
     let self = c.args.self.now in
     let o = order_over (chain_in self.order.now) in
     gathered_thrice (λ ns item. brought o self.glob c.args.name ns (kept (λ i. glob_sees o self.own self.glob.importer i.vis) item))
-    ((bound_by self.table.now).binding self.source c.args.name) c.push_seen-3.result
-    c.args.entries.now.items c.push_seen.new.entries.items c.push_seen-2.new.entries.items c.push_seen-3.new.entries.items Types Values Macros _ _ _
-    (c.as_ref.ensures.value ∙ ap (λ f. f Types) c.bindings-found.ensures)
-    (c.as_ref-2.ensures.value ∙ ap (λ f. f Values) c.bindings-found.ensures)
-    (c.as_ref-3.ensures.value ∙ ap (λ f. f Macros) c.bindings-found.ensures)
-    c.in_ok-push_seen.ensures c.in_ok-push_seen-2.ensures c.push_seen-3.ensures
+    ((bound_by self.table.now).binding self.source c.args.name) c.push_in-3.result
+    c.args.entries.now.items c.push_in.new.entries.items c.push_in-2.new.entries.items c.push_in-3.new.entries.items Types Values Macros _ _ _
+    refl refl refl c.in_ok-push_in.ensures c.in_ok-push_in-2.ensures c.push_in-3.ensures

@@ -19,5 +19,5 @@ returns-in-Lone c =
     let self = c.args.self.now in
     let bound = (bound_by self.table.now).binding self.source c.args.name in
     brought-alone (order_over (chain_in self.order.now)) self.glob self.own c.args.name c.push_seen.result bound
-    c.args.entries.now.items c.push_seen.new.entries.items c.in-Lone.ns c.in-Lone.item.now
+    c.args.entries.now.items c.push_seen.new.entries.items c.in-Lone.ns c.in-Lone.item
     (subst (λ r. IfSome (said r) (λ all. bound ≡ bound_in all)) c.in-Lone.is c.lone_near.ensures) c.push_seen.ensures

@@ -1,15 +1,34 @@
-use Rattle.std.proofs.Common.{Some, cond, ap, sym, ◌∙◌}
-use Rattle.def_bindings.specs.Content.{is_namespace}
-use Rattle.def_bindings.specs.NameBindings.{bound_in}
-use Rattle.numbered_table.specs.BoundName.{beside, with_namespace}
-use Rattle.numbered_table.proofs.BoundNameLemmas.{bound_in-with, stands-beside}
-use Rattle.numbered_table.proofs.ResultLemmas.{OnOk_then}
+use Rattle.std.proofs.Common.{None, Some, ap, sym, ◌∙◌}
+use Rattle.numbered_table.specs.BoundName.{stands_for, with_namespace}
+use Rattle.numbered_table.specs.Parts.{parts_in}
+use Rattle.numbered_table.specs.Short.{long}
+use Rattle.numbered_table.proofs.BoundNameLemmas.{alone-left, written-over}
+use Rattle.numbered_table.proofs.PartsLemmas.{bound-some, parts-put, some-put}
 use Rattle.numbered_table.proofs.bound_name.BoundName.set.Goals as goal
 
-pub returns-clause-done : goal.returns-clause-done
-returns-clause-done g c =
+pub returns-then-is_same-clause-done : goal.returns-then-is_same-clause-done
+returns-then-is_same-clause-done g c =
+    let map = c.args.map in
+    let ns = c.args.ns in
     let s = c.args.self.now in
+    let one = c.in-One in
+    let alone = ap (λ s. with_namespace (stands_for g.K.Kept.meaning map s) ns None) one.is ∙ alone-left one.own ns (Some (long g.K.Kept.meaning map (record { kind = one.kind; source = one.source; idx = one.idx; def = one.def; vis = one.vis; import = one.import }))) (sym c.is_same.ensures ∙ c.if-is_same.true) in
+    c.in_ok-self-in-One.ensures ∙ ap (λ f. with_namespace f ns (Some c.args.binding.now)) (sym alone) ∙ written-over (stands_for g.K.Kept.meaning map s) ns (Some c.args.binding.now)
+
+pub returns-in_ok-self-in-One-2-clause-done : goal.returns-in_ok-self-in-One-2-clause-done
+returns-in_ok-self-in-One-2-clause-done g c =
+    c.in_ok-self-in-One-2.ensures ∙ ap (λ s. with_namespace (stands_for g.K.Kept.meaning c.args.map s) c.args.ns (Some c.args.binding.now)) (sym c.in-One.is)
+
+pub invariant_of-deref_mut : goal.invariant_of-deref_mut
+invariant_of-deref_mut g c =
+    record { some = some-put c.deref_mut.result.now.parts c.put.new.self c.args.ns c.in_ok-part-in-Each.part c.put.ensures (bound-some g.K.Kept.meaning c.args.map c.in_ok-part-in-Each.part c.args.binding.now c.in_ok-part-in-Each.ensures) }
+
+pub returns-in_ok-part-in-Each-clause-done : goal.returns-in_ok-part-in-Each-clause-done
+returns-in_ok-part-in-Each-clause-done g c =
+    let map = c.args.map in
+    let ns = c.args.ns in
     let b = Some c.args.binding.now in
-    OnOk_then c.keep.result c.keep.ensures.done (λ kept.
-    let others = kept ∙ ap bound_in c.with.ensures ∙ bound_in-with c.all_beside-bindings.result c.args.ns b ∙ ap (λ f. with_namespace f c.args.ns b) c.all_beside-bindings.ensures in
-    ap (λ f k. cond (is_namespace s.ns k) (Some s.binding) (f k)) others ∙ stands-beside s.ns (Some s.binding) (beside s.others) c.args.ns b (sym c.is_same.ensures ∙ c.if-is_same.false))
+    parts-put g.K.Kept.meaning map c.deref_mut.result.now.parts c.put.new.self ns c.in_ok-part-in-Each.part c.put.ensures
+    ∙ ap (with_namespace (parts_in g.K.Kept.meaning map c.deref_mut.result.now.parts) ns) c.in_ok-part-in-Each.ensures
+    ∙ ap (λ e. with_namespace (parts_in g.K.Kept.meaning map e.parts) ns b) c.deref_mut.ensures.value
+    ∙ ap (λ s. with_namespace (stands_for g.K.Kept.meaning map s) ns b) (sym c.in-Each.is)

@@ -1,21 +1,20 @@
-use Rattle.std.proofs.Common.{Some, None, cond, ap, sym, ◌∙◌}
-use Rattle.def_bindings.specs.Content.{is_namespace}
-use Rattle.numbered_table.specs.BoundName.{beside}
-use Rattle.numbered_table.proofs.BoundNameLemmas.{stands-beside, stands-promoted, stands-without}
+use Rattle.std.proofs.Common.{None, ap, sym, ◌∙◌}
+use Rattle.numbered_table.specs.declared.part.Part.TheVariants.{Vacant}
+use Rattle.numbered_table.specs.BoundName.{stands_for, with_namespace}
+use Rattle.numbered_table.specs.Parts.{is_alone, parts_in}
+use Rattle.numbered_table.proofs.PartsLemmas.{parts-put, some-left}
 use Rattle.numbered_table.proofs.bound_name.BoundName.take.Goals as goal
 
-pub returns-then-not-is_same-clause-left : goal.returns-then-not-is_same-clause-left
-returns-then-not-is_same-clause-left g c = λ h.
-    let s = c.args.self.now in
-    ap (λ f k. cond (is_namespace s.ns k) (Some s.binding) (f k)) c.take_beside-left.ensures.left ∙ stands-beside s.ns (Some s.binding) (beside s.others) c.args.ns None (sym c.is_same.ensures ∙ c.if-not-is_same.true)
+pub invariant_of-deref_mut : goal.invariant_of-deref_mut
+invariant_of-deref_mut g c =
+    record {
+      some = some-left c.deref_mut.result.now.parts c.put.new.self c.args.ns Vacant c.put.ensures
+          (sym (c.is_alone.ensures ∙ ap (λ e. is_alone e.parts c.args.ns) (c.deref.ensures ∙ sym c.deref_mut.ensures.value)) ∙ c.if-is_alone.false);
+    }
 
-pub returns-in-Some-clause-left : goal.returns-in-Some-clause-left
-returns-in-Some-clause-left g c = λ h.
-    let s = c.args.self.now in
-    stands-promoted c.in-Some.first (Some c.in-Some.binding) (beside c.take_beside-left.new.others) (sym (ap (λ f. f c.in-Some.first) c.take_beside-left.ensures.result) ∙ c.in-Some.ensures.some)
-    ∙ c.take_beside-left.ensures.left ∙ sym (stands-without s.ns (Some s.binding) (beside s.others) c.args.ns (sym c.is_same.ensures ∙ c.if-not-is_same.false))
-
-pub returns-in-None-clause-none : goal.returns-in-None-clause-none
-returns-in-None-clause-none g c = λ h.
-    let s = c.args.self.now in
-    stands-without s.ns (Some s.binding) (beside s.others) c.args.ns (sym c.is_same.ensures ∙ c.if-not-is_same.false) ∙ sym c.take_beside-left.ensures.left ∙ sym c.take_beside-left.ensures.result ∙ c.in-None.ensures.none
+pub returns-else-is_alone-clause-left : goal.returns-else-is_alone-clause-left
+returns-else-is_alone-clause-left g c = λ h.
+    let map = c.args.map in
+    parts-put g.K.Kept.meaning map c.deref_mut.result.now.parts c.put.new.self c.args.ns Vacant c.put.ensures
+    ∙ ap (λ e. with_namespace (parts_in g.K.Kept.meaning map e.parts) c.args.ns None) c.deref_mut.ensures.value
+    ∙ ap (λ s. with_namespace (stands_for g.K.Kept.meaning map s) c.args.ns None) (sym c.in-Each.is)

@@ -9,20 +9,27 @@ pub returns-then-not-is_empty : goal.returns-then-not-is_empty
 unfolding content_of
 returns-then-not-is_empty g c =
     let t = c.args.self.now in
-    (search rules, λ h. let there = c.is_empty.ensures.1 (ap length (empty_parts t h).0) in cc)
+    (search rules, λ h. let there = c.is_empty.ensures.1 (ap length (empty_parts g.K.Kept.meaning t h).0) in cc)
 
 pub returns-then-not-is_empty-2 : goal.returns-then-not-is_empty-2
 unfolding content_of
 returns-then-not-is_empty-2 g c =
     let t = c.args.self.now in
-    (search rules, λ h. let there = c.is_empty-2.ensures.1 (empty_parts t h).1 in cc)
+    (search rules, λ h. let there = c.is_empty-2.ensures.1 (ap length (empty_parts g.K.Kept.meaning t h).1) in cc)
+
+pub returns-then-not-is_empty-3 : goal.returns-then-not-is_empty-3
+unfolding content_of
+returns-then-not-is_empty-3 g c =
+    let t = c.args.self.now in
+    (search rules, λ h. let there = c.is_empty-3.ensures.1 (empty_parts g.K.Kept.meaning t h).2 in cc)
 
 pub returns : goal.returns
 unfolding content_of
 returns g c =
     let t = c.args.self.now in
-    let places : IsTrue c.is_empty.result = cc in
-    let unnamed : IsTrue c.is_empty-2.result = cc in (
-      λ h. empty_whole t (nil_from_length t.bound.entries (c.is_empty.ensures.0 places)) (c.is_empty-2.ensures.0 unnamed) (c.is_empty-3.ensures.0 h),
-      λ h. c.is_empty-3.ensures.1 (empty_parts t h).2,
+    let own : IsTrue c.is_empty.result = cc in
+    let others : IsTrue c.is_empty-2.result = cc in
+    let unnamed : IsTrue c.is_empty-3.result = cc in (
+      λ h. empty_whole g.K.Kept.meaning t (nil_from_length t.own.entries (c.is_empty.ensures.0 own)) (nil_from_length t.others.entries (c.is_empty-2.ensures.0 others)) (c.is_empty-3.ensures.0 unnamed) (c.is_empty-4.ensures.0 h),
+      λ h. c.is_empty-4.ensures.1 (empty_parts g.K.Kept.meaning t h).3,
     )

@@ -7,17 +7,17 @@ use Rattle.numbered_table.proofs.numbered_table.NumberedTableBindingTable.bind.G
 pub returns-in-Named-clause-done : goal.returns-in-Named-clause-done
 unfolding content_of
 returns-in-Named-clause-done g c =
-    let before = content_of c.args.self.now in
-    let after = content_of c.bind_name.new.self in
+    let before = content_of g.K.Kept.meaning c.args.self.now in
+    let after = content_of g.K.Kept.meaning c.put.new.self in
     let m = c.args.module in
     let b = c.args.binding.now in
-    subst (λ slot. IfOk c.bind_name.result (λ vacant. (vacant ≡ is_none (held before m slot)) × (after ≡ written before m slot (if_vacant vacant b)))) (sym c.in-Named.is) c.bind_name.ensures.done
+    subst (λ slot. IfOk c.put.result (λ vacant. (vacant ≡ is_none (held before m slot)) × (after ≡ written before m slot (if_vacant vacant b)))) (sym c.in-Named.is) c.put.ensures.done
 
 pub returns-in_ok-set_unnamed-in-None-clause-done : goal.returns-in_ok-set_unnamed-in-None-clause-done
 unfolding content_of
 returns-in_ok-set_unnamed-in-None-clause-done g c =
-    let before = content_of c.args.self.now in
-    let after = content_of c.set_unnamed.new.self in
+    let before = content_of g.K.Kept.meaning c.args.self.now in
+    let after = content_of g.K.Kept.meaning c.set_unnamed.new.self in
     let m = c.args.module in
     let b = c.args.binding.now in
     subst (λ slot. (true ≡ is_none (held before m slot)) × (after ≡ written before m slot (Some b))) (sym c.in-Unnamed.is)

@@ -1,8 +1,10 @@
-use Rattle.std.proofs.Common.{refl}
-use Rattle.numbered_table.proofs.NumberedTableLemmas.{bindings-same, tied-same}
+use Rattle.numbered_table.proofs.NumberedTableLemmas.{listed-same}
 use Rattle.numbered_table.specs.NumberedTable.{content_of}
+use Rattle.numbered_table.specs.Places.{name_of}
 use Rattle.numbered_table.proofs.numbered_table.NumberedTableBindingTable.expect_names.Goals as goal
 
 pub invariant_of-self : goal.invariant_of-self
 unfolding content_of
-invariant_of-self g c = record { tied = tied-same _ _ _ _ (bindings-same c.args.self.now.bound c.args.self.now.bound refl) c.expect.ensures c.args.self.now.tied }
+invariant_of-self g c =
+    let t = c.args.self.now in
+    record { apart = t.apart; listed = listed-same (name_of t.map t.own t.others) _ _ c.expect.ensures t.listed }

@@ -1,35 +1,39 @@
+use Rattle.std.proofs.Common.{rules}
 use Rattle.numbered_table.specs.Lists.{lists_of}
-use Rattle.def_bindings.specs.Content.{without_name}
 use Rattle.numbered_table.specs.NumberedTable.{content_of}
-use Rattle.numbered_table.proofs.NumberedTableLemmas.{content-parts, numbered-left, kept_names, left_names}
+use Rattle.numbered_table.proofs.NumberedTableLemmas.{strangers-kept, taken-own, taken-other}
 use Rattle.numbered_table.proofs.numbered_table.NumberedTableBindingTable.remove.Goals as goal
 
 pub invariant_of-self : goal.invariant_of-self
 unfolding content_of
 invariant_of-self g c =
-    let l = lists_of c.args.self.now.names in
-    let left = left_names l (lists_of c.remove.new.self) c.args.module (without_name (l c.args.module) c.args.name) c.take_out.result c.if-not-take_out.true c.remove.ensures in
-    record { tied = (numbered-left _ _ l c.args.self.now.tied c.args.module c.args.name c.args.ns (lists_of c.remove.new.self) c.take_out.result c.take_out.ensures.bindings c.take_out.ensures.stays left).1 }
+    let t = c.args.self.now in
+    let e = c.remove_at.ensures in
+    record {
+      apart = t.apart;
+      listed = (taken-own g.K.Kept.meaning t.map t.own c.remove_at.new.bound t.others c.args.module c.args.name c.args.ns (lists_of t.names) (lists_of c.remove_at.new.names) t.listed (search rules) e.others (content_of g.K.Kept.meaning t) e.left e.names).1;
+    }
 
-pub invariant_of-self-else-not-take_out : goal.invariant_of-self-else-not-take_out
+pub returns-then-eq : goal.returns-then-eq
 unfolding content_of
-invariant_of-self-else-not-take_out g c =
-    let l = lists_of c.args.self.now.names in
-    let kept = kept_names l c.args.module (without_name (l c.args.module) c.args.name) c.take_out.result c.if-not-take_out.false in
-    record { tied = (numbered-left _ _ l c.args.self.now.tied c.args.module c.args.name c.args.ns l c.take_out.result c.take_out.ensures.bindings c.take_out.ensures.stays kept).1 }
+returns-then-eq g c =
+    let t = c.args.self.now in
+    let e = c.remove_at.ensures in
+    (taken-own g.K.Kept.meaning t.map t.own c.remove_at.new.bound t.others c.args.module c.args.name c.args.ns (lists_of t.names) (lists_of c.remove_at.new.names) t.listed (search rules) e.others (content_of g.K.Kept.meaning t) e.left e.names).0
 
-pub returns-then-not-take_out : goal.returns-then-not-take_out
+pub invariant_of-self-else-eq : goal.invariant_of-self-else-eq
 unfolding content_of
-returns-then-not-take_out g c =
-    let l = lists_of c.args.self.now.names in
-    let left = left_names l (lists_of c.remove.new.self) c.args.module (without_name (l c.args.module) c.args.name) c.take_out.result c.if-not-take_out.true c.remove.ensures in
-    content-parts (content_of c.args.self.now) _ _ _ _ c.take_out.ensures.bindings
-    (numbered-left _ _ l c.args.self.now.tied c.args.module c.args.name c.args.ns (lists_of c.remove.new.self) c.take_out.result c.take_out.ensures.bindings c.take_out.ensures.stays left).0
+invariant_of-self-else-eq g c =
+    let t = c.args.self.now in
+    let e = c.remove_at-else-eq.ensures in
+    record {
+      apart = strangers-kept t.map t.others c.remove_at-else-eq.new.bound c.args.module c.args.name t.apart (search rules) e.others;
+      listed = (taken-other g.K.Kept.meaning t.map t.own t.others c.remove_at-else-eq.new.bound c.args.module c.args.name c.args.ns (lists_of t.names) (lists_of c.remove_at-else-eq.new.names) t.listed (search rules) e.others (content_of g.K.Kept.meaning t) e.left e.names).1;
+    }
 
-pub returns-else-not-take_out : goal.returns-else-not-take_out
+pub returns-else-eq : goal.returns-else-eq
 unfolding content_of
-returns-else-not-take_out g c =
-    let l = lists_of c.args.self.now.names in
-    let kept = kept_names l c.args.module (without_name (l c.args.module) c.args.name) c.take_out.result c.if-not-take_out.false in
-    content-parts (content_of c.args.self.now) _ _ _ _ c.take_out.ensures.bindings
-    (numbered-left _ _ l c.args.self.now.tied c.args.module c.args.name c.args.ns l c.take_out.result c.take_out.ensures.bindings c.take_out.ensures.stays kept).0
+returns-else-eq g c =
+    let t = c.args.self.now in
+    let e = c.remove_at-else-eq.ensures in
+    (taken-other g.K.Kept.meaning t.map t.own t.others c.remove_at-else-eq.new.bound c.args.module c.args.name c.args.ns (lists_of t.names) (lists_of c.remove_at-else-eq.new.names) t.listed (search rules) e.others (content_of g.K.Kept.meaning t) e.left e.names).0

@@ -5,8 +5,8 @@ use Rattle.numbered_table.proofs.numbered_table.NumberedTableBindingTable.set_un
 
 pub returns-clause-done : goal.returns-clause-done
 unfolding content_of
-returns-clause-done g c = OnOk_then c.set.result c.set.ensures.done (λ set. content-unnamed (content_of c.args.self.now) _ _ set)
+returns-clause-done g c = OnOk_then c.set.result c.set.ensures.done (λ set. content-unnamed (content_of g.K.Kept.meaning c.args.self.now) _ _ set)
 
 pub returns-clause-refused : goal.returns-clause-refused
 unfolding content_of
-returns-clause-refused g c = OnErr_then c.set.result c.set.ensures.refused (λ same. content-unnamed (content_of c.args.self.now) _ _ same)
+returns-clause-refused g c = OnErr_then c.set.result c.set.ensures.refused (λ same. content-unnamed (content_of g.K.Kept.meaning c.args.self.now) _ _ same)

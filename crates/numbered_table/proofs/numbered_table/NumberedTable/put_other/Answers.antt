@@ -1,0 +1,31 @@
+use Rattle.numbered_table.specs.Lists.{lists_of}
+use Rattle.numbered_table.specs.NumberedTable.{content_of}
+use Rattle.numbered_table.proofs.NumberedTableLemmas.{put-other, strangers-kept}
+use Rattle.numbered_table.proofs.numbered_table.NumberedTable.put_other.Goals as goal
+
+pub invariant_of-self : goal.invariant_of-self
+unfolding content_of
+invariant_of-self g c =
+    let t = c.args.self.now in
+    let p = c.args.put in
+    let e = c.put_at.ensures in
+    record {
+      apart = strangers-kept t.map t.others c.put_at.new.bound p.at p.name t.apart c.requires e.others;
+      listed = (put-other g.K.Kept.meaning t.map t.own t.others c.put_at.new.bound p.at p.name p.ns (lists_of t.names) (lists_of c.put_at.new.names) t.listed c.requires e.others (content_of g.K.Kept.meaning t) c.args.binding.now p.over c.put_at.result e.wrote e.done e.names e.refused).2;
+    }
+
+pub returns-clause-done : goal.returns-clause-done
+unfolding content_of
+returns-clause-done g c =
+    let t = c.args.self.now in
+    let p = c.args.put in
+    let e = c.put_at.ensures in
+    (put-other g.K.Kept.meaning t.map t.own t.others c.put_at.new.bound p.at p.name p.ns (lists_of t.names) (lists_of c.put_at.new.names) t.listed c.requires e.others (content_of g.K.Kept.meaning t) c.args.binding.now p.over c.put_at.result e.wrote e.done e.names e.refused).0
+
+pub returns-clause-refused : goal.returns-clause-refused
+unfolding content_of
+returns-clause-refused g c =
+    let t = c.args.self.now in
+    let p = c.args.put in
+    let e = c.put_at.ensures in
+    (put-other g.K.Kept.meaning t.map t.own t.others c.put_at.new.bound p.at p.name p.ns (lists_of t.names) (lists_of c.put_at.new.names) t.listed c.requires e.others (content_of g.K.Kept.meaning t) c.args.binding.now p.over c.put_at.result e.wrote e.done e.names e.refused).1
