@@ -5,8 +5,6 @@ use Rattle.def_ids.specs.Ids.{module_of_def}
 use Rattle.def_bindings.specs.declared.bindings.Namespace.{Namespace}
 use Rattle.def_bindings.specs.declared.bindings.Namespace.TheVariants.{Types, Values, Macros}
 use Rattle.def_bindings.specs.declared.bindings.Binding.{Binding}
-use Rattle.def_bindings.specs.declared.name_bindings.LoneBinding.{LoneBinding}
-use Rattle.def_bindings.specs.declared.name_bindings.LoneBinding.TheVariants.{Nothing, Lone, Unsaid}
 use Rattle.def_bindings.specs.declared.name_bindings.NameBindings.{NameBindings}
 
 -- no bindings
@@ -24,12 +22,6 @@ abbrev pub with_bound : {V : Type 0} → NameBindings V → Namespace → Option
 with_bound s Types b = record s { types = b }
 with_bound s Values b = record s { values = b }
 with_bound s Macros b = record s { macros = b }
-
--- the bindings that are said in short, if anything is said of them
-abbrev pub said : {V : Type 0} → LoneBinding V → Option (NameBindings V)
-said Nothing = Some unbound
-said (Lone ns b) = Some (with_bound unbound ns (Some b))
-said Unsaid = None
 
 -- whether there is no binding in any namespace
 abbrev pub is_unbound : {V : Type 0} → NameBindings V → Bool

@@ -1,20 +1,20 @@
 //! Tables of bindings.
-ghost use Rattle.std.specs.Prelude.{◌≡◌, ◌<◌, ◌^◌, List, is_none, length, option_map, slice_get, IfOk, IfSome, OnOk, OnErr};
+ghost use Rattle.std.specs.Prelude.{◌≡◌, ◌<◌, ◌^◌, List, is_none, length, option_map, slice_get, IfOk, OnOk, OnErr};
 ghost use Rattle.def_ids.specs.declared.ids.ModuleId.{ModuleId};
 ghost use Rattle.def_bindings.specs.Content.{Content, with_binding, without_binding, with_unnamed, with_edge, vis_of, AreSources, AreTied};
-ghost use Rattle.def_bindings.specs.NameBindings.{bound_in, module_bound, said};
+ghost use Rattle.def_bindings.specs.NameBindings.{bound_in, module_bound};
 ghost use Rattle.def_bindings.specs.declared.bindings.Namespace.TheVariants.{Types};
 ghost use Rattle.def_bindings.specs.Puts.{edge_to, held, if_vacant, written};
 
 use crate::bindings::{Binding, EdgeTo, Namespace, Slot};
-use crate::name_bindings::{LoneBinding, NameBindings};
+use crate::name_bindings::NameBindings;
 use def_ids::{ModuleId, TraitId};
 use std::alloc::AllocError;
 use tree_ids::Name;
 
 /// Bindings, names, unnamed traits and glob edges by module, however they are kept. What is read is
 /// copied. A table that finds all bindings of a name, an unnamed trait or an edge by one look-up, or
-/// that binds where it has looked, has bodies of its own for `visibility`, `bindings`, `lone`, `module_at`,
+/// that binds where it has looked, has bodies of its own for `visibility_near`, `bindings`, `module_at`,
 /// `unnamed_vis`, `edge_to` and `bind`, and one that grows its lists for `expect_names`.
 pub trait BindingTable {
     type Vis: Copy;
@@ -27,8 +27,16 @@ pub trait BindingTable {
     fn binding(&self, module: ModuleId, name: Name, ns: Namespace) -> Option<Binding<Self::Vis>>
         ensures { result ≡ (content self.now).binding «module» name ns };
 
-    /// The visibility of what a name stands for in a namespace.
-    fn visibility(&self, module: ModuleId, name: Name, ns: Namespace) -> Option<Self::Vis>
+    /// The visibility of what a name stands for in a namespace. Names that are read in the order in which
+    /// they were bound may be found faster: `near` begins with 0, and says from name to name where a table
+    /// looks first. A table may ignore it.
+    fn visibility_near(
+        &self,
+        module: ModuleId,
+        name: Name,
+        ns: Namespace,
+        _near: &mut usize,
+    ) -> Option<Self::Vis>
         ensures { result ≡ option_map (λ b. b.vis) ((content self.now).binding «module» name ns) }
     {
         match self.binding(module, name, ns) {
@@ -46,14 +54,6 @@ pub trait BindingTable {
             values: self.binding(module, name, Namespace::Values),
             macros: self.binding(module, name, Namespace::Macros),
         }
-    }
-
-    /// What a name stands for, in short where it can be said: in no namespace, or in one alone. A table
-    /// may say nothing of any name.
-    fn lone(&self, module: ModuleId, name: Name) -> LoneBinding<Self::Vis>
-        ensures { IfSome (said result) (λ all. (content self.now).binding «module» name ≡ bound_in all) }
-    {
-        LoneBinding::Unsaid
     }
 
     /// The module that a name is bound to in types, if it is bound to one.

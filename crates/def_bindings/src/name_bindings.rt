@@ -12,17 +12,6 @@ pub struct NameBindings<V> {
     pub macros: Option<Binding<V>>,
 }
 
-/// What is said in short of the bindings of one name. Most names have one binding, or none.
-#[derive(Clone, Copy)]
-pub enum LoneBinding<V> {
-    /// There is none.
-    Nothing,
-    /// There is one, in this namespace.
-    Lone(Namespace, Binding<V>),
-    /// Nothing is said of them.
-    Unsaid,
-}
-
 impl<V: Copy> NameBindings<V> {
     /// No bindings.
     pub fn unbound() -> Self

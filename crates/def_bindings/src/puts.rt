@@ -91,11 +91,16 @@ pub fn held_at<T: BindingTable>(table: &T, module: ModuleId, slot: Slot) -> Opti
 
 /// The visibility of what a module binds at a slot.
 #[inline(always)]
-fn vis_at<T: BindingTable>(table: &T, module: ModuleId, slot: Slot) -> Option<T::Vis>
+fn vis_at<T: BindingTable>(
+    table: &T,
+    module: ModuleId,
+    slot: Slot,
+    near: &mut usize,
+) -> Option<T::Vis>
     ensures { result ≡ option_map (λ b. b.vis) (held (T.content table.now) «module» slot) }
 {
     match slot {
-        Slot::Named(name, ns) => table.visibility(module, name, ns),
+        Slot::Named(name, ns) => table.visibility_near(module, name, ns, near),
         Slot::Unnamed(item) => table.unnamed_vis(module, item),
     }
 }
@@ -197,6 +202,7 @@ pub fn copy_along<T: BindingTable, O: VisOrder<Vis = T::Vis>>(
     source: ModuleId,
     edge: EdgeTo<T::Vis>,
     slot: Slot,
+    near: &mut usize,
 ) -> Result<bool, AllocError>
     ensures done { IfOk result (λ changed. let c = T.content table.old in
         let o = O.order order.now in
@@ -205,7 +211,7 @@ pub fn copy_along<T: BindingTable, O: VisOrder<Vis = T::Vis>>(
     ensures refused { OnErr result (T.content table.new ≡ T.content table.old) }
 {
     // Most of what is bound is seen by no importer, and then its visibility alone is read.
-    let Some(vis) = vis_at(table, source, slot) else {
+    let Some(vis) = vis_at(table, source, slot, near) else {
         return Ok(false);
     };
     if !order.visible(vis, edge.importer) {

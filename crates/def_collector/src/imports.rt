@@ -14,8 +14,7 @@ ghost use Rattle.def_laws.specs.Runs.{Leads};
 
 use crate::collector::DefCollector;
 use crate::globs::record_glob;
-use def_bindings::LoneBinding;
-use def_imports::{ImportAt, record_named, resolve_import, resolve_import_in_short};
+use def_imports::{Glance, ImportAt, glance_at, record_named, resolve_import};
 use def_interner::Interner;
 use def_map::{PathAnswer, SourceDatabase};
 use def_steps::{
@@ -106,13 +105,13 @@ pub fn try_import<'a, D: SourceDatabase>(
     let Some(directive) = entries(collector, import.list)[import.index] else {
         return Ok(false);
     };
-    match &resolve_import_in_short(&collector.world(db, session), &directive.import) {
-        LoneBinding::Nothing => Ok(false),
-        LoneBinding::Lone(ns, item) => {
+    match &glance_at(&collector.world(db, session), &directive) {
+        Glance::Unready => Ok(false),
+        Glance::Lone(ns, item) => {
             let answer = PathAnswer::Lone(*ns, item);
             record_ready(collector, db, session, import, &directive, &answer)
         }
-        LoneBinding::Unsaid => try_whole(collector, db, session, import, &directive),
+        Glance::Unseen => try_whole(collector, db, session, import, &directive),
     }
 }
 

@@ -1,2 +1,3 @@
 pub mod GlobLemmas
+pub mod GlanceLemmas
 pub mod TurnsLemmas

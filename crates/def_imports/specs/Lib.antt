@@ -1,4 +1,5 @@
 pub mod GlobEntries
+pub mod Glances
 pub mod Sweeps
 pub mod Turns
 pub mod Room

@@ -1,40 +1,70 @@
 //! Imports: what the path of one gives, and what a named one puts.
-ghost use Rattle.std.specs.Prelude.{◌≡◌, IfSome, None, OnOk, false};
-ghost use Rattle.def_steps.specs.Shown.{import_of};
+ghost use Rattle.std.specs.Prelude.{◌≡◌, OnOk};
+ghost use Rattle.def_steps.specs.Shown.{import_of, ns_set};
+ghost use Rattle.def_imports.specs.Glances.{Shows};
 ghost use Rattle.def_items.specs.Parts.{with_parts};
 ghost use Rattle.def_laws.specs.Performs.{Updated};
 ghost use Rattle.def_map.specs.Asking.{world_lent};
-ghost use Rattle.def_map.specs.Answers.{reached};
 ghost use Rattle.def_map.specs.PathAnswer.{whole};
-ghost use Rattle.def_map.specs.PerNs.{said_in_short};
 ghost use Rattle.def_map.specs.Paths.{for_import, resolve};
 ghost use Rattle.def_sources.specs.Tables.{bound_by};
 ghost use Rattle.def_rules.specs.Imports.{bound_name, named_entries};
 ghost use Rattle.def_rules.specs.State.{State, order};
 
-use def_bindings::{LoneBinding, Visibility};
+use def_bindings::{Namespace, Visibility};
 use def_globs::Globs;
 use def_items::put;
 use def_map::{
-    Asked, MapData, PathAnswer, ResolvePathResult, SourceDatabase, Table, World,
-    resolve_path_fp_with_macro, resolve_path_in_short,
+    Asked, Item, MapData, PathAnswer, ResolvePathResult, SourceDatabase, Table, World,
+    resolve_path_fp_with_macro, resolve_path_scope,
 };
-use def_steps::{Import, lone_entry, named_entries};
+use def_steps::{Import, ImportDirective, NamespaceSet, lone_entry, named_entries};
 use std::alloc::{AllocError, Global};
 
-/// What the path of an import gives in this world, in short where it can be said: nothing, or one item
-/// in one namespace.
+/// What is seen at once of what an import gives.
+#[derive(Clone, Copy)]
+pub enum Glance {
+    /// It is not ready: it gives nothing, or nothing in a namespace that it was not recorded from.
+    Unready,
+    /// It gives one item, in this namespace.
+    Lone(Namespace, Item),
+    /// Nothing is seen at once.
+    Unseen,
+}
+
+/// What is seen at once of what an import gives in this world. Most paths lead through modules of
+/// their crate to a name that stands in one namespace alone, and most imports that were recorded give
+/// nothing more: of those the namespace is read, and nothing else.
 #[inline(always)]
-pub fn resolve_import_in_short<D: SourceDatabase>(
+pub fn glance_at<D: SourceDatabase>(
     world: &World<'_, D, Table>,
-    import: &Import,
-) -> LoneBinding<Visibility>
-    ensures { IfSome (said_in_short result) (λ found.
-        resolve (world_lent D.oracle bound_by world.now) for_import import.now.module_id import.now.written.now.path
-        ≡ reached found None false) }
+    directive: &ImportDirective,
+) -> Glance
+    ensures { let import = directive.now.import in
+        Shows (ns_set directive.now.recorded)
+        (resolve (world_lent D.oracle bound_by world.now) for_import import.module_id import.written.now.path)
+        result }
 {
+    let import = &directive.import;
     let path = &import.written.path;
-    resolve_path_in_short(world, Asked::for_import(), import.module_id, path)
+    let asked = Asked::for_import();
+    let Some((module, name)) = resolve_path_scope(world, asked, import.module_id, path) else {
+        return Glance::Unseen;
+    };
+    let Some(found) = world.table.found(module, name) else {
+        return Glance::Unready;
+    };
+    let given = NamespaceSet::found(&found);
+    if !directive.recorded.is_extended_by(given) {
+        return Glance::Unready;
+    }
+    let Some(ns) = found.lone_ns() else {
+        return Glance::Unseen;
+    };
+    match found.binding(ns) {
+        Some(item) => Glance::Lone(ns, item),
+        None => Glance::Unseen,
+    }
 }
 
 /// What the path of an import gives in this world.

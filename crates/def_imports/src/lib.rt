@@ -16,7 +16,7 @@ mod watchers;
 
 pub use coming::Turns;
 pub use globs::{glob_entries, put_glob};
-pub use imports::{record_named, resolve_import, resolve_import_in_short};
+pub use imports::{Glance, glance_at, record_named, resolve_import};
 pub use prelude::prelude_module;
 pub use room::Room;
 pub use turns::ImportAt;

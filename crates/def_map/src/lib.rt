@@ -19,7 +19,7 @@ pub use def_modules::{
 pub use item_scope::{ItemScope, Resolutions, UnnamedTraits};
 pub use macro_resolver::MacroResolver;
 pub use path_resolution::{
-    ResolvePaths, finished_map, resolve_module, resolve_path_fp_with_macro, resolve_path_in_short,
+    ResolvePaths, finished_map, resolve_module, resolve_path_fp_with_macro, resolve_path_scope,
     resolve_visibility,
 };
 pub use source_database::SourceDatabase;
@@ -30,14 +30,14 @@ pub use def_oracle::{
     CrateData, Dependency, DeriveCallQuery, EnumVariant, LangCrate, UnresolvedMacro,
 };
 pub use def_paths::{
-    Asked, BuiltinShadowMode, Item, MacroSubNs, PathAnswer, PerNs, PrefixInfo, ReachedFixedPoint,
-    ResolveMode, ResolvePathResult, Table, World, is_map_among, public_item,
+    Asked, BuiltinShadowMode, FoundName, Item, MacroSubNs, PathAnswer, PerNs, PrefixInfo,
+    ReachedFixedPoint, ResolveMode, ResolvePathResult, Table, World, is_map_among, public_item,
 };
 
 // The ids, visibilities and bindings that maps are made of.
 pub use def_bindings::{
-    Binding, BindingTable, EdgeTo, Entry, ImportOrExternCrate, LoneBinding, ModuleTree,
-    NameBindings, Namespace, Slot, VisOrder, Visibility,
+    Binding, BindingTable, EdgeTo, Entry, ImportOrExternCrate, ModuleTree, NameBindings, Namespace,
+    Slot, VisOrder, Visibility,
 };
 pub use def_ids::{
     Adt, BuiltinDeriveImplId, ConstId, Def, Edition, EnumId, ExternBlockId, ExternCrateId,
@@ -50,5 +50,5 @@ pub use def_locs::{
     ExternCrateLoc, FunctionLoc, ImplLoc, Macro2Loc, MacroExpander, MacroRulesLoc, ProcMacroLoc,
     ProcMacroUse, StaticLoc, StructLoc, TraitLoc, TypeAliasLoc, UnionLoc, UseLoc,
 };
-pub use numbered_table::{Kept, NumberedTable, VisNumber};
+pub use numbered_table::{Found, Kept, NumberedTable, VisNumber};
 pub use scope_table::ScopeTable;

@@ -7,13 +7,13 @@ ghost use Rattle.def_sources.specs.declared.asked.ResolveMode.TheVariants.{Other
 ghost use Rattle.def_sources.specs.Asking.{map_with, world_lent};
 ghost use Rattle.def_sources.specs.Modes.{asked_by};
 ghost use Rattle.def_paths.specs.Answers.{reached};
-ghost use Rattle.def_sources.specs.PerNs.{said_in_short};
+ghost use Rattle.def_sources.specs.PerNs.{per_namespace};
 ghost use Rattle.def_paths.specs.Paths.{for_module, module_found, resolve, resolve_visibility as visibility_of};
 ghost use Rattle.def_sources.specs.Sources.{world_of, finished_map as finished_map_of};
 
 use crate::def_map::DefMap;
 use crate::source_database::SourceDatabase;
-use def_bindings::{BindingTable, LoneBinding, Visibility};
+use def_bindings::{BindingTable, Visibility};
 use def_ids::{MapId, ModuleId};
 use def_interner::Interner;
 use def_locs::EnumLoc;
@@ -21,9 +21,8 @@ use def_modules::{LocalDefMap, MapData};
 use def_oracle::EnumVariant;
 use def_paths::{
     Asked, BuiltinShadowMode, MacroSubNs, PathDatabase, PerNs, ResolveMode, ResolvePathResult,
-    Table, World, resolve_path_scope,
+    Table, World,
 };
-use def_sources::bound_in_short;
 use item_tree::{ModPath, Name, RawVisibility};
 
 /// The finished map of a block or a crate.
@@ -86,30 +85,27 @@ pub fn resolve_path_fp_with_macro<D: SourceDatabase, T: BindingTable<Vis = Visib
     def_paths::resolve_path_fp_with_macro(&world, asked, original_module, path)
 }
 
-/// What a path means, asked from a module, in short where it can be said: nothing, or one item in one
-/// namespace, and then it leads through modules of its crate.
+/// Where the map that is asked has all that a path means, asked from a module: a module of it, and a
+/// name there. So it is where the path leads through modules of its crate; else it may be `None`.
 #[inline(always)]
-pub fn resolve_path_in_short<D: SourceDatabase, T: BindingTable<Vis = Visibility>>(
+pub fn resolve_path_scope<D: SourceDatabase, T: BindingTable<Vis = Visibility>>(
     world: &World<'_, D, T>,
     asked: Asked,
     original_module: ModuleId,
     path: &ModPath,
-) -> LoneBinding<Visibility>
-    ensures { IfSome (said_in_short result) (λ found.
-        resolve (world_lent D.oracle T.content world.now) asked original_module path.now ≡ reached found None false) }
+) -> Option<(ModuleId, Name)>
+    ensures { IfSome result (λ there. resolve (world_lent D.oracle T.content world.now) asked original_module path.now
+        ≡ reached (per_namespace ((T.content world.now.table.now).binding there.0 there.1)) None false) }
 {
     let db = AskedByPaths { db: world.db };
-    let asked_by_paths = World {
+    let world = World {
         map: world.map,
         table: world.table,
         local: world.local,
         db: &db,
         session: world.session,
     };
-    match resolve_path_scope(&asked_by_paths, asked, original_module, path) {
-        Some((module, name)) => bound_in_short(world.table, module, name),
-        None => LoneBinding::Unsaid,
-    }
+    def_paths::resolve_path_scope(&world, asked, original_module, path)
 }
 
 /// The module that a path gives, with no segment left.

@@ -8,8 +8,8 @@ mod short;
 
 pub use answers::is_map_among;
 pub use def_sources::{
-    Asked, BuiltinShadowMode, Item, MacroSubNs, PathDatabase, PerNs, ResolveMode, Table, World,
-    bound, public_item,
+    Asked, BuiltinShadowMode, FoundName, Item, MacroSubNs, PathDatabase, PerNs, ResolveMode, Table,
+    World, bound, public_item,
 };
 pub use path_resolution::{
     resolve_module, resolve_path_fp_with_macro, resolve_path_scope, resolve_visibility,

@@ -49,6 +49,7 @@ fn scope_reached<D: PathDatabase, T: BindingTable<Vis = Visibility>>(
 
 /// Where the last segment of a plain path is looked up, and that segment, if the others lead there
 /// through modules of this crate.
+#[inline(never)]
 fn plain_scope<D: PathDatabase, T: BindingTable<Vis = Visibility>>(
     asking: &Asking<'_, D, T>,
     place: ModuleId,

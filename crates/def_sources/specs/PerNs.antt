@@ -4,8 +4,6 @@ use Rattle.std.specs.Option.{option_or}
 use Rattle.def_bindings.specs.declared.bindings.Binding.{Binding}
 use Rattle.def_bindings.specs.declared.bindings.Namespace.{Namespace}
 use Rattle.def_bindings.specs.declared.bindings.Namespace.TheVariants.{Types, Values, Macros}
-use Rattle.def_bindings.specs.declared.name_bindings.LoneBinding.{LoneBinding}
-use Rattle.def_bindings.specs.declared.name_bindings.LoneBinding.TheVariants.{Nothing, Lone, Unsaid}
 use Rattle.def_bindings.specs.declared.visibility.Visibility.{Visibility}
 use Rattle.def_sources.specs.declared.per_ns.PerNs.{PerNs}
 
@@ -30,12 +28,6 @@ abbrev pub alone : Namespace → Item → PerNs
 alone Types item = record { types = Some item; values = None; macros = None }
 alone Values item = record { types = None; values = Some item; macros = None }
 alone Macros item = record { types = None; values = None; macros = Some item }
-
--- what is said in short of a name, if anything is said of it
-abbrev pub said_in_short : LoneBinding Visibility → Option PerNs
-said_in_short Nothing = Some nothing
-said_in_short (Lone ns item) = Some (alone ns item)
-said_in_short Unsaid = None
 
 -- in each namespace the first, and else the second
 abbrev pub otherwise : PerNs → PerNs → PerNs

@@ -13,8 +13,6 @@ pub use asked::{Asked, BuiltinShadowMode, ResolveMode};
 pub use path_database::PathDatabase;
 pub use per_ns::{Item, MacroSubNs, PerNs, public_item};
 pub use prefixes::{absolute_type, relative_type};
-pub use sources::{
-    Segment, absolute, bound, bound_in_short, relative, scope, scope_module, scope_type,
-};
-pub use table::Table;
+pub use sources::{Segment, absolute, bound, relative, scope, scope_module, scope_type};
+pub use table::{FoundName, Table};
 pub use world::{Asking, World};

@@ -5,7 +5,7 @@ ghost use Rattle.def_bindings.specs.declared.bindings.Namespace.TheVariants.{Typ
 ghost use Rattle.def_bindings.specs.NameBindings.{module_bound};
 ghost use Rattle.def_sources.specs.Items.{is_fitting, is_2015 as is_edition_2015};
 ghost use Rattle.def_sources.specs.Asking.{question_in, map_in};
-ghost use Rattle.def_sources.specs.PerNs.{per_namespace, kept_in, said_in_short};
+ghost use Rattle.def_sources.specs.PerNs.{per_namespace, kept_in};
 ghost use Rattle.def_sources.specs.Sources.{map_of_id};
 ghost use Rattle.def_sources.specs.Sources.{found_in, with_source};
 ghost use Rattle.def_sources.specs.Sources.{scope_source, textual_source, builtin_source, extern_source};
@@ -15,9 +15,7 @@ ghost use Rattle.def_sources.specs.Sources.{plain_sources, root_sources, absolut
 use crate::path_database::PathDatabase;
 use crate::per_ns::{Item, MacroSubNs, PerNs, public_item};
 use crate::world::Asking;
-use def_bindings::{
-    Binding, BindingTable, ImportOrExternCrate, LoneBinding, Namespace, Visibility,
-};
+use def_bindings::{Binding, BindingTable, ImportOrExternCrate, Namespace, Visibility};
 use def_ids::{Def, Edition, MacroId, ModuleId};
 use item_tree::Name;
 
@@ -39,19 +37,6 @@ pub fn bound<T: BindingTable<Vis = Visibility>>(table: &T, place: ModuleId, name
         values: found.values,
         macros: found.macros,
     }
-}
-
-/// What a table binds, in short where it can be said: nothing, or one item in one namespace.
-#[inline(always)]
-pub fn bound_in_short<T: BindingTable<Vis = Visibility>>(
-    table: &T,
-    place: ModuleId,
-    name: Name,
-) -> LoneBinding<Visibility>
-    ensures { IfSome (said_in_short result) (λ found.
-        per_namespace ((T.content table.now).binding place name) ≡ found) }
-{
-    table.lone(place, name)
 }
 
 /// Whether an edition is that of 2015.

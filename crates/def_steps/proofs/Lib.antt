@@ -2,4 +2,3 @@ pub mod GatherLemmas
 pub mod TargetsLemmas
 pub mod ImportListsLaws
 pub mod LeftLemmas
-pub mod LoneLemmas

@@ -5,12 +5,14 @@ ghost use Rattle.def_rules.specs.Recording as recording;
 ghost use Rattle.def_rules.specs.Items as items;
 ghost use Rattle.def_rules.specs.ExternCrates as crate_rules;
 ghost use Rattle.def_map.specs.PathAnswer.{whole};
+ghost use Rattle.def_map.specs.PerNs.{per_namespace};
+ghost use Rattle.def_map.specs.Tables.{found_by};
 ghost use Rattle.def_steps.specs.Shown.{import_of, kept_of, ns_set};
 
 use crate::answer::{found_in, is_foreign, is_missing, kept_in};
 use def_bindings::{ImportOrExternCrate, Namespace, Visibility};
 use def_ids::{Def, GlobId, ImportId, ModuleId, UseId};
-use def_map::{Item, PathAnswer};
+use def_map::{FoundName, Item, PathAnswer};
 use item_tree::{
     FileAstId, ImportAlias, ImportKind, InFile, ItemNode, ModPath, Name, PathKind, RawVisibility,
     UseImport, sym,
@@ -62,6 +64,18 @@ impl NamespaceSet {
             types: found_in(answer, Namespace::Types).is_some(),
             values: found_in(answer, Namespace::Values).is_some(),
             macros: found_in(answer, Namespace::Macros).is_some(),
+        }
+    }
+
+    /// The namespaces that a name stands in.
+    #[inline(always)]
+    pub fn found(name: &FoundName) -> NamespaceSet
+        ensures { ns_set result ≡ imports.given_set (per_namespace (found_by name.now)) }
+    {
+        NamespaceSet {
+            types: name.is_in(Namespace::Types),
+            values: name.is_in(Namespace::Values),
+            macros: name.is_in(Namespace::Macros),
         }
     }
 

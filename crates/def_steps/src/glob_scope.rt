@@ -1,21 +1,21 @@
 //! What a glob brings of a module or an enum.
-ghost use Rattle.std.specs.Prelude.{◌≡◌, ◌++◌, Some, IfOk, OnOk, option_copied};
+ghost use Rattle.std.specs.Prelude.{◌≡◌, ◌++◌, Some, IfOk, OnOk};
 ghost use Rattle.std.specs.List.{flat_map};
 ghost use Rattle.def_bindings.specs.ModuleTree.{chain_in};
 ghost use Rattle.def_bindings.specs.Visibility.{order_over};
 ghost use Rattle.def_map.specs.Answers.{variant_found};
 ghost use Rattle.def_map.specs.PerNs.{kept};
-ghost use Rattle.def_sources.specs.Tables.{bound_by};
+ghost use Rattle.def_sources.specs.Tables.{bound_by, found_by};
 ghost use Rattle.def_rules.specs.Globs.{brought, name_entries, scope_entries, unnamed_entry, variant_entries};
 ghost use Rattle.def_steps.specs.GlobScopes.{scope_sees, sees_inside};
 
 use crate::answer::is_public;
 use def_bindings::{
-    BindingTable, EdgeTo, Entry, ImportOrExternCrate, LoneBinding, ModuleTree, Namespace, VisOrder,
-    Visibility, lesser_or_import,
+    BindingTable, EdgeTo, Entry, ImportOrExternCrate, ModuleTree, Namespace, VisOrder, Visibility,
+    lesser_or_import,
 };
 use def_ids::{Def, ModuleId, TraitId};
-use def_map::{EnumVariant, Item, Table, public_item};
+use def_map::{EnumVariant, FoundName, Item, Table, public_item};
 use item_tree::Name;
 use std::alloc::{AllocError, Global};
 
@@ -56,47 +56,34 @@ impl<'a> GlobScope<'a> {
         }
     }
 
-    /// Appends the entry of what the module binds in a namespace, if the glob sees it.
+    /// Appends the entry of what a name stands for in a namespace, if the glob sees it. Of most that it
+    /// does not see the visibility alone is read.
     #[inline(always)]
-    fn push_seen(
-        &self,
-        entries: &mut Vec<Entry<Visibility>>,
-        inside: bool,
-        name: Name,
-        ns: Namespace,
-        item: Option<&Item>,
-    ) -> Result<(), AllocError>
-        requires { inside ≡ sees_inside self.now }
-        ensures { OnOk result (let o = order_over (chain_in self.now.order.now) in
-            entries.new.items ≡ entries.old.items
-            ++ brought o self.now.glob name ns
-            (kept (λ item. scope_sees self.now item.vis) (option_copied item.entry))) }
-    {
-        let Some(item) = item else {
-            return Ok(());
-        };
-        if !self.sees_binding(inside, item.vis) {
-            return Ok(());
-        }
-        push_item(entries, self.order, self.glob, name, ns, item)
-    }
-
-    /// Appends the entry of what a name stands for in a namespace, if the glob sees it.
     fn push_in(
         &self,
         entries: &mut Vec<Entry<Visibility>>,
         inside: bool,
         name: Name,
+        found: &FoundName<'_>,
         ns: Namespace,
     ) -> Result<(), AllocError>
-        requires { inside ≡ sees_inside self.now }
+        requires inside { inside ≡ sees_inside self.now }
+        requires found { found_by found.now ≡ (bound_by self.now.table.now).binding self.now.source name }
         ensures { OnOk result (let o = order_over (chain_in self.now.order.now) in
             entries.new.items ≡ entries.old.items
             ++ brought o self.now.glob name ns
             (kept (λ item. scope_sees self.now item.vis) ((bound_by self.now.table.now).binding self.now.source name ns))) }
     {
-        let found = self.table.binding(self.source, name, ns);
-        self.push_seen(entries, inside, name, ns, found.as_ref())
+        let Some(vis) = found.visibility(ns) else {
+            return Ok(());
+        };
+        if !self.sees_binding(inside, vis) {
+            return Ok(());
+        }
+        match &found.binding(ns) {
+            Some(item) => push_item(entries, self.order, self.glob, name, ns, item),
+            None => Ok(()),
+        }
     }
 
     /// Appends the entries of a name that may stand in several namespaces, in types, values and
@@ -107,14 +94,16 @@ impl<'a> GlobScope<'a> {
         entries: &mut Vec<Entry<Visibility>>,
         inside: bool,
         name: Name,
+        found: &FoundName<'_>,
     ) -> Result<(), AllocError>
-        requires { inside ≡ sees_inside self.now }
+        requires inside { inside ≡ sees_inside self.now }
+        requires found { found_by found.now ≡ (bound_by self.now.table.now).binding self.now.source name }
         ensures { OnOk result (entries.new.items ≡ entries.old.items
             ++ name_entries (order_over (chain_in self.now.order.now)) self.now.glob self.now.own (bound_by self.now.table.now) self.now.source name) }
     {
-        self.push_in(entries, inside, name, Namespace::Types)?;
-        self.push_in(entries, inside, name, Namespace::Values)?;
-        self.push_in(entries, inside, name, Namespace::Macros)
+        self.push_in(entries, inside, name, found, Namespace::Types)?;
+        self.push_in(entries, inside, name, found, Namespace::Values)?;
+        self.push_in(entries, inside, name, found, Namespace::Macros)
     }
 
     /// Appends the entries of a name, which the table keeps near a number.
@@ -129,10 +118,12 @@ impl<'a> GlobScope<'a> {
         ensures { OnOk result (entries.new.items ≡ entries.old.items
             ++ name_entries (order_over (chain_in self.now.order.now)) self.now.glob self.now.own (bound_by self.now.table.now) self.now.source name) }
     {
-        match &self.table.lone_near(self.source, name, near) {
-            LoneBinding::Nothing => Ok(()),
-            LoneBinding::Lone(ns, item) => self.push_seen(entries, inside, name, *ns, Some(item)),
-            LoneBinding::Unsaid => self.push_each(entries, inside, name),
+        match &self.table.found_near(self.source, name, near) {
+            None => Ok(()),
+            Some(found) => match found.lone_ns() {
+                Some(ns) => self.push_in(entries, inside, name, found, ns),
+                None => self.push_each(entries, inside, name, found),
+            },
         }
     }
 

@@ -6,6 +6,7 @@ pub mod Link
 pub mod Lists
 pub mod Numbers
 pub mod Places
+pub mod Found
 pub mod BoundNameLaws
 pub mod NumberedTable
 pub mod NumberedTableLaws

@@ -1,7 +1,7 @@
 //! What one name stands for, as a numbered table keeps it.
-ghost use Rattle.std.specs.Prelude.{◌≡◌, Some, None, is_some, option_map, IfOk, IfSome, IsTrue, IsFalse, OnOk, OnErr};
+ghost use Rattle.std.specs.Prelude.{◌≡◌, Some, None, is_some, option_map, IfOk, IsTrue, IsFalse, OnOk, OnErr};
 ghost use Rattle.def_ids.specs.declared.ids.MapId.{MapId};
-ghost use Rattle.def_bindings.specs.NameBindings.{bound_in, module_bound, said};
+ghost use Rattle.def_bindings.specs.NameBindings.{bound_in, module_bound};
 ghost use Rattle.def_bindings.specs.declared.bindings.Namespace.TheVariants.{Types};
 ghost use Rattle.numbered_table.specs.BoundName.{stands_for, with_namespace};
 ghost use Rattle.numbered_table.specs.Parts.{part_in};
@@ -12,7 +12,7 @@ use crate::kept::Kept;
 use crate::part::Part;
 use crate::parts::Parts;
 use crate::short::{Kind, Short, Source, in_full, in_short};
-use def_bindings::{Binding, LoneBinding, NameBindings, Namespace};
+use def_bindings::{Binding, NameBindings, Namespace};
 use def_ids::{MapId, ModuleId};
 use std::alloc::{AllocError, Global};
 
@@ -103,41 +103,13 @@ impl<V: Copy, K: Kept<V>> BoundName<V, K> {
     }
 
     /// Whether the name is bound in a namespace.
+    #[inline(always)]
     pub fn is_bound_in(&self, ns: Namespace) -> bool
         ensures { (map : MapId) → result ≡ is_some (stands_for K.meaning map self.now ns) }
     {
         match self {
             BoundName::One { ns: own, .. } => own.is_same(ns),
             BoundName::Each(each) => !each.parts.get(ns).is_vacant(),
-        }
-    }
-
-    /// The one binding, where the name is kept in short, and its namespace.
-    #[inline(always)]
-    pub fn lone(&self, map: MapId) -> LoneBinding<V>
-        ensures { IfSome (said result) (λ all. stands_for K.meaning map self.now ≡ bound_in all) }
-    {
-        match self {
-            BoundName::One {
-                ns,
-                kind,
-                source,
-                idx,
-                def,
-                vis,
-                import,
-            } => {
-                let short = Short {
-                    kind: *kind,
-                    source: *source,
-                    idx: *idx,
-                    def: *def,
-                    vis: *vis,
-                    import: *import,
-                };
-                LoneBinding::Lone(*ns, in_full(map, short))
-            }
-            BoundName::Each(_) => LoneBinding::Unsaid,
         }
     }
 
@@ -233,10 +205,7 @@ impl<V: Copy, K: Kept<V>> BoundName<V, K> {
                 ..
             } => Some(ModuleId { map, index: *def }),
             BoundName::One { .. } => None,
-            BoundName::Each(each) => match each.parts.types.long(map) {
-                Some(binding) => binding.def.as_module(),
-                None => None,
-            },
+            BoundName::Each(each) => each.parts.types.module(map),
         }
     }
 

@@ -4,6 +4,7 @@
 
 mod bound_name;
 mod each;
+mod found;
 mod kept;
 mod keyed;
 mod link;
@@ -15,6 +16,7 @@ mod place;
 mod puts;
 mod short;
 
+pub use found::Found;
 pub use kept::{Kept, VisNumber};
 pub use link::Link;
 pub use numbered_table::NumberedTable;

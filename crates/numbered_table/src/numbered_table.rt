@@ -8,13 +8,14 @@ ghost use Rattle.numbered_table.specs.Places.{AreListed, AreStrangers, is_own_pl
 ghost use Rattle.def_bindings.specs.Puts.{if_vacant};
 
 use crate::bound_name::BoundName;
+use crate::found::Found;
 use crate::kept::Kept;
 use crate::keyed::Keyed;
 use crate::link::Link;
 use crate::lists::Lists;
 use crate::place::{OwnPlace, Placed};
 use crate::puts::{Put, put_at, remove_at};
-use def_bindings::{Binding, BindingTable, EdgeTo, LoneBinding, NameBindings, Namespace, Slot};
+use def_bindings::{Binding, BindingTable, EdgeTo, NameBindings, Namespace, Slot};
 use def_ids::{MapId, ModuleId, TraitId};
 use indexmap::IndexMap;
 use std::alloc::{AllocError, Global};
@@ -109,8 +110,8 @@ impl<V: Copy, K: Kept<V>> NumberedTable<V, K> {
     ghost use Rattle.std.specs.Prelude.{◌<◌, ◌^◌, ◌||◌, length, slice_get};
     ghost use Rattle.def_bindings.specs.declared.bindings.Slot.TheVariants.{Named};
     ghost use Rattle.def_bindings.specs.Content.{empty};
-    ghost use Rattle.def_bindings.specs.NameBindings.{bound_in, said};
     ghost use Rattle.def_ids.specs.Ids.{is_same_map};
+    ghost use Rattle.numbered_table.specs.Found.{found_as};
     ghost use Rattle.numbered_table.specs.NumberedTable.{all_edges, content_of};
     ghost use Rattle.def_bindings.specs.Puts.{written};
 
@@ -162,23 +163,58 @@ impl<V: Copy, K: Kept<V>> NumberedTable<V, K> {
         }
     }
 
-    /// What a name stands for, in short where it can be said. Names that are read in the order in which
-    /// they were bound mostly follow each other among all: `near` is where this one is looked for first,
-    /// and then where the next one is.
+    /// The same. Names that are read in the order in which they were bound mostly follow each other among
+    /// all: `near` is where this one is looked for first, and then where the next one is.
     #[inline(always)]
-    pub fn lone_near(&self, module: ModuleId, name: Name, near: &mut usize) -> LoneBinding<V>
-        ensures { IfSome (said result) (λ all. (content_of K.meaning self.now).binding «module» name ≡ bound_in all) }
+    fn bound_at_near(
+        &self,
+        module: ModuleId,
+        name: Name,
+        near: &mut usize,
+    ) -> Option<&BoundName<V, K>>
+        ensures { option_copied result ≡ name_of self.now.map self.now.own self.now.others «module» name }
     {
         if module.map != self.map {
-            return self.lone(module, name);
+            return self.bound_at(module, name);
         }
         let place = OwnPlace {
             index: module.index,
             name,
         };
-        match bound_near(&self.own, place, near) {
-            Some(bound) => bound.lone(self.map),
-            None => LoneBinding::Nothing,
+        bound_near(&self.own, place, near)
+    }
+
+    /// What a name of a module stands for, found once and asked several times.
+    #[inline(always)]
+    pub fn found(&self, module: ModuleId, name: Name) -> Option<Found<'_, V, K>>
+        ensures { found_as K.meaning result ≡ (content_of K.meaning self.now).binding «module» name }
+    {
+        match self.bound_at(module, name) {
+            Some(bound) => Some(Found {
+                map: self.map,
+                bound,
+            }),
+            None => None,
+        }
+    }
+
+    /// The same, of names that are read in the order in which they were bound: `near` begins with 0, and
+    /// says from name to name where the next one is looked for first.
+    #[inline(always)]
+    pub fn found_near(
+        &self,
+        module: ModuleId,
+        name: Name,
+        near: &mut usize,
+    ) -> Option<Found<'_, V, K>>
+        ensures { found_as K.meaning result ≡ (content_of K.meaning self.now).binding «module» name }
+    {
+        match self.bound_at_near(module, name, near) {
+            Some(bound) => Some(Found {
+                map: self.map,
+                bound,
+            }),
+            None => None,
         }
     }
 
@@ -343,8 +379,15 @@ impl<V: Copy, K: Kept<V>> BindingTable for NumberedTable<V, K> {
         }
     }
 
-    fn visibility(&self, module: ModuleId, name: Name, ns: Namespace) -> Option<V> {
-        match self.bound_at(module, name) {
+    #[inline(always)]
+    fn visibility_near(
+        &self,
+        module: ModuleId,
+        name: Name,
+        ns: Namespace,
+        near: &mut usize,
+    ) -> Option<V> {
+        match self.bound_at_near(module, name, near) {
             Some(bound) => bound.visibility(self.map, ns),
             None => None,
         }
@@ -354,14 +397,6 @@ impl<V: Copy, K: Kept<V>> BindingTable for NumberedTable<V, K> {
         match self.bound_at(module, name) {
             Some(bound) => bound.all(self.map),
             None => NameBindings::unbound(),
-        }
-    }
-
-    #[inline(always)]
-    fn lone(&self, module: ModuleId, name: Name) -> LoneBinding<V> {
-        match self.bound_at(module, name) {
-            Some(bound) => bound.lone(self.map),
-            None => LoneBinding::Nothing,
         }
     }
 

@@ -1,11 +1,12 @@
 //! Bindings of names that stand for more than has a short form.
 ghost use Rattle.std.specs.Prelude.{◌≡◌, Some, option_map, IfOk};
+ghost use Rattle.def_bindings.specs.NameBindings.{module_bound};
 ghost use Rattle.numbered_table.specs.Parts.{is_vacant, part_in};
 
 use crate::kept::Kept;
-use crate::short::{Short, in_full, in_short};
+use crate::short::{Kind, Short, in_full, in_short};
 use def_bindings::Binding;
-use def_ids::MapId;
+use def_ids::{MapId, ModuleId};
 use std::alloc::{AllocError, Global};
 
 /// What a name stands for in one namespace, in a table of one map.
@@ -46,6 +47,24 @@ impl<V: Copy, K: Kept<V>> Part<V, K> {
             Part::Vacant => None,
             Part::Numbers(short) => Some(short.vis.vis(map)),
             Part::Whole(binding) => Some(binding.vis),
+        }
+    }
+
+    /// The module that it is, if it is one.
+    pub fn module(&self, map: MapId) -> Option<ModuleId>
+        ensures { result ≡ module_bound (part_in K.meaning map self.now) }
+    {
+        match self {
+            Part::Vacant => None,
+            Part::Numbers(
+                Short {
+                    kind: Kind::Module,
+                    def,
+                    ..
+                },
+            ) => Some(ModuleId { map, index: *def }),
+            Part::Numbers(_) => None,
+            Part::Whole(binding) => binding.def.as_module(),
         }
     }
 

@@ -99,13 +99,14 @@ fn copy_slot<T: BindingTable, O: VisOrder<Vis = T::Vis>>(
     source: ModuleId,
     edge: EdgeTo<T::Vis>,
     slot: Slot,
+    near: &mut usize,
 ) -> Result<Option<Slot>, AllocError>
     ensures done { IfOk result (λ noted. let c = T.content table.old in let o = O.order order.now in
         (option_to_list noted ≡ cond (is_changed o source edge slot c) (slot ∷ []) [])
         × (T.content table.new ≡ copied o source edge slot c)) }
     ensures refused { OnErr result (T.content table.new ≡ T.content table.old) }
 {
-    if copy_along(table, order, source, edge, slot)? {
+    if copy_along(table, order, source, edge, slot, near)? {
         return Ok(Some(slot));
     }
     Ok(None)
@@ -128,8 +129,9 @@ fn copy_all<T: BindingTable, O: VisOrder<Vis = T::Vis>>(
     ensures stays { Stays (T.content table.old) (T.content table.new) }
 {
     let mut changed = Vec::new(changes.alloc);
+    let mut near = 0;
     for slot in slots {
-        let copied = copy_slot(table, order, source, edge, *slot)?;
+        let copied = copy_slot(table, order, source, edge, *slot, &mut near)?;
         changes.add(edge.importer, copied)?;
         note(&mut changed, copied, slots.len())?;
     }
