@@ -1,5 +1,5 @@
 //! Tables of bindings.
-ghost use Rattle.std.specs.Prelude.{◌≡◌, ◌<◌, ◌^◌, List, is_none, length, option_map, slice_get, IfOk, OnOk, OnErr};
+ghost use Rattle.std.specs.Prelude.{◌≡◌, ◌<◌, ◌^◌, List, is_none, is_some, length, option_map, slice_get, IfOk, OnOk, OnErr};
 ghost use Rattle.def_ids.specs.declared.ids.ModuleId.{ModuleId};
 ghost use Rattle.def_bindings.specs.Content.{Content, with_binding, without_binding, with_unnamed, with_edge, vis_of, AreSources, AreTied};
 ghost use Rattle.def_bindings.specs.NameBindings.{bound_in, module_bound};
@@ -13,9 +13,10 @@ use std::alloc::AllocError;
 use tree_ids::Name;
 
 /// Bindings, names, unnamed traits and glob edges by module, however they are kept. What is read is
-/// copied. A table that finds all bindings of a name, an unnamed trait or an edge by one look-up, or
-/// that binds where it has looked, has bodies of its own for `visibility_near`, `bindings`, `module_at`,
-/// `unnamed_vis`, `edge_to` and `bind`, and one that grows its lists for `expect_names`.
+/// copied. A table that finds all bindings of a name, an unnamed trait or an edge by one look-up, that
+/// knows without one that it has no edges, or that binds where it has looked, has bodies of its own for
+/// `visibility_near`, `bindings`, `module_at`, `unnamed_vis`, `has_edges`, `edge_to` and `bind`, and one
+/// that grows its lists for `expect_names`.
 pub trait BindingTable {
     type Vis: Copy;
 
@@ -92,6 +93,13 @@ pub trait BindingTable {
     fn edge_at(&self, module: ModuleId, index: usize) -> Option<EdgeTo<Self::Vis>>
         ensures edge { result ≡ slice_get ((content self.now).edges «module») index }
         ensures few { length ((content self.now).edges «module») < 2 ^ 64 };
+
+    /// Whether a module has an edge.
+    fn has_edges(&self, module: ModuleId) -> bool
+        ensures { result ≡ is_some (slice_get ((content self.now).edges «module») 0) }
+    {
+        self.edge_at(module, 0).is_some()
+    }
 
     /// The edge to an importer, where the module has one.
     fn edge_to(&self, module: ModuleId, importer: ModuleId) -> Option<EdgeTo<Self::Vis>>

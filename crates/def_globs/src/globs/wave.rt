@@ -79,7 +79,7 @@ pub fn put_list<T: BindingTable, O: VisOrder<Vis = T::Vis>>(
     ensures stays { Stays (T.content table.old) (T.content table.new) }
 {
     // Most modules have no edge, and then the changed slots need no memory.
-    let has_edge = table.edge_at(module, 0).is_some();
+    let has_edge = table.has_edges(module);
     let mut changed = Vec::new(changes.alloc);
     for entry in list {
         let slot = put_entry(table, order, module, entry)?;

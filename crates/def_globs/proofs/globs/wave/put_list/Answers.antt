@@ -1,5 +1,5 @@
-use Rattle.std.proofs.Common.{◌∙◌, ap, Vec}
-use Rattle.std.specs.Prelude.{is_some, option_to_list}
+use Rattle.std.proofs.Common.{ap, Vec}
+use Rattle.std.specs.Prelude.{option_to_list}
 use Rattle.def_globs.proofs.TurnsLemmas.{stays_entry, put_begins, put_ends, put_noted, put_unnoted}
 use Rattle.def_globs.proofs.globs.wave.put_list.Goals as goal
 use Rattle.def_globs.proofs.globs.wave.put_list.Goals.{then-has_edge+in_ok-note, else-has_edge}
@@ -24,24 +24,24 @@ loop-entry-preserved g c =
     let items = λ (v : Vec _ _). v.items in
     elim c.if-has_edge.branch [
       | then-has_edge+in_ok-note w ↦
-          put_noted o c.args.module c.args.list.now c.is_some-has_edge.result first c.loop-entry.entry-index c.entry-item.result (option_to_list c.in_ok-slot.slot) c.loop-entry.changed.items c.if-has_edge.changed.items
+          put_noted o c.args.module c.args.list.now c.has_edges-has_edge.result first c.loop-entry.entry-index c.entry-item.result (option_to_list c.in_ok-slot.slot) c.loop-entry.changed.items c.if-has_edge.changed.items
           (content c.loop-entry.table) (content c.put_entry.new.table) c.loop-entry-test.true c.entry-item.is c.in_ok-slot.ensures.done c.loop-entry.invariant
           w.note.new.changed.items w.if-has_edge.true (ap items w.changed-is) w.in_ok-note.ensures.done
       | else-has_edge w ↦
-          put_unnoted o c.args.module c.args.list.now c.is_some-has_edge.result first c.loop-entry.entry-index c.entry-item.result (option_to_list c.in_ok-slot.slot) c.loop-entry.changed.items c.if-has_edge.changed.items
+          put_unnoted o c.args.module c.args.list.now c.has_edges-has_edge.result first c.loop-entry.entry-index c.entry-item.result (option_to_list c.in_ok-slot.slot) c.loop-entry.changed.items c.if-has_edge.changed.items
           (content c.loop-entry.table) (content c.put_entry.new.table) c.loop-entry-test.true c.entry-item.is c.in_ok-slot.ensures.done c.loop-entry.invariant
           w.if-has_edge.false (ap items w.changed-is)
     ]
 
 pub loop-entry-init : goal.loop-entry-init
 loop-entry-init g c =
-    put_begins (g.O.VisOrder.order c.args.order.now) c.args.module c.args.list.now c.is_some-has_edge.result (g.T.BindingTable.content c.args.table.now) c.new-changed.result.items
-    c.new-changed.ensures.items (c.is_some-has_edge.ensures ∙ ap is_some c.edge_at.ensures.edge)
+    put_begins (g.O.VisOrder.order c.args.order.now) c.args.module c.args.list.now c.has_edges-has_edge.result (g.T.BindingTable.content c.args.table.now) c.new-changed.result.items
+    c.new-changed.ensures.items c.has_edges-has_edge.ensures
 
 pub returns-clause-done : goal.returns-clause-done
 returns-clause-done g c =
     let content = g.T.BindingTable.content in
-    put_ends (g.O.VisOrder.order c.args.order.now) c.args.module c.args.list.now c.is_some-has_edge.result (content c.args.table.now) c.loop-entry.entry-index c.loop-entry.changed.items
+    put_ends (g.O.VisOrder.order c.args.order.now) c.args.module c.args.list.now c.has_edges-has_edge.result (content c.args.table.now) c.loop-entry.entry-index c.loop-entry.changed.items
     (content c.loop-entry.table) c.loop-entry-test.false c.loop-entry.invariant
 
 pub returns-clause-stays : goal.returns-clause-stays
