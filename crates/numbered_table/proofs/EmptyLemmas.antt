@@ -2,7 +2,7 @@
 use Rattle.std.proofs.Common.{◌≡◌, ℕ, Bool, true, false, ◌||◌, cond, List, [], ◌∷◌, Option, Some, None, refl, ap, sym, ◌∙◌, inl, inr}
 use Rattle.std.proofs.lemmas.Bool.{cases_Bool, eq-eqb}
 use Rattle.std.specs.Prelude.{is_some, map}
-use Rattle.indexmap.specs.IndexMap.{get}
+use Rattle.numbered_table.specs.IndexedVec.{get}
 use Rattle.std.specs.Map.{lookup}
 use Rattle.tree_ids.specs.declared.name.Name.{Name}
 use Rattle.def_ids.specs.declared.ids.MapId.{MapId}
@@ -20,7 +20,7 @@ use Rattle.def_bindings.specs.Tree.{module_of}
 use Rattle.numbered_table.specs.Link.{edge_of}
 use Rattle.numbered_table.specs.Lists.{lists_of}
 use Rattle.numbered_table.specs.Numbers.{own_entries, is_placed, placed_at}
-use Rattle.numbered_table.specs.NumberedTable.{content_of}
+use Rattle.numbered_table.specs.NumberedTable.{content_of, other_rows, own_rows}
 use Rattle.numbered_table.specs.BoundName.{meaning_of, stands_for}
 use Rattle.numbered_table.specs.Places.{bindings_of, is_own_place, name_of, own_at}
 use Rattle.numbered_table.specs.BoundNameLaws.{listed-tied, stands-some}
@@ -63,29 +63,29 @@ no_links (e ∷ es) h = cc
 
 module _ {V K : Type 0} (meaning : MapId → K → V) (t : NumberedTable V K) where
   -- a table without content keeps nothing
-  pub empty_parts : content_of meaning t ≡ empty → (t.own.entries ≡ []) × (t.others.entries ≡ []) × (own_entries t.unnamed.entries.entries ≡ (λ (m : ModuleId). [])) × (own_entries t.edges.entries.entries ≡ (λ (m : ModuleId). []))
+  pub empty_parts : content_of meaning t ≡ empty → (own_rows t ≡ []) × (other_rows t ≡ []) × (own_entries t.unnamed.entries.entries ≡ (λ (m : ModuleId). [])) × (own_entries t.edges.entries.entries ≡ (λ (m : ModuleId). []))
   unfolding content_of
   empty_parts h = (
-    no_places is_own_place (λ p. rw (eq-eqb p.index p.index refl, name-refl p.name) refl) t.own.entries (λ p. own p.index p.name),
-    no_places (is_placed is_name) (λ p. rw (module-refl p.at, name-refl p.key) refl) t.others.entries (λ p. other p.at p.key),
+    no_places is_own_place (λ p. rw (eq-eqb p.index p.index refl, name-refl p.name) refl) (own_rows t) (λ p. own p.index p.name),
+    no_places (is_placed is_name) (λ p. rw (module-refl p.at, name-refl p.key) refl) (other_rows t) (λ p. other p.at p.key),
     λ i. (h i).unnamed,
     λ i m. no_links (own_entries t.edges.entries.entries m) (λ j. (h j).edges m) i,
   )
     where
-      none : (m : ModuleId) (x : Name) → name_of t.map t.own t.others m x ≡ None
-      none m x = nothing-found meaning t.map (name_of t.map t.own t.others m x) (λ n. λ i. (h i).binding m x n)
+      none : (m : ModuleId) (x : Name) → name_of t.map (own_rows t) (other_rows t) m x ≡ None
+      none m x = nothing-found meaning t.map (name_of t.map (own_rows t) (other_rows t) m x) (λ n. λ i. (h i).binding m x n)
 
-      own : (index : ℕ) (x : Name) → get is_own_place t.own (own_at index x) ≡ None
-      own index x = let m = module_of t.map index in sym (own-here meaning t.map t.own t.own t.others t.others m x (same_map_itself t.map)) ∙ none m x
+      own : (index : ℕ) (x : Name) → get is_own_place (own_rows t) (own_at index x) ≡ None
+      own index x = let m = module_of t.map index in sym (own-here meaning t.map (own_rows t) (own_rows t) (other_rows t) (other_rows t) m x (same_map_itself t.map)) ∙ none m x
 
-      other : (m : ModuleId) (x : Name) → get (is_placed is_name) t.others (placed_at m x) ≡ None
+      other : (m : ModuleId) (x : Name) → get (is_placed is_name) (other_rows t) (placed_at m x) ≡ None
       other m x = elim (cases_Bool (is_same_map m.map t.map)) [
         | inl k ↦ t.apart m x k
-        | inr k ↦ sym (other-here meaning t.map t.own t.own t.others t.others m x k) ∙ none m x
+        | inr k ↦ sym (other-here meaning t.map (own_rows t) (own_rows t) (other_rows t) (other_rows t) m x k) ∙ none m x
       ]
 
   -- a table that keeps nothing has no content
-  pub empty_whole : t.own.entries ≡ [] → t.others.entries ≡ [] → own_entries t.unnamed.entries.entries ≡ (λ (m : ModuleId). []) → own_entries t.edges.entries.entries ≡ (λ (m : ModuleId). []) → content_of meaning t ≡ empty
+  pub empty_whole : own_rows t ≡ [] → other_rows t ≡ [] → own_entries t.unnamed.entries.entries ≡ (λ (m : ModuleId). []) → own_entries t.edges.entries.entries ≡ (λ (m : ModuleId). []) → content_of meaning t ≡ empty
   unfolding content_of
   empty_whole own others unnamed edges = λ i. record {
     binding = bindings i;
@@ -94,8 +94,8 @@ module _ {V K : Type 0} (meaning : MapId → K → V) (t : NumberedTable V K) wh
     edges = λ m. map edge_of (edges i m);
   }
     where
-      bindings : bindings_of meaning t.map t.own t.others ≡ (λ (m : ModuleId) (x : Name) (n : Namespace). None)
-      bindings = bindings-empty meaning t.map t.own t.others own others
+      bindings : bindings_of meaning t.map (own_rows t) (other_rows t) ≡ (λ (m : ModuleId) (x : Name) (n : Namespace). None)
+      bindings = bindings-empty meaning t.map (own_rows t) (other_rows t) own others
 
       unlisted : (m : ModuleId) (x : Name) → is_listed (lists_of t.names m) x ≡ false
-      unlisted m x = listed-tied meaning t.map t.own t.others (lists_of t.names) t.listed m x ∙ ap (λ f. is_bound f m x) bindings
+      unlisted m x = listed-tied meaning t.map (own_rows t) (other_rows t) (lists_of t.names) t.listed m x ∙ ap (λ f. is_bound f m x) bindings

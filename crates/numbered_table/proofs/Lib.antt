@@ -1,4 +1,5 @@
 pub mod PartsLemmas
+pub mod IndexedVecLemmas
 pub mod BoundNameLemmas
 pub mod ByModuleLemmas
 pub mod ResultLemmas

@@ -10,7 +10,7 @@ use Rattle.indexmap.specs.IndexMap.{insert_entry}
 use Rattle.numbered_table.specs.Link.{edge_of, link_of}
 use Rattle.numbered_table.proofs.LinkLemmas.{edges-insert_entry}
 use Rattle.std.specs.List.{IsDistinct}
-use Rattle.std.specs.HashMap.{HashMap, get}
+use Rattle.numbered_table.specs.IndexedVec.{get}
 use Rattle.std.proofs.lemmas.Bool.{cases_Bool}
 use Rattle.def_ids.specs.declared.ids.ModuleId.{ModuleId}
 use Rattle.tree_ids.specs.declared.name.Name.{Name}
@@ -38,7 +38,7 @@ use Rattle.def_bindings.specs.IdLaws.{cases_module, cases_name, module-refl, nam
 abbrev pub ChangesAt : {B : Type 0} → (ModuleId → Name → Namespace → Option B) → (ModuleId → Name → Namespace → Option B) → ModuleId → Name → Type 0
 ChangesAt old new m x = (m' : ModuleId) (x' : Name) → (is_same_module m m' && is_name x x') ≡ false → new m' x' ≡ old m' x'
 
-module _ {V K S : Type 0} (meaning : MapId → K → V) (map : MapId) (own own' : HashMap OwnPlace (BoundName V K) S) (others others' : HashMap (Placed Name) (BoundName V K) S) (m : ModuleId) (x : Name) where
+module _ {V K : Type 0} (meaning : MapId → K → V) (map : MapId) (own own' : List (OwnPlace × BoundName V K)) (others others' : List (Placed Name × BoundName V K)) (m : ModuleId) (x : Name) where
   -- a name of the map's own modules is changed
   pub own-changed : is_same_map m.map map ≡ true → ((q : OwnPlace) → is_own_place (own_at m.index x) q ≡ false → get is_own_place own' q ≡ get is_own_place own q)
       → ChangesAt (bindings_of meaning map own others) (bindings_of meaning map own' others) m x
@@ -66,7 +66,7 @@ module _ {V K S : Type 0} (meaning : MapId → K → V) (map : MapId) (own own' 
   other-here is = rw is refl
 
 -- what is put in a module of another map leaves those of the map out
-pub strangers-kept : {B S : Type 0} (map : MapId) (others others' : HashMap (Placed Name) B S) (m : ModuleId) (x : Name) → AreStrangers map others → is_same_map m.map map ≡ false
+pub strangers-kept : {B : Type 0} (map : MapId) (others others' : List (Placed Name × B)) (m : ModuleId) (x : Name) → AreStrangers map others → is_same_map m.map map ≡ false
     → ((q : Placed Name) → is_placed is_name (placed_at m x) q ≡ false → get (is_placed is_name) others' q ≡ get (is_placed is_name) others q) → AreStrangers map others'
 strangers-kept map others others' m x strangers is apart m' x' h =
     let maps : is_same_map m.map m'.map ≡ false = ap (is_same_map m.map) (same_map_equal m'.map map h) ∙ is in
@@ -313,7 +313,7 @@ module _ {V : Type 0} (old new : ModuleId → Name → Namespace → Option (Bin
       (vacant, kept.0, kept.1)
 
 -- a put at a name of the map's own modules
-pub put-own : {V K S : Type 0} (meaning : MapId → K → V) (map : MapId) (own own' : HashMap OwnPlace (BoundName V K) S) (others : HashMap (Placed Name) (BoundName V K) S) (m : ModuleId) (x : Name) (n : Namespace) (l l' : ModuleId → List Name)
+pub put-own : {V K : Type 0} (meaning : MapId → K → V) (map : MapId) (own own' : List (OwnPlace × BoundName V K)) (others : List (Placed Name × BoundName V K)) (m : ModuleId) (x : Name) (n : Namespace) (l l' : ModuleId → List Name)
     → AreListed (name_of map own others) l → is_same_map m.map map ≡ true
     → ((q : OwnPlace) → is_own_place (own_at m.index x) q ≡ false → get is_own_place own' q ≡ get is_own_place own q)
     → (c : Content V) (b : Binding V) (over : Bool) (r : Result Bool AllocError)
@@ -331,7 +331,7 @@ put-own meaning map own own' others m x n l l' listed is apart c b over r wrote 
     (put.0, put.1, tied-listed meaning map own' others l' put.2)
 
 -- a put at a name of another module
-pub put-other : {V K S : Type 0} (meaning : MapId → K → V) (map : MapId) (own : HashMap OwnPlace (BoundName V K) S) (others others' : HashMap (Placed Name) (BoundName V K) S) (m : ModuleId) (x : Name) (n : Namespace) (l l' : ModuleId → List Name)
+pub put-other : {V K : Type 0} (meaning : MapId → K → V) (map : MapId) (own : List (OwnPlace × BoundName V K)) (others others' : List (Placed Name × BoundName V K)) (m : ModuleId) (x : Name) (n : Namespace) (l l' : ModuleId → List Name)
     → AreListed (name_of map own others) l → is_same_map m.map map ≡ false
     → ((q : Placed Name) → is_placed is_name (placed_at m x) q ≡ false → get (is_placed is_name) others' q ≡ get (is_placed is_name) others q)
     → (c : Content V) (b : Binding V) (over : Bool) (r : Result Bool AllocError)
@@ -349,7 +349,7 @@ put-other meaning map own others others' m x n l l' listed is apart c b over r w
     (put.0, put.1, tied-listed meaning map own others' l' put.2)
 
 -- a binding is taken out at a name of the map's own modules
-pub taken-own : {V K S : Type 0} (meaning : MapId → K → V) (map : MapId) (own own' : HashMap OwnPlace (BoundName V K) S) (others : HashMap (Placed Name) (BoundName V K) S) (m : ModuleId) (x : Name) (n : Namespace) (l l' : ModuleId → List Name)
+pub taken-own : {V K : Type 0} (meaning : MapId → K → V) (map : MapId) (own own' : List (OwnPlace × BoundName V K)) (others : List (Placed Name × BoundName V K)) (m : ModuleId) (x : Name) (n : Namespace) (l l' : ModuleId → List Name)
     → AreListed (name_of map own others) l → is_same_map m.map map ≡ true
     → ((q : OwnPlace) → is_own_place (own_at m.index x) q ≡ false → get is_own_place own' q ≡ get is_own_place own q)
     → (c : Content V) → meaning_of meaning map (get is_own_place own' (own_at m.index x)) ≡ with_namespace (meaning_of meaning map (get is_own_place own (own_at m.index x))) n None
@@ -363,7 +363,7 @@ taken-own meaning map own own' others m x n l l' listed is apart c left names =
     (taken.0, tied-listed meaning map own' others l' taken.1)
 
 -- and at one of another module
-pub taken-other : {V K S : Type 0} (meaning : MapId → K → V) (map : MapId) (own : HashMap OwnPlace (BoundName V K) S) (others others' : HashMap (Placed Name) (BoundName V K) S) (m : ModuleId) (x : Name) (n : Namespace) (l l' : ModuleId → List Name)
+pub taken-other : {V K : Type 0} (meaning : MapId → K → V) (map : MapId) (own : List (OwnPlace × BoundName V K)) (others others' : List (Placed Name × BoundName V K)) (m : ModuleId) (x : Name) (n : Namespace) (l l' : ModuleId → List Name)
     → AreListed (name_of map own others) l → is_same_map m.map map ≡ false
     → ((q : Placed Name) → is_placed is_name (placed_at m x) q ≡ false → get (is_placed is_name) others' q ≡ get (is_placed is_name) others q)
     → (c : Content V) → meaning_of meaning map (get (is_placed is_name) others' (placed_at m x)) ≡ with_namespace (meaning_of meaning map (get (is_placed is_name) others (placed_at m x))) n None
@@ -376,7 +376,7 @@ taken-other meaning map own others others' m x n l l' listed is apart c left nam
     (after ∙ left ∙ ap (λ o. with_namespace (meaning_of meaning map o) n None) (sym (other-here meaning map own own others others' m x is))) names in
     (taken.0, tied-listed meaning map own others' l' taken.1)
 
-pub bindings-empty : {V K S : Type 0} (meaning : MapId → K → V) (map : MapId) (own : HashMap OwnPlace (BoundName V K) S) (others : HashMap (Placed Name) (BoundName V K) S) → own.entries ≡ [] → others.entries ≡ [] → bindings_of meaning map own others ≡ (λ m x n. None)
+pub bindings-empty : {V K : Type 0} (meaning : MapId → K → V) (map : MapId) (own : List (OwnPlace × BoundName V K)) (others : List (Placed Name × BoundName V K)) → own ≡ [] → others ≡ [] → bindings_of meaning map own others ≡ (λ m x n. None)
 bindings-empty meaning map own others e f = λ i m x n. at m x n i
   where
     at : (m : ModuleId) (x : Name) (n : Namespace) → bindings_of meaning map own others m x n ≡ None

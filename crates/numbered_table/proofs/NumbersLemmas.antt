@@ -68,6 +68,15 @@ module _ {K W : Type 0} where
         | inr h ↦ rw h (lookup-own_entries eq m k es)
       ]
 
+  -- a module has an entry where it has a number
+  pub first-number : (es : List (Placed K × W)) (m : ModuleId) (i : ℕ) → is_some (slice_get (numbers_from m i (keys_of es)) 0) ≡ is_some (slice_get (own_entries es m) 0)
+  first-number [] m i = refl
+  first-number (e ∷ es) m i =
+      elim (cases_Bool (is_same_module m e.0.at)) [
+        | inl h ↦ rw h refl
+        | inr h ↦ rw h (first-number es m (suc i))
+      ]
+
   pub length-own_entries : (es : List (Placed K × W)) (m : ModuleId) → length (own_entries es m) ≤ length es
   length-own_entries [] m = omega arith
   length-own_entries (e ∷ es) m =

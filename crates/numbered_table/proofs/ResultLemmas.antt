@@ -1,6 +1,8 @@
 -- What follows from what a clause says of a result.
-use Rattle.std.proofs.Common.{◌≡◌, Bool, Result, Ok, Err, Option, Some, None, false, refl, subst, sym, rules}
-use Rattle.std.specs.HashMap.{HashMap, get}
+use Rattle.std.proofs.Common.{◌≡◌, ◌||◌, Bool, true, cond, Result, Ok, Err, Option, Some, None, false, refl, subst, sym, rules}
+use Rattle.def_bindings.specs.declared.bindings.Namespace.{Namespace}
+use Rattle.def_bindings.specs.Content.{is_namespace}
+use Rattle.numbered_table.specs.BoundName.{with_namespace}
 use Rattle.std.specs.Prelude.{IfOk, OnOk, OnErr, IsOk, IsSome, is_some}
 
 pub OnOk_then : {T E : Type 0} (r : Result T E) {P Q : Type 0} → OnOk r P → (P → Q) → OnOk r Q
@@ -34,6 +36,18 @@ pub at_err : {T E : Type 0} (r : Result T E) {P : Type 0} (e : E) → r ≡ Err 
 at_err (Ok x) e is p = cc
 at_err (Err x) e is p = p
 
--- a map with the same entries has the same at each key
-pub get-same : {K B S : Type 0} (eq : K → K → Bool) (old new : HashMap K B S) → new.entries ≡ old.entries → (q : K) → get eq new q ≡ get eq old q
-get-same eq old new e q = rw e refl
+pub OnOk_from : {T E : Type 0} (r : Result T E) {P : Type 0} → P → OnOk r P
+OnOk_from (Ok x) h = h
+OnOk_from (Err e) h = search rules
+
+pub or-true : (b : Bool) → true ≡ (b || true)
+or-true true = refl
+or-true false = refl
+
+-- where nothing is bound, nothing is left
+pub nothing-left : {B : Type 0} (ns : Namespace) → (λ (n : Namespace). None) ≡ with_namespace {B = B} (λ n. None) ns None
+nothing-left ns = λ i n. same (is_namespace ns n) i
+  where
+    same : {B : Type 0} (b : Bool) → ◌≡◌ {A = Option B} None (cond b None None)
+    same true = refl
+    same false = refl

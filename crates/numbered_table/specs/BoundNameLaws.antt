@@ -1,7 +1,6 @@
 -- The law of a bound name: it stands for something, so that what is found and what is bound are one.
 use Rattle.std.proofs.Common.{◌≡◌, Bool, true, false, not, ◌&&◌, ◌||◌, List, Option, Some, None, refl, ap, sym, ◌∙◌}
 use Rattle.std.specs.Prelude.{is_some, IsFalse}
-use Rattle.indexmap.specs.IndexMap.{IndexMap}
 use Rattle.tree_ids.specs.declared.name.Name.{Name}
 use Rattle.def_ids.specs.declared.ids.MapId.{MapId}
 use Rattle.def_ids.specs.declared.ids.ModuleId.{ModuleId}
@@ -48,7 +47,7 @@ module _ {V K : Type 0} (meaning : MapId → K → V) (map : MapId) where
   known-bound None f h = ap (λ g. is_some (g Types) || (is_some (g Values) || is_some (g Macros))) (sym h)
   known-bound (Some s) f h = sym (ap (λ g. is_some (g Types) || (is_some (g Values) || is_some (g Macros))) h ∙ stands-some s)
 
-  module _ {S : Type 0} (own : IndexMap OwnPlace (BoundName V K) S) (others : IndexMap (Placed Name) (BoundName V K) S) (names : ModuleId → List Name) where
+  module _ (own : List (OwnPlace × BoundName V K)) (others : List (Placed Name × BoundName V K)) (names : ModuleId → List Name) where
     -- names that are listed where they have something are listed where they are bound
     pub listed-tied : AreListed (name_of map own others) names → AreTied (bindings_of meaning map own others) names
     listed-tied listed m x = listed m x ∙ known-bound (name_of map own others m x) (bindings_of meaning map own others m x) refl

@@ -1,4 +1,5 @@
 pub mod Kept
+pub mod IndexedVec
 pub mod Short
 pub mod Parts
 pub mod BoundName

@@ -1,19 +1,32 @@
 -- What a numbered table contains.
 use Rattle.std.specs.Prelude.{List, map}
+use Rattle.std.specs.List.{zip}
+use Rattle.tree_ids.specs.declared.name.Name.{Name}
 use Rattle.def_ids.specs.declared.ids.MapId.{MapId}
 use Rattle.def_ids.specs.declared.ids.ModuleId.{ModuleId}
 use Rattle.def_bindings.specs.declared.bindings.EdgeTo.{EdgeTo}
+use Rattle.numbered_table.specs.declared.bound_name.BoundName.{BoundName}
 use Rattle.numbered_table.specs.declared.numbered_table.NumberedTable.{NumberedTable}
+use Rattle.numbered_table.specs.declared.place.OwnPlace.{OwnPlace}
+use Rattle.numbered_table.specs.declared.place.Placed.{Placed}
 use Rattle.def_bindings.specs.Content.{Content}
 use Rattle.numbered_table.specs.Link.{edge_of}
 use Rattle.numbered_table.specs.Lists.{lists_of}
 use Rattle.numbered_table.specs.Numbers.{own_entries}
 use Rattle.numbered_table.specs.Places.{bindings_of}
 
+-- what stands for something in the modules of the table's map
+abbrev pub own_rows : {V K : Type 0} → NumberedTable V K → List (OwnPlace × BoundName V K)
+own_rows t = zip t.own.keys.keys t.own.values.items
+
+-- what stands for something in those of other maps
+abbrev pub other_rows : {V K : Type 0} → NumberedTable V K → List (Placed Name × BoundName V K)
+other_rows t = zip t.others.keys.keys t.others.values.items
+
 -- a word of its own to those who use a table: only the proofs of this crate look into it
 unfoldable pub content_of : {V K : Type 0} → (MapId → K → V) → NumberedTable V K → Content V
 content_of meaning t = record {
-  binding = bindings_of meaning t.map t.own t.others;
+  binding = bindings_of meaning t.map (own_rows t) (other_rows t);
   names = lists_of t.names;
   unnamed = own_entries t.unnamed.entries.entries;
   edges = λ m. map edge_of (own_entries t.edges.entries.entries m);

@@ -13,7 +13,7 @@ use Rattle.def_bindings.specs.Content.{AreSources, AreTied}
 use Rattle.numbered_table.specs.Link.{edge_of}
 use Rattle.numbered_table.specs.Lists.{lists_of}
 use Rattle.numbered_table.specs.Numbers.{own_entries}
-use Rattle.numbered_table.specs.NumberedTable.{content_of}
+use Rattle.numbered_table.specs.NumberedTable.{content_of, other_rows, own_rows}
 use Rattle.numbered_table.specs.BoundNameLaws.{listed-tied}
 
 -- the modules of the keys
@@ -36,4 +36,4 @@ are_sources meaning t m e h = among t.edges.entries.entries m e h
 -- names and bindings are tied
 pub are_tied : {V K : Type 0} (meaning : MapId → K → V) (t : NumberedTable V K) → AreTied (content_of meaning t).binding (content_of meaning t).names
 unfolding content_of
-are_tied meaning t = listed-tied meaning t.map t.own t.others (lists_of t.names) t.listed
+are_tied meaning t = listed-tied meaning t.map (own_rows t) (other_rows t) (lists_of t.names) t.listed

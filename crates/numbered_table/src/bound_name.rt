@@ -25,9 +25,9 @@ pub enum BoundName<V, K> {
         kind: Kind,
         source: Source,
         idx: u32,
-        def: usize,
+        def: u32,
         vis: K,
-        import: usize,
+        import: u32,
     },
     Each(Box<Each<V, K>>),
 }
@@ -203,7 +203,10 @@ impl<V: Copy, K: Kept<V>> BoundName<V, K> {
                 kind: Kind::Module,
                 def,
                 ..
-            } => Some(ModuleId { map, index: *def }),
+            } => Some(ModuleId {
+                map,
+                index: *def as usize,
+            }),
             BoundName::One { .. } => None,
             BoundName::Each(each) => each.parts.types.module(map),
         }

@@ -3,6 +3,7 @@ ghost use Rattle.std.specs.Prelude.{◌≡◌, IfSome};
 ghost use Rattle.def_ids.specs.declared.ids.MapId.{MapId};
 ghost use Rattle.numbered_table.specs.Kept.{as_it_is, numbered_vis};
 
+use crate::short::short_number;
 use def_bindings::Visibility;
 use def_ids::{MapId, ModuleId};
 
@@ -37,7 +38,7 @@ impl<V: Copy> Kept<V> for V {
 
 /// A visibility by number: everywhere, in the crate, and then those of the map's modules.
 #[derive(Clone, Copy)]
-pub struct VisNumber(usize);
+pub struct VisNumber(u32);
 
 /// That of a module of another map has no number.
 impl Kept<Visibility> for VisNumber {
@@ -50,7 +51,7 @@ impl Kept<Visibility> for VisNumber {
             Visibility::PubCrate => Some(VisNumber(1)),
             Visibility::Module(module) => {
                 if module.map == map {
-                    Some(VisNumber(module.index.checked_add(2)?))
+                    Some(VisNumber(short_number(module.index.checked_add(2)?)?))
                 } else {
                     None
                 }
@@ -66,7 +67,7 @@ impl Kept<Visibility> for VisNumber {
         } else if number == 1 {
             Visibility::PubCrate
         } else {
-            let index = number - 2;
+            let index = (number - 2) as usize;
             Visibility::Module(ModuleId { map, index })
         }
     }

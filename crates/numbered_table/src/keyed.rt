@@ -76,6 +76,18 @@ impl<K: Copy + Eq + Hash, W: Copy> Keyed<K, W> {
         }
     }
 
+    /// Whether a module has a value.
+    #[inline(always)]
+    pub fn has(&self, module: ModuleId) -> bool
+        ensures { result ≡ is_some (slice_get (own_entries self.now.entries.entries «module») 0) }
+    {
+        // Most tables have no edges and no unnamed traits, and then nothing is looked up.
+        if self.entries.is_empty() {
+            return false;
+        }
+        self.numbers.at(module, 0).is_some()
+    }
+
     /// The module, the key and the value with this number among all.
     pub fn numbered(&self, number: usize) -> Option<(ModuleId, K, W)>
         ensures entry { result ≡ option_map (λ e. (e.0.at, e.0.key, e.1)) (slice_get self.now.entries.entries number) }

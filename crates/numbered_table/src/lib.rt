@@ -5,6 +5,7 @@
 mod bound_name;
 mod each;
 mod found;
+mod indexed_vec;
 mod kept;
 mod keyed;
 mod link;

@@ -2,13 +2,14 @@
 #![tactic(auto, unfolding(crate::specs::NumberedTable::content_of))]
 
 ghost use Rattle.std.specs.Prelude.{◌≡◌, ◌↔◌, IsTrue, IsFalse, Some, true, false, is_none, OnOk, OnErr, IfOk, IfSome, option_copied};
-ghost use Rattle.indexmap.specs.IndexMap.{get};
+ghost use Rattle.std.specs.List.{zip};
 ghost use Rattle.numbered_table.specs.Lists.{lists_of};
 ghost use Rattle.numbered_table.specs.Places.{AreListed, AreStrangers, is_own_place, name_of};
 ghost use Rattle.def_bindings.specs.Puts.{if_vacant};
 
 use crate::bound_name::BoundName;
 use crate::found::Found;
+use crate::indexed_vec::IndexedVec;
 use crate::kept::Kept;
 use crate::keyed::Keyed;
 use crate::link::Link;
@@ -17,7 +18,6 @@ use crate::place::{OwnPlace, Placed};
 use crate::puts::{Put, put_at, remove_at};
 use def_bindings::{Binding, BindingTable, EdgeTo, NameBindings, Namespace, Slot};
 use def_ids::{MapId, ModuleId, TraitId};
-use indexmap::IndexMap;
 use std::alloc::{AllocError, Global};
 use tree_ids::{Crate, Name};
 
@@ -29,13 +29,13 @@ pub struct NumberedTable<V, K = V> {
     alloc: Global,
     /// The map whose modules are found by their indices, and whose bindings are kept in short.
     map: MapId,
-    own: IndexMap<OwnPlace, BoundName<V, K>>,
-    others: IndexMap<Placed<Name>, BoundName<V, K>>,
+    own: IndexedVec<OwnPlace, BoundName<V, K>>,
+    others: IndexedVec<Placed<Name>, BoundName<V, K>>,
     names: Lists<Name>,
     unnamed: Keyed<TraitId, V>,
     edges: Keyed<ModuleId, Link<V>>,
-    ghost apart: { AreStrangers map others },
-    ghost listed: { AreListed (name_of map own others) (lists_of names) },
+    ghost apart: { AreStrangers map (zip others.keys.keys others.values.items) },
+    ghost listed: { AreListed (name_of map (zip own.keys.keys own.values.items) (zip others.keys.keys others.values.items)) (lists_of names) },
 }
 
 impl<V: Drop, K: Drop> Drop for NumberedTable<V, K> {
@@ -49,42 +49,6 @@ impl<V: Drop, K: Drop> Drop for NumberedTable<V, K> {
             unnamed: _,
             edges: _,
         } = self;
-    }
-}
-
-/// What the entry with this number among all stands for, where it is that of this place.
-fn bound_numbered<V, K>(
-    own: &IndexMap<OwnPlace, BoundName<V, K>>,
-    number: usize,
-    place: OwnPlace,
-) -> Option<&BoundName<V, K>>
-    ensures { IfSome result (λ there. get is_own_place own.now place ≡ Some there.now) }
-{
-    match own.get_index(number) {
-        Some((found, there)) if *found == place => Some(there),
-        _ => None,
-    }
-}
-
-/// What a place stands for, if it stands for something. It is looked for at the number `near` first,
-/// which is then the one after it.
-fn bound_near<'a, V, K>(
-    own: &'a IndexMap<OwnPlace, BoundName<V, K>>,
-    place: OwnPlace,
-    near: &mut usize,
-) -> Option<&'a BoundName<V, K>>
-    ensures { option_copied result ≡ get is_own_place own.now place }
-{
-    if let Some(there) = bound_numbered(own, *near, place) {
-        *near = near.saturating_add(1);
-        return Some(there);
-    }
-    match own.get_full(&place) {
-        Some((number, _, there)) => {
-            *near = number.saturating_add(1);
-            Some(there)
-        }
-        None => None,
     }
 }
 
@@ -112,7 +76,7 @@ impl<V: Copy, K: Kept<V>> NumberedTable<V, K> {
     ghost use Rattle.def_bindings.specs.Content.{empty};
     ghost use Rattle.def_ids.specs.Ids.{is_same_map};
     ghost use Rattle.numbered_table.specs.Found.{found_as};
-    ghost use Rattle.numbered_table.specs.NumberedTable.{all_edges, content_of};
+    ghost use Rattle.numbered_table.specs.NumberedTable.{all_edges, content_of, other_rows, own_rows};
     ghost use Rattle.def_bindings.specs.Puts.{written};
 
     /// A table with nothing in it, which takes the least room for modules of this map, and serves those
@@ -123,8 +87,8 @@ impl<V: Copy, K: Kept<V>> NumberedTable<V, K> {
         Ok(NumberedTable {
             alloc,
             map,
-            own: IndexMap::new(alloc),
-            others: IndexMap::new(alloc),
+            own: IndexedVec::new(alloc),
+            others: IndexedVec::new(alloc),
             names: Lists::new(alloc),
             unnamed: Keyed::new(alloc),
             edges: Keyed::new(alloc),
@@ -148,15 +112,15 @@ impl<V: Copy, K: Kept<V>> NumberedTable<V, K> {
 
     /// What a name of a module stands for, if it stands for something.
     fn bound_at(&self, module: ModuleId, name: Name) -> Option<&BoundName<V, K>>
-        ensures { option_copied result ≡ name_of self.now.map self.now.own self.now.others «module» name }
+        ensures { option_copied result ≡ name_of self.now.map (own_rows self.now) (other_rows self.now) «module» name }
     {
         if module.map == self.map {
-            self.own.get(&OwnPlace {
+            self.own.get(OwnPlace {
                 index: module.index,
                 name,
             })
         } else {
-            self.others.get(&Placed {
+            self.others.get(Placed {
                 at: module,
                 key: name,
             })
@@ -172,7 +136,7 @@ impl<V: Copy, K: Kept<V>> NumberedTable<V, K> {
         name: Name,
         near: &mut usize,
     ) -> Option<&BoundName<V, K>>
-        ensures { option_copied result ≡ name_of self.now.map self.now.own self.now.others «module» name }
+        ensures { option_copied result ≡ name_of self.now.map (own_rows self.now) (other_rows self.now) «module» name }
     {
         if module.map != self.map {
             return self.bound_at(module, name);
@@ -181,7 +145,7 @@ impl<V: Copy, K: Kept<V>> NumberedTable<V, K> {
             index: module.index,
             name,
         };
-        bound_near(&self.own, place, near)
+        self.own.get_near(place, near)
     }
 
     /// What a name of a module stands for, found once and asked several times.
@@ -428,6 +392,11 @@ impl<V: Copy, K: Kept<V>> BindingTable for NumberedTable<V, K> {
             }),
             None => None,
         }
+    }
+
+    #[inline(always)]
+    fn has_edges(&self, module: ModuleId) -> bool {
+        self.edges.has(module)
     }
 
     fn edge_to(&self, module: ModuleId, importer: ModuleId) -> Option<EdgeTo<V>> {

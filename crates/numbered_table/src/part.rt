@@ -62,7 +62,10 @@ impl<V: Copy, K: Kept<V>> Part<V, K> {
                     def,
                     ..
                 },
-            ) => Some(ModuleId { map, index: *def }),
+            ) => Some(ModuleId {
+                map,
+                index: *def as usize,
+            }),
             Part::Numbers(_) => None,
             Part::Whole(binding) => binding.def.as_module(),
         }

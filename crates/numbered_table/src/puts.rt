@@ -1,18 +1,18 @@
 //! What is written to what names stand for, by whatever names are found by.
 ghost use Rattle.std.specs.Prelude.{◌≡◌, ◌++◌, ◌∷◌, ◌||◌, [], cond, Some, None, is_none, is_some, false, IfOk, OnOk, OnErr};
-ghost use Rattle.indexmap.specs.IndexMap.{get};
+ghost use Rattle.std.specs.List.{zip};
+ghost use Rattle.numbered_table.specs.IndexedVec.{get};
 ghost use Rattle.def_bindings.specs.Content.{listed_as, without_name};
 ghost use Rattle.def_bindings.specs.Puts.{if_vacant};
 ghost use Rattle.numbered_table.specs.BoundName.{meaning_of, stands_for, with_namespace, written_in};
 ghost use Rattle.numbered_table.specs.Lists.{lists_of};
 
 use crate::bound_name::BoundName;
+use crate::indexed_vec::IndexedVec;
 use crate::kept::Kept;
 use crate::lists::Lists;
 use def_bindings::{Binding, Namespace};
 use def_ids::{MapId, ModuleId};
-use indexmap::IndexMap;
-use indexmap::map::Entry;
 use std::alloc::{AllocError, Global};
 use std::hash::Hash;
 use tree_ids::Name;
@@ -72,74 +72,79 @@ fn begin<V: Copy, K: Kept<V>>(
 pub fn put_at<P: Copy + Eq + Hash, V: Copy, K: Kept<V>>(
     alloc: Global,
     map: MapId,
-    bound: &mut IndexMap<P, BoundName<V, K>>,
+    bound: &mut IndexedVec<P, BoundName<V, K>>,
     names: &mut Lists<Name>,
     key: P,
     put: Put,
     binding: &Binding<V>,
 ) -> Result<bool, AllocError>
-    ensures wrote { IfOk result (λ wrote. wrote ≡ (put.over || is_none (meaning_of K.meaning map (get P.eq bound.old key) put.ns))) }
-    ensures done { IfOk result (λ wrote. meaning_of K.meaning map (get P.eq bound.new key)
-        ≡ written_in (meaning_of K.meaning map (get P.eq bound.old key)) put.ns (if_vacant wrote binding.now)) }
+    ensures wrote { IfOk result (λ wrote. wrote ≡ (put.over || is_none (meaning_of K.meaning map (get P.eq (zip bound.old.keys.keys bound.old.values.items) key) put.ns))) }
+    ensures done { IfOk result (λ wrote. meaning_of K.meaning map (get P.eq (zip bound.new.keys.keys bound.new.values.items) key)
+        ≡ written_in (meaning_of K.meaning map (get P.eq (zip bound.old.keys.keys bound.old.values.items) key)) put.ns (if_vacant wrote binding.now)) }
     ensures names { OnOk result (lists_of names.new
-        ≡ cond (is_some (get P.eq bound.old key)) (lists_of names.old)
+        ≡ cond (is_some (get P.eq (zip bound.old.keys.keys bound.old.values.items) key)) (lists_of names.old)
         (listed_as (lists_of names.old) put.at (lists_of names.old put.at ++ put.name ∷ []))) }
-    ensures refused { OnErr result ((meaning_of K.meaning map (get P.eq bound.new key) ≡ meaning_of K.meaning map (get P.eq bound.old key))
+    ensures refused { OnErr result ((meaning_of K.meaning map (get P.eq (zip bound.new.keys.keys bound.new.values.items) key) ≡ meaning_of K.meaning map (get P.eq (zip bound.old.keys.keys bound.old.values.items) key))
         × (lists_of names.new ≡ lists_of names.old)) }
-    ensures others { (q : P) → P.eq key q ≡ false → get P.eq bound.new q ≡ get P.eq bound.old q }
+    ensures others { (q : P) → P.eq key q ≡ false → get P.eq (zip bound.new.keys.keys bound.new.values.items) q ≡ get P.eq (zip bound.old.keys.keys bound.old.values.items) q }
 {
-    match bound.entry(key)? {
-        Entry::Occupied(there) => put_beside(alloc, map, there.into_mut(), put, binding),
-        Entry::Vacant(free) => match begin(alloc, map, names, put, binding) {
-            Ok(begun) => {
-                free.insert(begun);
-                Ok(true)
-            }
-            Err(error) => {
-                let _ = free.into_key();
-                Err(error)
-            }
-        },
+    // With room for the value, nothing fails behind it.
+    bound.values.reserve(1)?;
+    let (number, is_new) = bound.keys.insert_full(key)?;
+    if !is_new {
+        return put_beside(alloc, map, &mut bound.values[number], put, binding);
+    }
+    match begin(alloc, map, names, put, binding) {
+        Ok(begun) => {
+            bound.values.push_reserved(begun);
+            Ok(true)
+        }
+        Err(error) => {
+            let _ = bound.keys.pop();
+            Err(error)
+        }
     }
 }
 
 /// Takes a binding out, and answers whether its name has another.
 fn take_out<P: Copy + Eq + Hash, V: Copy, K: Kept<V>>(
     map: MapId,
-    bound: &mut IndexMap<P, BoundName<V, K>>,
+    bound: &mut IndexedVec<P, BoundName<V, K>>,
     key: P,
     ns: Namespace,
 ) -> bool
-    ensures left { meaning_of K.meaning map (get P.eq bound.new key)
-        ≡ with_namespace (meaning_of K.meaning map (get P.eq bound.old key)) ns None }
-    ensures stays { result ≡ is_some (get P.eq bound.new key) }
-    ensures others { (q : P) → P.eq key q ≡ false → get P.eq bound.new q ≡ get P.eq bound.old q }
+    ensures left { meaning_of K.meaning map (get P.eq (zip bound.new.keys.keys bound.new.values.items) key)
+        ≡ with_namespace (meaning_of K.meaning map (get P.eq (zip bound.old.keys.keys bound.old.values.items) key)) ns None }
+    ensures stays { result ≡ is_some (get P.eq (zip bound.new.keys.keys bound.new.values.items) key) }
+    ensures others { (q : P) → P.eq key q ≡ false → get P.eq (zip bound.new.keys.keys bound.new.values.items) q ≡ get P.eq (zip bound.old.keys.keys bound.old.values.items) q }
 {
-    let Some(there) = bound.get_mut(&key) else {
+    let _ = bound.keys.len();
+    let Some(number) = bound.keys.get_index_of(&key) else {
         return false;
     };
-    if there.take(map, ns) {
+    if bound.values[number].take(map, ns) {
         return true;
     }
-    let _ = bound.swap_remove(&key);
+    let _ = bound.keys.swap_remove_index(number);
+    let _ = bound.values.swap_remove(number);
     false
 }
 
 /// Takes the binding at a key out, and with the last one its name out of those of its module.
 pub fn remove_at<P: Copy + Eq + Hash, V: Copy, K: Kept<V>>(
     map: MapId,
-    bound: &mut IndexMap<P, BoundName<V, K>>,
+    bound: &mut IndexedVec<P, BoundName<V, K>>,
     names: &mut Lists<Name>,
     key: P,
     module: ModuleId,
     name: Name,
     ns: Namespace,
 )
-    ensures left { meaning_of K.meaning map (get P.eq bound.new key)
-        ≡ with_namespace (meaning_of K.meaning map (get P.eq bound.old key)) ns None }
-    ensures names { lists_of names.new ≡ cond (is_some (get P.eq bound.new key)) (lists_of names.old)
+    ensures left { meaning_of K.meaning map (get P.eq (zip bound.new.keys.keys bound.new.values.items) key)
+        ≡ with_namespace (meaning_of K.meaning map (get P.eq (zip bound.old.keys.keys bound.old.values.items) key)) ns None }
+    ensures names { lists_of names.new ≡ cond (is_some (get P.eq (zip bound.new.keys.keys bound.new.values.items) key)) (lists_of names.old)
         (listed_as (lists_of names.old) «module» (without_name (lists_of names.old «module») name)) }
-    ensures others { (q : P) → P.eq key q ≡ false → get P.eq bound.new q ≡ get P.eq bound.old q }
+    ensures others { (q : P) → P.eq key q ≡ false → get P.eq (zip bound.new.keys.keys bound.new.values.items) q ≡ get P.eq (zip bound.old.keys.keys bound.old.values.items) q }
 {
     if !take_out(map, bound, key, ns) {
         names.remove(module, name);

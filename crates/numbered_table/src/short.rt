@@ -89,6 +89,18 @@ fn short_def(map: MapId, def: &Def) -> Option<(Kind, usize)>
     }
 }
 
+/// A number in short, where it has few bits.
+#[inline(always)]
+pub fn short_number(number: usize) -> Option<u32>
+    ensures { IfSome result (λ short. short ≡ number) }
+{
+    if number <= u32::MAX as usize {
+        Some(number as u32)
+    } else {
+        None
+    }
+}
+
 /// What brought a binding, by its source and numbers.
 #[inline(always)]
 fn long_import(source: Source, id: usize, idx: u32) -> Option<ImportOrExternCrate>
@@ -127,9 +139,9 @@ pub struct Short<K> {
     pub kind: Kind,
     pub source: Source,
     pub idx: u32,
-    pub def: usize,
+    pub def: u32,
     pub vis: K,
-    pub import: usize,
+    pub import: u32,
 }
 
 /// A binding in short, where it has a short form.
@@ -138,8 +150,10 @@ pub fn in_short<V: Copy, K: Kept<V>>(map: MapId, binding: &Binding<V>) -> Option
     ensures { IfSome result (λ s. meant.long K.meaning map s ≡ binding.now) }
 {
     let (kind, def) = short_def(map, &binding.def)?;
+    let def = short_number(def)?;
     let vis = K::keep(map, binding.vis)?;
     let (source, import, idx) = short_import(binding.import);
+    let import = short_number(import)?;
     Some(Short {
         kind,
         source,
@@ -156,8 +170,8 @@ pub fn in_full<V: Copy, K: Kept<V>>(map: MapId, short: Short<K>) -> Binding<V>
     ensures { result ≡ meant.long K.meaning map short }
 {
     Binding {
-        def: long_def(map, short.kind, short.def),
+        def: long_def(map, short.kind, short.def as usize),
         vis: short.vis.vis(map),
-        import: long_import(short.source, short.import, short.idx),
+        import: long_import(short.source, short.import as usize, short.idx),
     }
 }

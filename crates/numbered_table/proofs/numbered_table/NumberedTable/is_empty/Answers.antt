@@ -1,6 +1,5 @@
-use Rattle.std.proofs.Common.{ap, length, rules}
+use Rattle.std.proofs.Common.{rules}
 use Rattle.std.specs.Prelude.{IsTrue}
-use Rattle.std.proofs.lemmas.List.{nil_from_length}
 use Rattle.numbered_table.proofs.EmptyLemmas.{empty_parts, empty_whole}
 use Rattle.numbered_table.specs.NumberedTable.{content_of}
 use Rattle.numbered_table.proofs.numbered_table.NumberedTable.is_empty.Goals as goal
@@ -9,13 +8,13 @@ pub returns-then-not-is_empty : goal.returns-then-not-is_empty
 unfolding content_of
 returns-then-not-is_empty g c =
     let t = c.args.self.now in
-    (search rules, λ h. let there = c.is_empty.ensures.1 (ap length (empty_parts g.K.Kept.meaning t h).0) in cc)
+    (search rules, λ h. let there = c.is_empty.ensures.1 (empty_parts g.K.Kept.meaning t h).0 in cc)
 
 pub returns-then-not-is_empty-2 : goal.returns-then-not-is_empty-2
 unfolding content_of
 returns-then-not-is_empty-2 g c =
     let t = c.args.self.now in
-    (search rules, λ h. let there = c.is_empty-2.ensures.1 (ap length (empty_parts g.K.Kept.meaning t h).1) in cc)
+    (search rules, λ h. let there = c.is_empty-2.ensures.1 (empty_parts g.K.Kept.meaning t h).1 in cc)
 
 pub returns-then-not-is_empty-3 : goal.returns-then-not-is_empty-3
 unfolding content_of
@@ -30,6 +29,6 @@ returns g c =
     let own : IsTrue c.is_empty.result = cc in
     let others : IsTrue c.is_empty-2.result = cc in
     let unnamed : IsTrue c.is_empty-3.result = cc in (
-      λ h. empty_whole g.K.Kept.meaning t (nil_from_length t.own.entries (c.is_empty.ensures.0 own)) (nil_from_length t.others.entries (c.is_empty-2.ensures.0 others)) (c.is_empty-3.ensures.0 unnamed) (c.is_empty-4.ensures.0 h),
+      λ h. empty_whole g.K.Kept.meaning t (c.is_empty.ensures.0 own) (c.is_empty-2.ensures.0 others) (c.is_empty-3.ensures.0 unnamed) (c.is_empty-4.ensures.0 h),
       λ h. c.is_empty-4.ensures.1 (empty_parts g.K.Kept.meaning t h).3,
     )

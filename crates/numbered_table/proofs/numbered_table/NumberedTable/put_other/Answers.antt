@@ -1,5 +1,6 @@
+use Rattle.std.specs.List.{zip}
 use Rattle.numbered_table.specs.Lists.{lists_of}
-use Rattle.numbered_table.specs.NumberedTable.{content_of}
+use Rattle.numbered_table.specs.NumberedTable.{content_of, other_rows, own_rows}
 use Rattle.numbered_table.proofs.NumberedTableLemmas.{put-other, strangers-kept}
 use Rattle.numbered_table.proofs.numbered_table.NumberedTable.put_other.Goals as goal
 
@@ -10,8 +11,8 @@ invariant_of-self g c =
     let p = c.args.put in
     let e = c.put_at.ensures in
     record {
-      apart = strangers-kept t.map t.others c.put_at.new.bound p.at p.name t.apart c.requires e.others;
-      listed = (put-other g.K.Kept.meaning t.map t.own t.others c.put_at.new.bound p.at p.name p.ns (lists_of t.names) (lists_of c.put_at.new.names) t.listed c.requires e.others (content_of g.K.Kept.meaning t) c.args.binding.now p.over c.put_at.result e.wrote e.done e.names e.refused).2;
+      apart = strangers-kept t.map (other_rows t) (zip c.put_at.new.bound.keys.keys c.put_at.new.bound.values.items) p.at p.name t.apart c.requires e.others;
+      listed = (put-other g.K.Kept.meaning t.map (own_rows t) (other_rows t) (zip c.put_at.new.bound.keys.keys c.put_at.new.bound.values.items) p.at p.name p.ns (lists_of t.names) (lists_of c.put_at.new.names) t.listed c.requires e.others (content_of g.K.Kept.meaning t) c.args.binding.now p.over c.put_at.result e.wrote e.done e.names e.refused).2;
     }
 
 pub returns-clause-done : goal.returns-clause-done
@@ -20,7 +21,7 @@ returns-clause-done g c =
     let t = c.args.self.now in
     let p = c.args.put in
     let e = c.put_at.ensures in
-    (put-other g.K.Kept.meaning t.map t.own t.others c.put_at.new.bound p.at p.name p.ns (lists_of t.names) (lists_of c.put_at.new.names) t.listed c.requires e.others (content_of g.K.Kept.meaning t) c.args.binding.now p.over c.put_at.result e.wrote e.done e.names e.refused).0
+    (put-other g.K.Kept.meaning t.map (own_rows t) (other_rows t) (zip c.put_at.new.bound.keys.keys c.put_at.new.bound.values.items) p.at p.name p.ns (lists_of t.names) (lists_of c.put_at.new.names) t.listed c.requires e.others (content_of g.K.Kept.meaning t) c.args.binding.now p.over c.put_at.result e.wrote e.done e.names e.refused).0
 
 pub returns-clause-refused : goal.returns-clause-refused
 unfolding content_of
@@ -28,4 +29,4 @@ returns-clause-refused g c =
     let t = c.args.self.now in
     let p = c.args.put in
     let e = c.put_at.ensures in
-    (put-other g.K.Kept.meaning t.map t.own t.others c.put_at.new.bound p.at p.name p.ns (lists_of t.names) (lists_of c.put_at.new.names) t.listed c.requires e.others (content_of g.K.Kept.meaning t) c.args.binding.now p.over c.put_at.result e.wrote e.done e.names e.refused).1
+    (put-other g.K.Kept.meaning t.map (own_rows t) (other_rows t) (zip c.put_at.new.bound.keys.keys c.put_at.new.bound.values.items) p.at p.name p.ns (lists_of t.names) (lists_of c.put_at.new.names) t.listed c.requires e.others (content_of g.K.Kept.meaning t) c.args.binding.now p.over c.put_at.result e.wrote e.done e.names e.refused).1

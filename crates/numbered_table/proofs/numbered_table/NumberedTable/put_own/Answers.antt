@@ -1,5 +1,6 @@
+use Rattle.std.specs.List.{zip}
 use Rattle.numbered_table.specs.Lists.{lists_of}
-use Rattle.numbered_table.specs.NumberedTable.{content_of}
+use Rattle.numbered_table.specs.NumberedTable.{content_of, other_rows, own_rows}
 use Rattle.numbered_table.proofs.NumberedTableLemmas.{put-own}
 use Rattle.numbered_table.proofs.numbered_table.NumberedTable.put_own.Goals as goal
 
@@ -11,7 +12,7 @@ invariant_of-self g c =
     let e = c.put_at.ensures in
     record {
       apart = t.apart;
-      listed = (put-own g.K.Kept.meaning t.map t.own c.put_at.new.bound t.others p.at p.name p.ns (lists_of t.names) (lists_of c.put_at.new.names) t.listed c.requires e.others (content_of g.K.Kept.meaning t) c.args.binding.now p.over c.put_at.result e.wrote e.done e.names e.refused).2;
+      listed = (put-own g.K.Kept.meaning t.map (own_rows t) (zip c.put_at.new.bound.keys.keys c.put_at.new.bound.values.items) (other_rows t) p.at p.name p.ns (lists_of t.names) (lists_of c.put_at.new.names) t.listed c.requires e.others (content_of g.K.Kept.meaning t) c.args.binding.now p.over c.put_at.result e.wrote e.done e.names e.refused).2;
     }
 
 pub returns-clause-done : goal.returns-clause-done
@@ -20,7 +21,7 @@ returns-clause-done g c =
     let t = c.args.self.now in
     let p = c.args.put in
     let e = c.put_at.ensures in
-    (put-own g.K.Kept.meaning t.map t.own c.put_at.new.bound t.others p.at p.name p.ns (lists_of t.names) (lists_of c.put_at.new.names) t.listed c.requires e.others (content_of g.K.Kept.meaning t) c.args.binding.now p.over c.put_at.result e.wrote e.done e.names e.refused).0
+    (put-own g.K.Kept.meaning t.map (own_rows t) (zip c.put_at.new.bound.keys.keys c.put_at.new.bound.values.items) (other_rows t) p.at p.name p.ns (lists_of t.names) (lists_of c.put_at.new.names) t.listed c.requires e.others (content_of g.K.Kept.meaning t) c.args.binding.now p.over c.put_at.result e.wrote e.done e.names e.refused).0
 
 pub returns-clause-refused : goal.returns-clause-refused
 unfolding content_of
@@ -28,4 +29,4 @@ returns-clause-refused g c =
     let t = c.args.self.now in
     let p = c.args.put in
     let e = c.put_at.ensures in
-    (put-own g.K.Kept.meaning t.map t.own c.put_at.new.bound t.others p.at p.name p.ns (lists_of t.names) (lists_of c.put_at.new.names) t.listed c.requires e.others (content_of g.K.Kept.meaning t) c.args.binding.now p.over c.put_at.result e.wrote e.done e.names e.refused).1
+    (put-own g.K.Kept.meaning t.map (own_rows t) (zip c.put_at.new.bound.keys.keys c.put_at.new.bound.values.items) (other_rows t) p.at p.name p.ns (lists_of t.names) (lists_of c.put_at.new.names) t.listed c.requires e.others (content_of g.K.Kept.meaning t) c.args.binding.now p.over c.put_at.result e.wrote e.done e.names e.refused).1

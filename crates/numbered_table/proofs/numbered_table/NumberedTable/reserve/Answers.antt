@@ -4,4 +4,4 @@ use Rattle.numbered_table.proofs.numbered_table.NumberedTable.reserve.Goals as g
 
 pub returns : goal.returns
 unfolding content_of
-returns g c = rw (c.reserve.ensures.entries, c.reserve-2.ensures) refl
+returns g c = rw (c.reserve.ensures, c.reserve-2.ensures) refl

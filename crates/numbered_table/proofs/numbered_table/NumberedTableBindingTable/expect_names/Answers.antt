@@ -1,5 +1,5 @@
 use Rattle.numbered_table.proofs.NumberedTableLemmas.{listed-same}
-use Rattle.numbered_table.specs.NumberedTable.{content_of}
+use Rattle.numbered_table.specs.NumberedTable.{content_of, other_rows, own_rows}
 use Rattle.numbered_table.specs.Places.{name_of}
 use Rattle.numbered_table.proofs.numbered_table.NumberedTableBindingTable.expect_names.Goals as goal
 
@@ -7,4 +7,4 @@ pub invariant_of-self : goal.invariant_of-self
 unfolding content_of
 invariant_of-self g c =
     let t = c.args.self.now in
-    record { apart = t.apart; listed = listed-same (name_of t.map t.own t.others) _ _ c.expect.ensures t.listed }
+    record { apart = t.apart; listed = listed-same (name_of t.map (own_rows t) (other_rows t)) _ _ c.expect.ensures t.listed }
