@@ -4,6 +4,7 @@ ghost use Rattle.std.specs.Prelude.{IfSome, ◌≡◌, None, false, if◌then◌
 ghost use Rattle.def_paths.specs.Answers.{answer_from, reached as reached_with, walk as walk_of};
 ghost use Rattle.def_paths.specs.OuterMaps.{answer_in as answer_in_map, answer_of, is_alone as stands_alone};
 ghost use Rattle.def_ids.specs.declared.ids.Def.TheVariants.{Module};
+ghost use Rattle.item_tree.specs.declared.mod_path.PathKind.TheVariants.{Super};
 ghost use Rattle.def_sources.specs.Asking.{question_in, map_in};
 ghost use Rattle.def_sources.specs.Items.{is_fitting};
 ghost use Rattle.def_sources.specs.PerNs.{Item, in_types, per_namespace};
@@ -18,6 +19,7 @@ use item_tree::{ModPath, Name, PathKind};
 /// Where the last of these segments is looked up, which begin in a module: the module, and that
 /// segment. `None` unless the others lead there through modules of this crate alone, as they mostly
 /// do: then nothing but a module is kept on the way.
+#[inline(never)]
 fn scope_reached<D: PathDatabase, T: BindingTable<Vis = Visibility>>(
     asking: &Asking<'_, D, T>,
     first: ModuleId,
@@ -72,8 +74,28 @@ fn plain_scope<D: PathDatabase, T: BindingTable<Vis = Visibility>>(
     }
 }
 
+/// Where the last segment of a path is looked up that begins so many modules up, and that segment, if
+/// the others lead there through modules of this crate.
+#[inline(never)]
+fn super_scope<D: PathDatabase, T: BindingTable<Vis = Visibility>>(
+    asking: &Asking<'_, D, T>,
+    place: ModuleId,
+    path: &ModPath,
+    levels: u8,
+) -> Option<(ModuleId, Name)>
+    requires { path.now.kind ≡ Super levels }
+    ensures { let q = question_in D.oracle asking.now in
+        let own = map_in T.content asking.now in
+        IfSome result (λ there. answer_in_map q place path.now own
+        ≡ reached_with (per_namespace (scope_source q own there.0 there.1)) None false) }
+{
+    let ancestor = asking.world.map.tree.ancestor(place, levels as usize)?;
+    scope_reached(asking, ancestor, path.segments.as_slice())
+}
+
 /// Where a path's last segment is looked up, and that segment, if the others lead there through
 /// modules of this crate.
+#[inline(always)]
 pub(crate) fn scope_of<D: PathDatabase, T: BindingTable<Vis = Visibility>>(
     asking: &Asking<'_, D, T>,
     place: ModuleId,
@@ -93,10 +115,7 @@ pub(crate) fn scope_of<D: PathDatabase, T: BindingTable<Vis = Visibility>>(
         PathKind::DollarCrate(krate) => {
             scope_reached(asking, ModuleId::crate_root(krate), segments)
         }
-        PathKind::Super(n) => match asking.world.map.tree.ancestor(place, n as usize) {
-            Some(ancestor) => scope_reached(asking, ancestor, segments),
-            None => None,
-        },
+        PathKind::Super(levels) => super_scope(asking, place, path, levels),
         PathKind::Abs => None,
         PathKind::Plain => plain_scope(asking, place, segments),
     }
