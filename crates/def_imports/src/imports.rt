@@ -11,14 +11,14 @@ ghost use Rattle.def_sources.specs.Tables.{bound_by};
 ghost use Rattle.def_rules.specs.Imports.{bound_name, named_entries};
 ghost use Rattle.def_rules.specs.State.{State, order};
 
-use def_bindings::{Namespace, Visibility};
+use def_bindings::{Entry, Namespace, Visibility};
 use def_globs::Globs;
 use def_items::put;
 use def_map::{
     Asked, Item, MapData, PathAnswer, ResolvePathResult, SourceDatabase, Table, World,
     resolve_path_fp_with_macro, resolve_path_scope,
 };
-use def_steps::{Import, ImportDirective, NamespaceSet, lone_entry, named_entries};
+use def_steps::{Import, ImportDirective, NamespaceSet, import_name, lone_given, named_entries};
 use std::alloc::{AllocError, Global};
 
 /// What is seen at once of what an import gives.
@@ -94,9 +94,18 @@ pub fn record_named(
         Updated import.scope (named_entries (order before) import vis (whole answer.now) (bound_name import.written))
         before (with_parts s def_map.now table.new)) }
 {
-    if let Some(entry) = lone_entry(&def_map.tree, import, vis, answer) {
-        put(def_map, table, import.module_id, &[entry])?;
-        return Ok(());
+    if let Some(name) = import_name(import.written) {
+        if let Some((ns, def, vis)) = lone_given(&def_map.tree, import, vis, answer) {
+            let entry = Entry {
+                name,
+                ns,
+                def,
+                vis,
+                origin: Some(import.origin()),
+            };
+            put(def_map, table, import.module_id, &[entry])?;
+            return Ok(());
+        }
     }
     let entries = named_entries(alloc, &def_map.tree, import, vis, answer)?;
     put(def_map, table, import.module_id, entries.as_slice())?;

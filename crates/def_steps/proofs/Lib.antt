@@ -2,3 +2,4 @@ pub mod GatherLemmas
 pub mod TargetsLemmas
 pub mod ImportListsLaws
 pub mod LeftLemmas
+pub mod NamedLemmas

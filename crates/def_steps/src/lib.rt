@@ -13,11 +13,11 @@ mod targets;
 
 pub use answer::{is_public, kept_in};
 pub use directive::{
-    Import, ImportDirective, NamespaceSet, crate_name, is_prelude_import, is_ready, kept_after,
-    new_prelude,
+    Import, ImportDirective, NamespaceSet, crate_name, import_name, is_prelude_import, is_ready,
+    kept_after, new_prelude,
 };
 pub use glob_scope::{GlobScope, variants_entries};
 pub use import_lists::{ImportList, WrittenUse, drop_left, next_tried, queue_imports, retire};
 pub use left_imports::report_left_imports;
-pub use named::{lone_entry, named_entries};
+pub use named::{lone_given, named_entries};
 pub use targets::{add_target, edges_of, targets_of};

@@ -1,12 +1,13 @@
 //! What a named import brings.
-ghost use Rattle.std.specs.Prelude.{◌≡◌, ◌++◌, ◌∷◌, [], Some, IfOk, IfSome, OnOk, option_to_list};
+ghost use Rattle.std.specs.Prelude.{◌≡◌, ◌++◌, ◌∷◌, [], Option, Some, IfOk, IfSome, OnOk, option_to_list};
+ghost use Rattle.tree_ids.specs.declared.name.Name.{Name};
 ghost use Rattle.def_bindings.specs.declared.bindings.Namespace.TheVariants.{Types};
 ghost use Rattle.def_bindings.specs.ModuleTree.{chain_in};
 ghost use Rattle.def_bindings.specs.Visibility.{order_over};
 ghost use Rattle.def_map.specs.PathAnswer.{whole};
 ghost use Rattle.def_map.specs.PerNs.{Item, in_namespace};
 ghost use Rattle.def_steps.specs.Shown.{import_of};
-ghost use Rattle.def_rules.specs.Imports.{bound_name, entry_of, kept_item, named_entries, taken_types};
+ghost use Rattle.def_rules.specs.Imports.{bound_name, entry_of, kept_item, named_entries, origin_of, taken_types};
 
 use crate::answer::{found_in, kept_in};
 use crate::directive::{Import, import_name, keeps_ns, reexported_vis};
@@ -25,18 +26,19 @@ struct Brought<'a> {
 }
 
 /// What an import gives at its name, where that comes from types or from values alone, as it mostly
-/// does: one entry, which needs no list.
-pub fn lone_entry(
+/// does: the namespace, the definition and how visible it is. Of these one entry is made where it is
+/// put, since an entry is long.
+pub fn lone_given(
     order: &ModuleTree,
     import: &Import,
     vis: Visibility,
     answer: &PathAnswer,
-) -> Option<Entry<Visibility>>
-    ensures { IfSome result (λ entry. named_entries (order_over (chain_in order.now)) (import_of import.now) vis (whole answer.now) (bound_name import.now.written.now)
-        ≡ entry ∷ []) }
+) -> Option<(Namespace, Def, Visibility)>
+    ensures { let brought = import_of import.now in
+        IfSome result (λ given. (name : Option Name) →
+        named_entries (order_over (chain_in order.now)) brought vis (whole answer.now) (Some name)
+        ≡ record { name = name; ns = given.0; def = given.1; vis = given.2; origin = Some (origin_of brought) } ∷ []) }
 {
-    let name = import_name(import.written)?;
-    let brought = Brought { import, name, vis };
     let None = found_in(answer, Namespace::Macros) else {
         return None;
     };
@@ -45,9 +47,22 @@ pub fn lone_entry(
             let None = found_in(answer, Namespace::Values) else {
                 return None;
             };
-            types_entry(order, brought, answer)
+            let item = kept_in(answer, Namespace::Types)?;
+            if !keeps_ns(import.written.kind, Namespace::Types) {
+                return None;
+            }
+            let own = reexported_vis(&import.written.path, vis, item);
+            let vis = lesser_or_import(order, own, vis);
+            Some((Namespace::Types, item.def, vis))
         }
-        None => entry_in(order, brought, Namespace::Values, answer),
+        None => {
+            let item = kept_in(answer, Namespace::Values)?;
+            if !keeps_ns(import.written.kind, Namespace::Values) {
+                return None;
+            }
+            let vis = lesser_or_import(order, item.vis, vis);
+            Some((Namespace::Values, item.def, vis))
+        }
     }
 }
 
