@@ -1,6 +1,8 @@
 //! The order in which the items of a list are visited.
 ghost use Rattle.std.specs.Prelude.{◌≡◌, ◌++◌, ◌∷◌, [], cond, filter, not, option_map, IfOk, OnOk};
+ghost use Rattle.std.specs.List.{list_any};
 ghost use Rattle.def_rules.specs.Items as items;
+ghost use Rattle.def_items.specs.Lists.{listed_in};
 
 use def_ids::ModuleId;
 use item_tree::{ItemNode, ItemTree, ModItemId, ModItemKind};
@@ -13,18 +15,34 @@ pub fn is_crate_root(module_id: ModuleId) -> bool
     module_id.index == 0 && !module_id.map.block.is_some()
 }
 
-/// The items of a list, extern crates before all others, each group in order.
+/// The items of a list, extern crates before all others, each group in order. `None` where that is the
+/// order of the list, since it has no extern crates.
 pub(crate) fn crates_first(
     alloc: Global,
     tree: Option<&ItemTree>,
     list: &[ModItemId],
-) -> Result<Vec<ModItemId>, AllocError>
-    ensures { IfOk result (λ sorted. sorted.items ≡ items.crates_first (option_map (λ t. t.now) tree.entry) list.now) }
+) -> Result<Option<Vec<ModItemId>>, AllocError>
+    ensures { IfOk result (λ sorted. listed_in sorted list.now ≡ items.crates_first (option_map (λ t. t.now) tree.entry) list.now) }
 {
+    if !has_crates(tree, list) {
+        return Ok(None);
+    }
     let mut sorted = Vec::new(alloc);
     push_crates(&mut sorted, tree, list)?;
     push_others(&mut sorted, tree, list)?;
-    Ok(sorted)
+    Ok(Some(sorted))
+}
+
+/// Whether a list has extern crates.
+fn has_crates(tree: Option<&ItemTree>, list: &[ModItemId]) -> bool
+    ensures { result ≡ list_any (items.names_crate (option_map (λ t. t.now) tree.entry)) list.now }
+{
+    'items: for id in list {
+        if names_crate(tree, *id) {
+            return true;
+        }
+    }
+    false
 }
 
 /// Appends the extern crates of a list. On `Err` some may be there.

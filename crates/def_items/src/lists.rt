@@ -51,7 +51,7 @@ impl<'a> Frame<'a> {
         let dir = list.site.dir.clone()?;
         mod_dirs.insert(list.site.module_id, dir)?;
         let sorted = if is_crate_root(list.site.module_id) {
-            Some(crates_first(alloc, list.tree, list.items)?)
+            crates_first(alloc, list.tree, list.items)?
         } else {
             None
         };
