@@ -49,11 +49,18 @@ impl<T: Exact + Hash + Drop> Numbering<T> {
         self.values.len()
     }
 
-    /// Makes room for more values, so that as many are added with no copy of what is there.
+    /// Makes room for more values, so that as many are added with no copy of what is there. The set makes
+    /// its list as long as its index may be filled, up to twice as long. Where most of the list is still to
+    /// come it gives back what is more than was asked for; else that would copy what is there each time.
     pub fn reserve(&mut self, additional: usize) -> Result<(), AllocError>
         ensures { self.new ≡ self.old }
     {
-        self.values.reserve(additional)
+        self.values.reserve(additional)?;
+        let len = self.values.len();
+        if len <= additional {
+            self.values.shrink_to(len.saturating_add(additional));
+        }
+        Ok(())
     }
 
     /// The number of this value: its own if it has one, else the next.

@@ -27,11 +27,17 @@ impl<P: Copy + Eq + Hash, W: Drop> IndexedVec<P, W> {
         }
     }
 
-    /// Makes room for more values.
+    /// Makes room for more values. The set of keys makes its list as long as its index may be filled. Where
+    /// most of the list is still to come it gives back what is more than was asked for; else that would copy
+    /// what is there each time.
     pub fn reserve(&mut self, values: usize) -> Result<(), AllocError>
         ensures { zip self.new.keys.keys self.new.values.items ≡ zip self.old.keys.keys self.old.values.items }
     {
         self.keys.reserve(values)?;
+        let len = self.keys.len();
+        if len <= values {
+            self.keys.shrink_to(len.saturating_add(values));
+        }
         self.values.reserve(values)
     }
 
