@@ -130,14 +130,13 @@ fn make_room<'a>(collector: &mut DefCollector<'a>, room: Room) -> Result<(), All
     ensures state { (session : Interner) → state_of collector.new session ≡ state_of collector.old session }
     ensures bare { collector.new.expansions ≡ collector.old.expansions }
 {
-    let alloc = collector.alloc;
     let root = ModuleId {
         map: collector.def_map.tree.map,
         index: 0,
     };
     collector.table.expect_names(root, room.root_items);
     collector.def_map.reserve(room.modules)?;
-    collector.def_map.expect_items(alloc, 0, room.root_items)?;
+    collector.def_map.expect_items(0, room.root_items);
     collector.unresolved_imports.reserve(room.imports)?;
     collector.indeterminate_imports.reserve(room.imports)
 }

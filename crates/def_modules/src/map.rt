@@ -70,18 +70,12 @@ impl MapData {
         self.modules.reserve(modules)
     }
 
-    /// Makes room in a module for the declarations of so many items, where it has none yet.
-    pub fn expect_items(
-        &mut self,
-        alloc: Global,
-        module: usize,
-        items: usize,
-    ) -> Result<(), AllocError>
+    /// Notes that a module has so many items, for whose declarations the first one makes room.
+    pub fn expect_items(&mut self, module: usize, items: usize)
         ensures { map_state self.new ≡ map_state self.old }
     {
-        match self.modules.get_mut(module) {
-            Some(found) => found.expect_items(alloc, items),
-            None => Ok(()),
+        if let Some(found) = self.modules.get_mut(module) {
+            found.expect_items(items);
         }
     }
 

@@ -117,6 +117,8 @@ pub struct ModuleData {
     /// The indices of its child modules.
     pub children: IndexMap<Name, usize>,
     pub scope: ScopeData,
+    /// How many items it has, for whose declarations the first one makes room.
+    items: usize,
 }
 
 impl Drop for ModuleData {
@@ -127,6 +129,7 @@ impl Drop for ModuleData {
             visibility: _,
             children: _,
             scope: _,
+            items: _,
         } = self;
     }
 }
@@ -204,16 +207,15 @@ impl ScopeData {
 impl ModuleData {
     ghost use Rattle.def_modules.specs.Scopes.{module_state, empty_module, declared_in, with_child, with_textual, with_extern_crate, with_extern_block, with_unnamed_const, with_impl, with_derive_impl, with_derive, called_at, with_textual_of, with_invocation, marked_failed};
 
-    /// A module with nothing in it but these textual macros, and with this list for its declarations.
+    /// A module with nothing in it but these textual macros, which has so many items.
     fn with_legacy_macros(
         alloc: Global,
         name: Option<Name>,
         origin: ModuleOrigin,
         visibility: Visibility,
         legacy_macros: Rc<IndexMap<Name, Seq<MacroId>>>,
-        declarations: Seq<Def>,
+        items: usize,
     ) -> ModuleData
-        requires { declarations ≡ [] }
         ensures { module_state result ≡ with_textual_of (textual_of legacy_macros.value) (empty_module name origin visibility) }
     {
         ModuleData {
@@ -222,11 +224,12 @@ impl ModuleData {
             visibility,
             children: IndexMap::new(alloc),
             scope: ScopeData {
-                declarations,
+                declarations: no_items(alloc),
                 legacy_macros,
                 impls: no_items(alloc),
                 rare: None,
             },
+            items,
         }
     }
 
@@ -240,12 +243,12 @@ impl ModuleData {
         ensures { IfOk result (λ made. module_state made ≡ empty_module name origin visibility) }
     {
         let none = Rc::new(alloc, IndexMap::new(alloc))?;
-        let declarations = no_items(alloc);
-        Ok(ModuleData::with_legacy_macros(alloc, name, origin, visibility, none, declarations))
+        Ok(ModuleData::with_legacy_macros(alloc, name, origin, visibility, none, 0))
     }
 
     /// A module with nothing in it but the textual macros of the module around it. They are shared.
-    /// It has room for the declarations of so many items.
+    /// It has so many items, for whose declarations the first one makes room: a module of imports needs
+    /// none.
     pub fn within(
         alloc: Global,
         name: Option<Name>,
@@ -257,18 +260,25 @@ impl ModuleData {
         ensures { IfOk result (λ made. module_state made
             ≡ with_textual_of (module_state around.now).textual (empty_module name origin visibility)) }
     {
-        let declarations = room_for(alloc, items)?;
         let shared = around.scope.legacy_macros.clone()?;
-        Ok(ModuleData::with_legacy_macros(alloc, name, origin, visibility, shared, declarations))
+        Ok(ModuleData::with_legacy_macros(alloc, name, origin, visibility, shared, items))
     }
 
-    /// Makes room for the declarations of so many items, where there is none yet.
-    pub(crate) fn expect_items(&mut self, alloc: Global, items: usize) -> Result<(), AllocError>
+    /// Notes that it has so many items, for whose declarations the first one makes room.
+    pub(crate) fn expect_items(&mut self, items: usize)
         ensures { module_state self.new ≡ module_state self.old }
     {
-        if self.scope.declarations.is_empty() {
-            self.scope.declarations = room_for(alloc, items)?;
-        }
+        self.items = items;
+    }
+
+    /// Makes room for the declarations of the module's items, before the first one.
+    #[inline(never)]
+    fn begin_declarations(&mut self) -> Result<(), AllocError>
+        requires { (module_state self.old).declarations ≡ [] }
+        ensures { OnOk result (module_state self.new ≡ module_state self.old) }
+    {
+        let alloc = *self.children.allocator();
+        self.scope.declarations = room_for(alloc, self.items)?;
         Ok(())
     }
 
@@ -276,6 +286,9 @@ impl ModuleData {
     pub(crate) fn declare(&mut self, def: Def) -> Result<(), AllocError>
         ensures { OnOk result (module_state self.new ≡ declared_in def (module_state self.old)) }
     {
+        if self.scope.declarations.is_empty() {
+            self.begin_declarations()?;
+        }
         self.scope.declarations.push(def)?;
         Ok(())
     }
