@@ -51,14 +51,6 @@ none_fresh (Some block) s = unmarked _ (λ name. refl)
 none_seeded : (s : MapState) (content : Content Visibility) → IsFresh s content → NoneFailed s
 none_seeded s content fresh = subst NoneFailed (sym fresh.state) (none_fresh s.id.block s)
 
--- no import is in empty lists
-pub no_imports : (unresolved indeterminate : List (Option ImportDirective)) → unresolved ≡ [] → indeterminate ≡ [] → directives_in unresolved ++ directives_in indeterminate ≡ []
-no_imports unresolved indeterminate none nor =
-    ap (λ es. directives_in es ++ directives_in indeterminate) none
-    ∙ ap (λ ds. ds ++ directives_in indeterminate) (ap (map directive_of) (present-nil ImportDirective))
-    ∙ ap directives_in nor
-    ∙ ap (map directive_of) (present-nil ImportDirective)
-
 module _ (w : Setting) (before : Session) (m : MapState) (content : Content Visibility) (targets : Targets) (local : LocalView) (procs : Bool) (deps : LocalView) (missing : Name → Bool) (directories : ModuleId → Option Directory) (imports : List rules.ImportDirective) (skipped : HirFileId → ModItemId → Option AttrId) (active : InFile FileAstId → List AttrId) (deferred : waits.Deferrals) (macros : List waits.MacroDirective) (expansions : List waits.Expansion) (diagnostics : List DefDiagnostic) where
   -- the state that the code begins with
   abbrev begun : State

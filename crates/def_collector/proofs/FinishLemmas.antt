@@ -1,12 +1,8 @@
 -- The end of a run: names marked one after the other are marked by what is left over.
-use Rattle.std.proofs.Common.{◌≡◌, ◌+◌, ℕ, zero, suc, Bool, true, false, cond, ◌&&◌, ◌||◌, nat_eq, List, [], ◌∷◌, ◌++◌, filter, map, All, Option, Some, None, refl, sym, ap, subst, ◌∙◌, arith, inl, inr, append_assoc}
+use Rattle.std.proofs.Common.{◌≡◌, ◌+◌, ℕ, zero, suc, Bool, true, false, cond, ◌&&◌, ◌||◌, nat_eq, List, [], ◌∷◌, ◌++◌, filter, map, All, Option, Some, None, refl, sym, ap, subst, ◌∙◌, arith, inl, inr}
 use Rattle.std.specs.List.{flat_map}
-use Rattle.std.proofs.lemmas.Grind.{flat_map-append}
-use Rattle.def_steps.specs.declared.directive.ImportDirective.{ImportDirective}
-use Rattle.def_steps.proofs.LeftLemmas.{marked_each-append, unresolved-append}
 use Rattle.std.proofs.lemmas.Bool.{cases_Bool}
 use Rattle.std.proofs.lemmas.Bool.Decides.{eqb_tells}
-use Rattle.std.proofs.lemmas.List.{map-append}
 use Rattle.std.proofs.lemmas.List.Elements.{All-head, All-tail}
 use Rattle.tree_ids.specs.declared.name.Name.{Name}
 use Rattle.indexmap.specs.IndexMap.{IndexMap, IsUnique, get}
@@ -29,7 +25,7 @@ use Rattle.def_modules.specs.Scopes.{marked_failed}
 use Rattle.def_modules.specs.Updates.{update_at}
 use Rattle.def_rules.specs.declared.diagnostics.DefDiagnostic.{DefDiagnostic}
 use Rattle.def_rules.specs.declared.outcome.LeftImport.{LeftImport}
-use Rattle.def_steps.specs.ImportLists.{marked_each, marked_once, unresolved_in, directives_in}
+use Rattle.def_steps.specs.ImportLists.{marked_each, marked_once}
 use Rattle.def_steps.specs.Shown.{shown_edge}
 use Rattle.def_rules.specs.Imports.{bound_name, unresolved_imports}
 use Rattle.def_rules.specs.Report.{Answer, AreEdges, AreTargets, binds_name, is_left, leaves, left_import, left_macro, listed_edge, marked, marked_from, shown_targets, import_report}
@@ -162,34 +158,24 @@ targets_listed targets listed all unique =
 
 -- The answer
 
--- the answer is that of the end, whose unresolved imports were gone through in two lists
-pub finished : (end : State) (limit_met : Bool) (answer : Answer) (m1 m : MapState) (imports1 imports : List LeftImport) (said1 diagnostics : List DefDiagnostic) (first second : List (Option ImportDirective))
-    → end.imports ≡ directives_in first ++ directives_in second
-    → m1 ≡ marked_each (unresolved_in first) end.map → m ≡ marked_each (unresolved_in second) m1
-    → imports1 ≡ map left_import (unresolved_in first) → imports ≡ imports1 ++ map left_import (unresolved_in second)
-    → said1 ≡ end.diagnostics ++ flat_map (import_report end.missing_crates) (unresolved_in first) → diagnostics ≡ said1 ++ flat_map (import_report end.missing_crates) (unresolved_in second)
+-- the answer is that of the end, whose unresolved imports were gone through
+pub finished : (end : State) (limit_met : Bool) (answer : Answer) (m : MapState) (imports : List LeftImport) (diagnostics : List DefDiagnostic)
+    → m ≡ marked_each (unresolved_imports end.imports) end.map
+    → imports ≡ map left_import (unresolved_imports end.imports)
+    → diagnostics ≡ end.diagnostics ++ flat_map (import_report end.missing_crates) (unresolved_imports end.imports)
     → answer.map ≡ m → answer.content ≡ end.content → answer.local ≡ end.local → answer.diagnostics ≡ diagnostics
     → answer.outcome.imports.items ≡ imports → answer.outcome.macros.items ≡ map left_macro end.macros → AreEdges end.content answer.outcome.edges.items → AreTargets end.targets (map shown_targets answer.outcome.targets.items) → answer.outcome.limit_met ≡ limit_met
     → IsFinished end limit_met answer
-finished end limit_met answer m1 m imports1 imports said1 diagnostics first second all marks1 marks left1 left reports1 reports marking content local said lefts macros edges targets limit = record {
-  map = λ none. marking ∙ marks ∙ ap (marked_each (unresolved_in second)) marks1 ∙ sym (marked_each-append (unresolved_in first) (unresolved_in second) end.map) ∙ ap (λ ps. marked_each ps end.map) (sym both)
-      ∙ marked_together (unresolved_imports end.imports) end.map none;
+finished end limit_met answer m imports diagnostics marks left reports marking content local said lefts macros edges targets limit = record {
+  map = λ none. marking ∙ marks ∙ marked_together (unresolved_imports end.imports) end.map none;
   content = content;
   local = local;
   outcome = record {
-    imports = lefts ∙ left ∙ ap (λ l. l ++ map left_import (unresolved_in second)) left1 ∙ sym (map-append left_import (unresolved_in first) (unresolved_in second)) ∙ ap (map left_import) (sym both);
+    imports = lefts ∙ left;
     macros = macros;
     edges = edges;
     targets = targets;
   };
   limit = limit;
-  reported =
-      said
-      ∙ reports
-      ∙ ap (λ l. l ++ flat_map (import_report end.missing_crates) (unresolved_in second)) reports1
-      ∙ append_assoc end.diagnostics (flat_map (import_report end.missing_crates) (unresolved_in first)) (flat_map (import_report end.missing_crates) (unresolved_in second))
-      ∙ ap (λ l. end.diagnostics ++ l) (sym (flat_map-append (import_report end.missing_crates) (unresolved_in first) (unresolved_in second)) ∙ ap (flat_map (import_report end.missing_crates)) (sym both));
+  reported = said ∙ reports;
 }
-  where
-    both : unresolved_imports end.imports ≡ unresolved_in first ++ unresolved_in second
-    both = ap unresolved_imports all ∙ unresolved-append (directives_in first) (directives_in second)

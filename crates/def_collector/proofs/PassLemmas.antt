@@ -1,6 +1,5 @@
 -- What a pass over a list of imports keeps.
-use Rattle.std.proofs.Common.{◌≡◌, ◌<◌, ◌≤◌, ◌+◌, ℕ, Bool, false, true, [], arith, refl, sym, subst, below_more, inl, inr}
-use Rattle.std.proofs.lemmas.Bool.{cases_lt}
+use Rattle.std.proofs.Common.{◌≡◌, ◌<◌, ◌+◌, ℕ, Bool, false, true, [], arith, refl, sym, subst, below_more}
 use Rattle.def_map.specs.Oracle.{Oracle}
 use Rattle.def_interner.specs.declared.interner.Interner.{Interner}
 use Rattle.def_collector.specs.declared.collector.DefCollector.{DefCollector}
@@ -14,7 +13,7 @@ use Rattle.def_laws.proofs.StepsLaws.{leads_refl, leads_trans}
 -- what holds once the first of a list of imports were tried
 pub record TriedSoFar (oracle : Oracle) (session : Interner) (list : ImportList) (old new : DefCollector) (moved : Bool) (count : ℕ) : Type 0 where
   pub leads : Leads oracle [] (state_of old session) [] (state_of new session)
-  pub unready : moved ≡ false → (index : ℕ) → index < count → IsUnready oracle session list old index
+  pub unready : moved ≡ false → (index : ℕ) → index < count → IsUnready oracle session old (record { list = list; index = index })
   pub same : moved ≡ false → new ≡ old
   pub fewer : moved ≡ true → turns_left (state_of new session) < turns_left (state_of old session)
 
@@ -25,19 +24,6 @@ module _ (oracle : Oracle) (session : Interner) (list : ImportList) where
     unready = λ _ index h. absurd (omega arith);
     same = λ _. refl;
     fewer = λ h. absurd cc;
-  }
-
-  -- places were passed over, whose imports are not ready
-  pub tried_passed : (old now : DefCollector) (moved : Bool) (count next : ℕ) → TriedSoFar oracle session list old now moved count
-      → ((index : ℕ) → count ≤ index → index < next → IsUnready oracle session list now index) → TriedSoFar oracle session list old now moved next
-  tried_passed old now moved count next tried passed = record {
-    leads = tried.leads;
-    unready = λ h index before. elim (cases_lt index count) [
-      | inl earlier ↦ tried.unready h index earlier
-      | inr later ↦ subst (λ c. IsUnready oracle session list c index) (tried.same h) (passed index later before)
-    ];
-    same = tried.same;
-    fewer = tried.fewer;
   }
 
   fewer_than_before : (old now next : DefCollector) (moved : Bool) (count : ℕ) → TriedSoFar oracle session list old now moved count
@@ -55,10 +41,10 @@ module _ (oracle : Oracle) (session : Interner) (list : ImportList) where
   }
 
   pub tried_unready : (old now next : DefCollector) (moved : Bool) (count : ℕ) → TriedSoFar oracle session list old now moved count
-      → next ≡ now → IsUnready oracle session list now count → TriedSoFar oracle session list old next moved (count + 1)
+      → next ≡ now → IsUnready oracle session now (record { list = list; index = count }) → TriedSoFar oracle session list old next moved (count + 1)
   tried_unready old now next moved count tried same stays = subst (λ c. TriedSoFar oracle session list old c moved (count + 1)) (sym same) (record {
     leads = tried.leads;
-    unready = λ h. below_more (IsUnready oracle session list old) count (tried.unready h) (subst (λ c. IsUnready oracle session list c count) (tried.same h) stays);
+    unready = λ h. below_more (λ index. IsUnready oracle session old (record { list = list; index = index })) count (tried.unready h) (subst (λ c. IsUnready oracle session c (record { list = list; index = count })) (tried.same h) stays);
     same = tried.same;
     fewer = tried.fewer;
   })

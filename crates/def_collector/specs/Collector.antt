@@ -1,5 +1,5 @@
 -- What the collector's parts stand for.
-use Rattle.std.specs.Prelude.{◌++◌, Vec, map, option_map}
+use Rattle.std.specs.Prelude.{Vec, map, option_map}
 use Rattle.std.specs.declared.alloc.Global.{Global}
 use Rattle.def_interner.specs.declared.interner.Interner.{Interner}
 use Rattle.def_ids.specs.Equality.{glob_eq}
@@ -19,7 +19,7 @@ use Rattle.def_crates.specs.declared.missing_crates.MissingCrates.{MissingCrates
 use Rattle.def_modules.specs.declared.local_def_map.LocalDefMap.{LocalDefMap}
 use Rattle.def_rules.specs.declared.diagnostics.DefDiagnostic.{DefDiagnostic}
 use Rattle.def_modules.specs.declared.map.MapData.{MapData}
-use Rattle.def_steps.specs.ImportLists.{directives_in}
+use Rattle.def_steps.specs.ImportLists.{pending}
 use Rattle.indexmap.specs.IndexMap.{get}
 use Rattle.def_rules.specs.State.{State}
 
@@ -37,7 +37,7 @@ state_of c session =
       deps = local_view c.deps;
       missing_crates = missing_in c.missing_crates;
       directories = directories_of c.mod_dirs;
-      imports = directives_in c.unresolved_imports.items ++ directives_in c.indeterminate_imports.items;
+      imports = pending c.imports;
       skipped = skipped_of c.item_attrs;
       active = active_of c.item_attrs;
       deferred = deferrals_of c.deferred_builtin_derives;

@@ -1,7 +1,6 @@
 pub mod Collector
 pub mod Constructors
 pub mod Passes
-pub mod Places
 pub mod Setting
 pub mod Walk
 pub use Rattle.def_rules.specs.Globs

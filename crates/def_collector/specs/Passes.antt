@@ -1,5 +1,5 @@
 -- What the items of a walk wait for, and what turns of imports and macros leave.
-use Rattle.std.specs.Prelude.{◌≡◌, ◌≢◌, ◌<◌, ℕ, Bool, true, false, All, List, [], ◌∷◌, ◌++◌, Option, Some, slice_get}
+use Rattle.std.specs.Prelude.{◌≡◌, ◌≢◌, ◌<◌, Bool, true, false, All, List, [], ◌∷◌, ◌++◌, Option, Some}
 use Rattle.item_tree.specs.declared.attrs.Attr.{Attr}
 use Rattle.tree_ids.specs.declared.ids.AttrId.{AttrId}
 use Rattle.tree_ids.specs.declared.ids.ModItemId.{ModItemId}
@@ -18,18 +18,14 @@ use Rattle.def_laws.specs.Runs.{Collects, InTurns, Leads}
 use Rattle.def_collector.specs.declared.collector.DefCollector.{DefCollector}
 use Rattle.def_collector.specs.Collector.{state_of}
 use Rattle.def_steps.specs.declared.directive.ImportDirective.{ImportDirective}
-use Rattle.def_steps.specs.declared.import_lists.ImportList.{ImportList}
-use Rattle.def_steps.specs.ImportLists.{entries_in}
+use Rattle.def_steps.specs.declared.import_lists.ImportAt.{ImportAt}
+use Rattle.def_steps.specs.ImportLists.{import_at}
 use Rattle.def_steps.specs.Shown.{import_of, ns_set}
 
--- the entries of one of a collector's two lists
-abbrev pub entries_of : ImportList → DefCollector → List (Option ImportDirective)
-entries_of list c = entries_in list c.unresolved_imports.items c.indeterminate_imports.items
-
--- the import at this place of a list, if one is there, is not ready
-abbrev pub IsUnready : Oracle → Interner → ImportList → DefCollector → ℕ → Type 0
-IsUnready oracle session list c index =
-    (d : ImportDirective) → slice_get (entries_of list c) index ≡ Some (Some d) → is_ready (ns_set d.recorded) (answer_now oracle (state_of c session) (import_of d.import)) ≡ false
+-- the import at a place of a list, if one stands there, is not ready
+abbrev pub IsUnready : Oracle → Interner → DefCollector → ImportAt → Type 0
+IsUnready oracle session c at =
+    (d : ImportDirective) → import_at c.imports at ≡ Some d → is_ready (ns_set d.recorded) (answer_now oracle (state_of c session) (import_of d.import)) ≡ false
 
 -- an item waits for the macro of an attribute
 pub record Awaits (oracle : Oracle) (s : State) (site : Site) (id : ModItemId) (item : ItemNode) (t : State) : Type 0 where

@@ -17,7 +17,7 @@ use def_ids::{Def, GlobId};
 use def_map::{LocalDefMap, MapData, Table};
 use def_parts::{Globs, ModDirs};
 use def_rules::DefDiagnostic;
-use def_steps::ImportDirective;
+use def_steps::PendingImports;
 use indexmap::IndexMap;
 use item_tree::Seq;
 use std::alloc::Global;
@@ -41,11 +41,8 @@ pub struct DefCollector<'a> {
     /// The extern crates that were not found.
     pub missing_crates: MissingCrates,
     pub mod_dirs: ModDirs,
-    /// Imports of which nothing is recorded so far. One that was recorded leaves `None`.
-    pub unresolved_imports: Vec<Option<ImportDirective<'a>>>,
-    /// Imports that were recorded, and that may give more namespaces, in the order in which they
-    /// came here. One that left leaves `None`.
-    pub indeterminate_imports: Vec<Option<ImportDirective<'a>>>,
+    /// The imports of which nothing is recorded so far, and those that may give more namespaces.
+    pub imports: PendingImports<'a>,
     pub item_attrs: ItemAttrs,
     /// Builtin derives that are not expanded, until their items are handled or replaced.
     pub deferred_builtin_derives: DeferredDerives,
@@ -69,8 +66,7 @@ impl Drop for DefCollector<'_> {
             deps: _,
             missing_crates: _,
             mod_dirs: _,
-            unresolved_imports: _,
-            indeterminate_imports: _,
+            imports: _,
             item_attrs: _,
             deferred_builtin_derives: _,
             unresolved_macros: _,

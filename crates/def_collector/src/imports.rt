@@ -1,10 +1,11 @@
 //! Imports: each pass records those that are ready.
-ghost use Rattle.std.specs.Prelude.{◌≡◌, ◌<◌, [], ℕ, true, false, Some, None, length, slice_get, IfOk, OnOk};
+ghost use Rattle.std.specs.Prelude.{◌≡◌, ◌<◌, [], ℕ, true, false, Some, IfOk, OnOk};
 ghost use Rattle.def_map.specs.PathAnswer.{whole};
 ghost use Rattle.def_interner.specs.declared.interner.Interner.{Interner};
 ghost use Rattle.def_collector.specs.Collector.{state_of};
-ghost use Rattle.def_collector.specs.Passes.{IsUnready, entries_of};
-ghost use Rattle.def_steps.specs.declared.import_lists.ImportList.TheVariants.{Unresolved};
+ghost use Rattle.def_collector.specs.Passes.{IsUnready};
+ghost use Rattle.def_steps.specs.declared.directive.ImportDirective.{ImportDirective};
+ghost use Rattle.def_steps.specs.ImportLists.{import_at};
 ghost use Rattle.def_steps.specs.Shown.{import_of};
 ghost use Rattle.def_laws.specs.Turns.{Moves, turns_left};
 ghost use Rattle.def_laws.specs.Performs.{Performs};
@@ -14,13 +15,10 @@ ghost use Rattle.def_laws.specs.Runs.{Leads};
 
 use crate::collector::DefCollector;
 use crate::globs::record_glob;
-use def_imports::{Glance, ImportAt, glance_at, record_named, resolve_import};
+use def_imports::{Glance, glance_at, record_named, resolve_import};
 use def_interner::Interner;
 use def_map::{PathAnswer, SourceDatabase};
-use def_steps::{
-    Import, ImportDirective, ImportList, drop_left, is_ready, kept_after, new_prelude, next_tried,
-    retire,
-};
+use def_steps::{Import, ImportAt, ImportList, is_ready, kept_after, new_prelude};
 use item_tree::ImportKind;
 use std::alloc::AllocError;
 
@@ -39,29 +37,14 @@ pub fn resolve_imports<'a, D: SourceDatabase>(
     ensures fewer { IfOk result (λ moved. moved ≡ true → turns_left (state_of collector.new session.now) < turns_left (state_of collector.old session.now)) }
 {
     let unresolved = try_imports(collector, db, session, ImportList::Unresolved)?;
-    let waits = is_one_unresolved(collector);
     let indeterminate = try_imports(collector, db, session, ImportList::Indeterminate)?;
-    if indeterminate {
-        drop_resolved(collector);
-        return Ok(true);
-    }
-    if unresolved {
-        // Where none is unresolved, all that wait were tried after the last that was recorded.
-        drop_resolved(collector);
-        return Ok(waits);
-    }
-    Ok(false)
+    // Where none is unresolved, all that wait were tried after the last that was recorded.
+    let waiting = collector.imports.places(ImportList::Unresolved);
+    Ok(indeterminate || (unresolved && waiting > 0))
 }
 
-/// Whether an import is unresolved.
-fn is_one_unresolved<'a>(collector: &DefCollector<'a>) -> bool
-    ensures { result ≡ false → (index : ℕ) → index < length (entries_of Unresolved collector.now) →
-        slice_get (entries_of Unresolved collector.now) index ≡ Some None }
-{
-    next_tried(entries(collector, ImportList::Unresolved), 0).is_some()
-}
-
-/// Tries each import of a list in order. Answers whether one was recorded.
+/// Tries each import of a list in order, and drops from it what stands there no longer. Answers whether
+/// one was recorded.
 fn try_imports<'a, D: SourceDatabase>(
     collector: &mut DefCollector<'a>,
     db: &D,
@@ -73,16 +56,17 @@ fn try_imports<'a, D: SourceDatabase>(
     ensures fewer { IfOk result (λ moved. moved ≡ true →
         turns_left (state_of collector.new session.now) < turns_left (state_of collector.old session.now)) }
     ensures unready { IfOk result (λ moved. moved ≡ false → (index : ℕ) →
-        IsUnready (D.oracle db.now) session.now list collector.old index) }
+        IsUnready (D.oracle db.now) session.now collector.old (record { list = list; index = index })) }
     ensures same { IfOk result (λ moved. moved ≡ false → collector.new ≡ collector.old) }
 {
     let mut moved = false;
-    let mut from = 0;
-    'tried: while let Some(i) = next_tried(entries(collector, list), from) {
-        if try_import(collector, db, session, ImportAt { list, index: i })? {
+    'tried: for index in 0..collector.imports.places(list) {
+        if try_import(collector, db, session, ImportAt { list, index })? {
             moved = true;
         }
-        from = i + 1;
+    }
+    if moved {
+        collector.imports.drop_left(list);
     }
     Ok(moved)
 }
@@ -92,27 +76,26 @@ pub fn try_import<'a, D: SourceDatabase>(
     collector: &mut DefCollector<'a>,
     db: &D,
     session: &Interner,
-    import: ImportAt,
+    at: ImportAt,
 ) -> Result<bool, AllocError>
-    requires { import.index < length (entries_of import.list collector.old) }
-    ensures len { OnOk result (length (entries_of import.list collector.new) ≡ length (entries_of import.list collector.old)) }
     ensures moved { IfOk result (λ moved. moved ≡ true →
         Moves (D.oracle db.now) (state_of collector.old session.now) (state_of collector.new session.now)) }
     ensures unready { IfOk result (λ moved. moved ≡ false →
-        IsUnready (D.oracle db.now) session.now import.list collector.old import.index) }
+        IsUnready (D.oracle db.now) session.now collector.old at) }
     ensures same { IfOk result (λ moved. moved ≡ false → collector.new ≡ collector.old) }
 {
-    let Some(directive) = entries(collector, import.list)[import.index] else {
+    let Some(directive) = collector.imports.at(at) else {
         return Ok(false);
     };
-    match &glance_at(&collector.world(db, session), &directive) {
-        Glance::Unready => Ok(false),
-        Glance::Lone(ns, item) => {
-            let answer = PathAnswer::Lone(*ns, item);
-            record_ready(collector, db, session, import, &directive, &answer)
-        }
-        Glance::Unseen => try_whole(collector, db, session, import, &directive),
-    }
+    let (ns, item) = match glance_at(&collector.world(db, session), directive) {
+        Glance::Unready => return Ok(false),
+        Glance::Lone(ns, found) => match found.binding(ns) {
+            Some(item) => (ns, item),
+            None => return Ok(false),
+        },
+        Glance::Unseen => return try_whole(collector, db, session, at),
+    };
+    record_ready(collector, db, session, at, &PathAnswer::Lone(ns, &item))
 }
 
 /// Records an import with all that its path gives, if it is ready. Answers whether it was. It stands
@@ -123,82 +106,52 @@ fn try_whole<'a, D: SourceDatabase>(
     db: &D,
     session: &Interner,
     at: ImportAt,
-    directive: &ImportDirective<'a>,
 ) -> Result<bool, AllocError>
-    requires within { at.index < length (entries_of at.list collector.old) }
-    requires there { slice_get (entries_of at.list collector.old) at.index ≡ Some (Some directive.now) }
-    ensures len { OnOk result (length (entries_of at.list collector.new) ≡ length (entries_of at.list collector.old)) }
     ensures moved { IfOk result (λ moved. moved ≡ true →
         Moves (D.oracle db.now) (state_of collector.old session.now) (state_of collector.new session.now)) }
     ensures unready { IfOk result (λ moved. moved ≡ false →
-        IsUnready (D.oracle db.now) session.now at.list collector.old at.index) }
+        IsUnready (D.oracle db.now) session.now collector.old at) }
     ensures same { IfOk result (λ moved. moved ≡ false → collector.new ≡ collector.old) }
 {
+    let Some(directive) = collector.imports.at(at) else {
+        return Ok(false);
+    };
     let answer = resolve_import(&collector.world(db, session), &directive.import);
-    record_ready(
-        collector,
-        db,
-        session,
-        at,
-        directive,
-        &PathAnswer::Whole(&answer),
-    )
+    record_ready(collector, db, session, at, &PathAnswer::Whole(&answer))
 }
 
 /// Records an import with what its path gives, if it is ready with that. Answers whether it was.
-#[inline(always)]
+#[inline(never)]
 fn record_ready<'a, D: SourceDatabase>(
     collector: &mut DefCollector<'a>,
     db: &D,
     session: &Interner,
     at: ImportAt,
-    directive: &ImportDirective<'a>,
     answer: &PathAnswer,
 ) -> Result<bool, AllocError>
-    requires within { at.index < length (entries_of at.list collector.old) }
-    requires there { slice_get (entries_of at.list collector.old) at.index ≡ Some (Some directive.now) }
-    requires given { whole answer.now
-        ≡ answer_now (D.oracle db.now) (state_of collector.old session.now) (import_of directive.now.import) }
-    ensures len { OnOk result (length (entries_of at.list collector.new) ≡ length (entries_of at.list collector.old)) }
+    requires { (d : ImportDirective) → import_at collector.old.imports at ≡ Some d →
+        whole answer.now ≡ answer_now (D.oracle db.now) (state_of collector.old session.now) (import_of d.import) }
     ensures moved { IfOk result (λ moved. moved ≡ true →
         Moves (D.oracle db.now) (state_of collector.old session.now) (state_of collector.new session.now)) }
     ensures unready { IfOk result (λ moved. moved ≡ false →
-        IsUnready (D.oracle db.now) session.now at.list collector.old at.index) }
+        IsUnready (D.oracle db.now) session.now collector.old at) }
     ensures same { IfOk result (λ moved. moved ≡ false → collector.new ≡ collector.old) }
 {
+    let Some(directive) = collector.imports.at(at) else {
+        return Ok(false);
+    };
     if !is_ready(directive.recorded, answer) {
         return Ok(false);
     }
+    let import = directive.import;
     let kept = kept_after(directive.recorded, answer);
-    let unresolved = &mut collector.unresolved_imports;
-    let indeterminate = &mut collector.indeterminate_imports;
-    retire(
-        unresolved,
-        indeterminate,
-        at.list,
-        at.index,
-        &directive.import,
-        kept,
-    )?;
-    record_resolved_import(collector, db, session, &directive.import, answer)?;
+    collector.imports.retire(at, kept)?;
+    record_resolved_import(collector, db, session, &import, answer)?;
     Ok(true)
 }
 
-/// The entries of one of the two lists.
-pub fn entries<'b, 'a>(
-    collector: &'b DefCollector<'a>,
-    list: ImportList,
-) -> &'b [Option<ImportDirective<'a>>]
-    ensures { result.now ≡ entries_of list collector.now }
-{
-    match list {
-        ImportList::Unresolved => collector.unresolved_imports.as_slice(),
-        ImportList::Indeterminate => collector.indeterminate_imports.as_slice(),
-    }
-}
-
 /// Records an import with what its path gives, by its kind. On `Err` nothing but safety is promised.
-#[inline(never)]
+#[inline(always)]
 fn record_resolved_import<'a, D: SourceDatabase>(
     collector: &mut DefCollector<'a>,
     db: &D,
@@ -227,12 +180,4 @@ fn record_resolved_import<'a, D: SourceDatabase>(
             None => record_glob(collector, db, session, import, answer),
         },
     }
-}
-
-/// Drops the entries that imports left behind.
-pub fn drop_resolved<'a>(collector: &mut DefCollector<'a>)
-    ensures { (session : Interner) → state_of collector.new session ≡ state_of collector.old session }
-{
-    drop_left(&mut collector.unresolved_imports);
-    drop_left(&mut collector.indeterminate_imports);
 }

@@ -10,6 +10,7 @@ use crate::wakes::record_woken;
 use def_interner::Interner;
 use def_map::SourceDatabase;
 use def_rounds::Passes;
+use def_steps::ImportList;
 use std::alloc::AllocError;
 
 /// A run: what is known so far, and the database that is asked.
@@ -50,13 +51,14 @@ impl<'a, D: SourceDatabase> Passes for Run<'a, D> {
     ghost state = { λ run session. state_of run.collector session };
 
     fn resolve_imports(&mut self, session: &Interner) -> Result<bool, AllocError> {
-        self.waited = self.collector.unresolved_imports.len();
+        self.waited = self.collector.imports.places(ImportList::Unresolved);
         resolve_imports(&mut self.collector, self.db, session)
     }
 
     fn is_slow(&self) -> bool {
-        let waits = self.collector.unresolved_imports.len();
-        self.waited / 2 < waits && self.collector.indeterminate_imports.len() / 4 < waits
+        let imports = &self.collector.imports;
+        let waits = imports.places(ImportList::Unresolved);
+        self.waited / 2 < waits && imports.places(ImportList::Indeterminate) / 4 < waits
     }
 
     fn record_woken(&mut self, session: &Interner) -> Result<(), AllocError> {

@@ -38,6 +38,7 @@ use def_items::{ItemList, disabled_by, report_disabled, top_items};
 use def_map::{DefMap, LocalDefMap, SourceDatabase};
 use def_parts::{Globs, ModDir, ModDirs, Site};
 use def_rounds::resolution_loop;
+use def_steps::PendingImports;
 use indexmap::IndexMap;
 use item_tree::{HirFileId, ItemTree, TreeId};
 use std::alloc::{AllocError, Global};
@@ -112,8 +113,7 @@ fn begin<'a, D: SourceDatabase>(
         deps: LocalDefMap::new(alloc),
         missing_crates: MissingCrates::new(alloc),
         mod_dirs: ModDirs::new(alloc),
-        unresolved_imports: Vec::new(alloc),
-        indeterminate_imports: Vec::new(alloc),
+        imports: PendingImports::new(alloc),
         item_attrs: ItemAttrs::new(alloc),
         deferred_builtin_derives: DeferredDerives::new(alloc),
         unresolved_macros: VecDeque::new(alloc),
@@ -137,8 +137,7 @@ fn make_room<'a>(collector: &mut DefCollector<'a>, room: Room) -> Result<(), All
     collector.table.expect_names(root, room.root_items);
     collector.def_map.reserve(room.modules)?;
     collector.def_map.expect_items(0, room.root_items);
-    collector.unresolved_imports.reserve(room.imports)?;
-    collector.indeterminate_imports.reserve(room.imports)
+    collector.imports.reserve(room.imports)
 }
 
 /// The room that a run begins with, by its first tree.

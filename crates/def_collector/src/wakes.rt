@@ -1,18 +1,18 @@
 //! Imports that wake: each is tried again only where a name changed that its path reads, in the order
 //! in which passes over all of them try them.
-ghost use Rattle.std.specs.Prelude.{◌≡◌, ◌≤◌, ◌<◌, [], false, true, is_some, length, option_copied, IfOk, IfSome, OnOk};
-ghost use Rattle.def_collector.specs.Places.{import_there};
+ghost use Rattle.std.specs.Prelude.{◌≡◌, ◌≤◌, [], false, true, is_some, IfOk, OnOk};
 ghost use Rattle.def_collector.specs.Collector.{state_of};
-ghost use Rattle.def_collector.specs.Passes.{IsUnready, entries_of};
+ghost use Rattle.def_collector.specs.Passes.{IsUnready};
+ghost use Rattle.def_steps.specs.ImportLists.{import_at};
 ghost use Rattle.def_laws.specs.Runs.{Leads};
 ghost use Rattle.def_laws.specs.Turns.{Moves, turns_left};
 
 use crate::collector::DefCollector;
-use crate::imports::{drop_resolved, entries, try_import};
-use def_imports::{ImportAt, Waking, Watchers};
+use crate::imports::try_import;
+use def_imports::{Waking, Watchers};
 use def_interner::Interner;
 use def_map::SourceDatabase;
-use def_steps::{ImportDirective, ImportList};
+use def_steps::{ImportAt, ImportList, PendingImports};
 use std::alloc::AllocError;
 
 /// Records imports until none wakes: each is tried once, and again where a name changed that its path
@@ -28,13 +28,14 @@ pub fn record_woken<'a, D: SourceDatabase>(
 {
     let mut waking = Waking::new(
         collector.alloc,
-        collector.unresolved_imports.len(),
-        collector.indeterminate_imports.len(),
+        collector.imports.places(ImportList::Unresolved),
+        collector.imports.places(ImportList::Indeterminate),
     )?;
     collector.table.watch();
     'woken: while record_next(collector, db, session, &mut waking)? {}
     collector.table.unwatch();
-    drop_resolved(collector);
+    collector.imports.drop_left(ImportList::Unresolved);
+    collector.imports.drop_left(ImportList::Indeterminate);
     Ok(())
 }
 
@@ -56,8 +57,8 @@ fn record_next<'a, D: SourceDatabase>(
             waking.wake_changed(&mut collector.table)?;
             if collector.def_map.prelude != prelude {
                 waking.wake_all(
-                    collector.unresolved_imports.len(),
-                    collector.indeterminate_imports.len(),
+                    collector.imports.places(ImportList::Unresolved),
+                    collector.imports.places(ImportList::Indeterminate),
                 )?;
             }
             return Ok(true);
@@ -78,15 +79,15 @@ fn try_woken<'a, D: SourceDatabase>(
     ensures moved { IfOk result (λ moved. moved ≡ true →
         Moves (D.oracle db.now) (state_of collector.old session.now) (state_of collector.new session.now)) }
     ensures unready { IfOk result (λ moved. moved ≡ false →
-        IsUnready (D.oracle db.now) session.now import.list collector.old import.index) }
+        IsUnready (D.oracle db.now) session.now collector.old import) }
     ensures same { IfOk result (λ moved. moved ≡ false → collector.new ≡ collector.old) }
 {
     if !read_names(collector, db, session, watchers, import)? {
         return Ok(false);
     }
-    let count = collector.indeterminate_imports.len();
+    let count = collector.imports.places(ImportList::Indeterminate);
     let moved = try_import(collector, db, session, import)?;
-    if let Some(kept) = kept_at(collector, import, moved, count) {
+    if let Some(kept) = kept_at(&collector.imports, import, moved, count) {
         watchers.watch(kept)?;
     }
     Ok(moved)
@@ -100,34 +101,19 @@ fn read_names<D: SourceDatabase>(
     watchers: &mut Watchers,
     import: ImportAt,
 ) -> Result<bool, AllocError>
-    ensures there { IfOk result (λ there. there ≡ is_some (import_there import collector.now)) }
-    ensures within { IfOk result (λ there. there ≡ true → import.index < length (entries_of import.list collector.now)) }
+    ensures { IfOk result (λ there. there ≡ is_some (import_at collector.now.imports import)) }
 {
-    let Some(directive) = import_at(collector, import) else {
+    let Some(directive) = collector.imports.at(import) else {
         return Ok(false);
     };
     watchers.read(&collector.world(db, session), &directive.import)?;
     Ok(true)
 }
 
-/// The import at a place, if one is there.
-fn import_at<'b, 'a>(
-    collector: &'b DefCollector<'a>,
-    import: ImportAt,
-) -> Option<&'b ImportDirective<'a>>
-    ensures there { option_copied result ≡ import_there import collector.now }
-    ensures within { IfSome result (λ directive. import.index < length (entries_of import.list collector.now)) }
-{
-    match entries(collector, import.list).get(import.index) {
-        Some(there) => there.as_ref(),
-        None => None,
-    }
-}
-
 /// Where an import stands that was tried, if something of it may still be recorded: where it stood if
 /// nothing was, and else behind the ones that were indeterminate before, or in its place among them.
 fn kept_at(
-    collector: &DefCollector,
+    imports: &PendingImports,
     import: ImportAt,
     moved: bool,
     count: usize,
@@ -139,7 +125,7 @@ fn kept_at(
         },
         _ => import,
     };
-    if import_at(collector, kept).is_some() {
+    if imports.at(kept).is_some() {
         Some(kept)
     } else {
         None

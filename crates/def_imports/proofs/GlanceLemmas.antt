@@ -24,6 +24,22 @@ module _ (recorded : NsSet) where
       none-more (not (is_missing (reached (per_namespace there) None false))) (is_extended recorded (given_set (per_namespace there)))
       (ap (λ f. is_extended recorded (given_set (per_namespace f))) (sym same) ∙ ap (is_extended recorded) (sym gives) ∙ sym asks ∙ none)
 
+-- a name that stands in one namespace, and not there, stands nowhere
+nowhere : (found : Namespace → Option Item) (ns : Namespace) → ((n : Namespace) → is_namespace ns n ≡ false → found n ≡ None) → None ≡ found ns → (n : Namespace) → None ≡ found n
+nowhere found Types none is Types = is
+nowhere found Types none is Values = sym (none Values refl)
+nowhere found Types none is Macros = sym (none Macros refl)
+nowhere found Values none is Types = sym (none Types refl)
+nowhere found Values none is Values = is
+nowhere found Values none is Macros = sym (none Macros refl)
+nowhere found Macros none is Types = sym (none Types refl)
+nowhere found Macros none is Values = sym (none Values refl)
+nowhere found Macros none is Macros = is
+
+-- so an import that leads to it is not ready
+pub nowhere-unready : (recorded : NsSet) (found : Namespace → Option Item) (ns : Namespace) → ((n : Namespace) → is_namespace ns n ≡ false → found n ≡ None) → None ≡ found ns → is_ready recorded (reached (per_namespace found) None false) ≡ false
+nowhere-unready recorded found ns none is = nothing-unready recorded found (λ i n. nowhere found ns none is n i)
+
 -- a name that stands in one namespace gives what it is there
 pub given-alone : (found : Namespace → Option Item) (ns : Namespace) (item : Item) → ((n : Namespace) → is_namespace ns n ≡ false → found n ≡ None) → Some item ≡ found ns → per_namespace found ≡ alone ns item
 given-alone found Types item none is = λ i. record { types = sym is i; values = none Values refl i; macros = none Macros refl i }

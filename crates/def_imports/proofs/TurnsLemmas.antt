@@ -5,7 +5,7 @@ use Rattle.std.specs.BTreeSet.{insert_key}
 use Rattle.std.specs.declared.cmp.Ordering.TheVariants.{Equal, Greater}
 use Rattle.std.specs.Ordering.{bool_cmp, nat_cmp, ordering_then}
 use Rattle.def_imports.specs.declared.coming.Sweep.{Sweep}
-use Rattle.def_imports.specs.declared.turns.ImportAt.{ImportAt}
+use Rattle.def_steps.specs.declared.import_lists.ImportAt.{ImportAt}
 use Rattle.def_imports.specs.declared.turns.Turn.{Turn}
 use Rattle.def_imports.specs.Sweeps.{GoesOnAfter, IsLeft, first_turn, place_of, swept, swept_turns}
 use Rattle.def_imports.specs.Turns.{WakesAfter, is_indeterminate, turn_order}

@@ -3,9 +3,9 @@ use Rattle.std.specs.Prelude.{◌≡◌, ℕ, ◌+◌, ◌<◌, ◌^◌, Bool, t
 use Rattle.std.specs.BTreeSet.{insert_key}
 use Rattle.std.specs.declared.cmp.Ordering.{Ordering}
 use Rattle.std.specs.Ordering.{bool_cmp, nat_cmp, ordering_then}
+use Rattle.def_steps.specs.declared.import_lists.ImportAt.{ImportAt}
 use Rattle.def_steps.specs.declared.import_lists.ImportList.{ImportList}
 use Rattle.def_steps.specs.declared.import_lists.ImportList.TheVariants.{Unresolved, Indeterminate}
-use Rattle.def_imports.specs.declared.turns.ImportAt.{ImportAt}
 use Rattle.def_imports.specs.declared.turns.Turn.{Turn}
 use Rattle.def_imports.specs.declared.coming.Turns.{Turns}
 use Rattle.def_imports.specs.Sweeps.{swept}

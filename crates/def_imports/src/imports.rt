@@ -15,19 +15,19 @@ use def_bindings::{Entry, Namespace, Visibility};
 use def_globs::Globs;
 use def_items::put;
 use def_map::{
-    Asked, Item, MapData, PathAnswer, ResolvePathResult, SourceDatabase, Table, World,
+    Asked, FoundName, MapData, PathAnswer, ResolvePathResult, SourceDatabase, Table, World,
     resolve_path_fp_with_macro, resolve_path_scope,
 };
 use def_steps::{Import, ImportDirective, NamespaceSet, import_name, lone_given, named_entries};
 use std::alloc::{AllocError, Global};
 
 /// What is seen at once of what an import gives.
-#[derive(Clone, Copy)]
-pub enum Glance {
+#[derive(Drop)]
+pub enum Glance<'a> {
     /// It is not ready: it gives nothing, or nothing in a namespace that it was not recorded from.
     Unready,
-    /// It gives one item, in this namespace.
-    Lone(Namespace, Item),
+    /// It gives what this name stands for, which is in this namespace alone.
+    Lone(Namespace, FoundName<'a>),
     /// Nothing is seen at once.
     Unseen,
 }
@@ -36,10 +36,10 @@ pub enum Glance {
 /// their crate to a name that stands in one namespace alone, and most imports that were recorded give
 /// nothing more: of those the namespace is read, and nothing else.
 #[inline(always)]
-pub fn glance_at<D: SourceDatabase>(
-    world: &World<'_, D, Table>,
+pub fn glance_at<'a, D: SourceDatabase>(
+    world: &World<'a, D, Table>,
     directive: &ImportDirective,
-) -> Glance
+) -> Glance<'a>
     ensures { let import = directive.now.import in
         Shows (ns_set directive.now.recorded)
         (resolve (world_lent D.oracle bound_by world.now) for_import import.module_id import.written.now.path)
@@ -58,11 +58,8 @@ pub fn glance_at<D: SourceDatabase>(
     if !directive.recorded.is_extended_by(given) {
         return Glance::Unready;
     }
-    let Some(ns) = found.lone_ns() else {
-        return Glance::Unseen;
-    };
-    match found.binding(ns) {
-        Some(item) => Glance::Lone(ns, item),
+    match found.lone_ns() {
+        Some(ns) => Glance::Lone(ns, found),
         None => Glance::Unseen,
     }
 }

@@ -19,7 +19,6 @@ pub use globs::{glob_entries, put_glob};
 pub use imports::{Glance, glance_at, record_named, resolve_import};
 pub use prelude::prelude_module;
 pub use room::Room;
-pub use turns::ImportAt;
 pub use visibility::visibility_in;
 pub use waking::Waking;
 pub use watchers::Watchers;

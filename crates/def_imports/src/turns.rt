@@ -3,16 +3,9 @@ ghost use Rattle.std.specs.Prelude.{◌≡◌, ◌<◌, IfNone, IfSome, OnOk};
 ghost use Rattle.def_imports.specs.Turns.{WakesAfter, is_behind, is_indeterminate};
 
 use crate::coming::{Sweep, Turns};
-use def_steps::ImportList;
+use def_steps::{ImportAt, ImportList};
 use std::alloc::{AllocError, Global};
 use std::collections::BTreeSet;
-
-/// An import, by its list and its place there.
-#[derive(Clone, Copy)]
-pub struct ImportAt {
-    pub list: ImportList,
-    pub index: usize,
-}
 
 /// A turn of an import. Turns come in this order: pass by pass, those that are unresolved first, and
 /// then by their places.

@@ -3,10 +3,9 @@ ghost use Rattle.std.specs.Prelude.{◌<◌};
 
 use crate::coming::Turns;
 use crate::reads::names_read;
-use crate::turns::ImportAt;
 use def_ids::ModuleId;
 use def_map::{SourceDatabase, Table, World};
-use def_steps::Import;
+use def_steps::{Import, ImportAt};
 use indexmap::IndexMap;
 use indexmap::map::Entry;
 use item_tree::Name;

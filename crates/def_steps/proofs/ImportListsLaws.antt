@@ -1,7 +1,7 @@
 -- Entries of a list whose places may be empty.
-use Rattle.std.proofs.Common.{append-nil, append_assoc, ◌≡◌, ◌<◌, ◌+◌, ℕ, zero, suc, List, [], ◌∷◌, ◌++◌, length, take, get_or, map, filter, filter_map, Option, Some, None, All, slice_get, slice_set, refl, sym, ap, subst, ◌∙◌, is_some, IsPermutation}
+use Rattle.std.proofs.Common.{append-nil, append_assoc, ◌≡◌, ◌<◌, ◌+◌, ℕ, zero, suc, List, [], ◌∷◌, ◌++◌, length, take, get_or, map, filter_map, Option, Some, None, All, slice_get, slice_set, refl, sym, ap, subst, ◌∙◌, IsPermutation}
 use Rattle.std.proofs.lemmas.List.{map-append, map_more}
-use Rattle.std.proofs.lemmas.List.Sorted.{IsPermutation-append_comm, IsPermutation-append_left, IsPermutation-append_right, IsPermutation-middle, IsPermutation-refl}
+use Rattle.std.proofs.lemmas.List.Sorted.{IsPermutation-append_comm, IsPermutation-append_right, IsPermutation-middle}
 use Rattle.std.proofs.lemmas.List.Elements.{filter_map-append, All-nil, All-cons}
 use Rattle.item_tree.specs.declared.items.UseImport.{UseImport}
 use Rattle.def_ids.specs.declared.ids.ModuleId.{ModuleId}
@@ -24,13 +24,6 @@ present_same xs = filter_map-append (λ entry. entry) xs (None ∷ []) ∙ appen
 pub present-nil : (A : Type 0) → present {A = A} [] ≡ []
 unfolding present
 present-nil A = refl
-
--- what is dropped was not there
-pub present-filter : {A : Type 0} (xs : List (Option A)) → present (filter (λ x. is_some x) xs) ≡ present xs
-unfolding present
-present-filter [] = refl
-present-filter (None ∷ xs) = present-filter xs
-present-filter (Some x ∷ xs) = ap (λ rest. x ∷ rest) (present-filter xs)
 
 -- where an entry stands, the others stand before and after it, whatever takes its place
 pub record Around {A : Type 0} (xs : List (Option A)) (i : ℕ) (x : A) : Type 0 where
@@ -90,11 +83,16 @@ appended_in before after more =
     (subst (IsPermutation (before ++ (after ++ more))) (sym (append_assoc before more after))
     (IsPermutation-append_right before (after ++ more) (more ++ after) (IsPermutation-append_comm after more)))
 
--- an import that leaves the unresolved ones
-pub retired_unresolved : (xs xs' ys ys' : List (Option ImportDirective)) (i : ℕ) (d : ImportDirective) (kept : List rules.ImportDirective) → slice_get xs i ≡ Some (Some d)
-    → xs' ≡ slice_set xs i None → directives_in ys' ≡ directives_in ys ++ kept
-    → IsRetired (directives_in xs ++ directives_in ys) (directive_of d) kept (directives_in xs' ++ directives_in ys')
-retired_unresolved xs xs' ys ys' i d kept here left more = record { rest = (before ++ after) ++ others; stands = stands; left = all }
+replaced : (ys : List (Option ImportDirective)) (i : ℕ) (d : ImportDirective) (w : Around ys i d) (entry : Option ImportDirective)
+    → directives_in (slice_set ys i entry) ≡ map directive_of w.before ++ (directives_kept entry ++ map directive_of w.after)
+replaced ys i d w None = ap (map directive_of) w.without ∙ map-append directive_of w.before w.after
+replaced ys i d w (Some next) = ap (map directive_of) (w.replaced next) ∙ map-append directive_of w.before (next ∷ w.after)
+
+-- an import that leaves, or stays in its place
+pub retired : (xs ys : List (Option ImportDirective)) (i : ℕ) (d : ImportDirective) (entry : Option ImportDirective) → slice_get xs i ≡ Some (Some d)
+    → ys ≡ slice_set xs i entry
+    → IsRetired (directives_in xs) (directive_of d) (directives_kept entry) (directives_in ys)
+retired xs ys i d entry here put = record { rest = before ++ after; stands = stands; left = all }
   where
     w : Around xs i d
     w = around xs i d here
@@ -105,53 +103,15 @@ retired_unresolved xs xs' ys ys' i d kept here left more = record { rest = (befo
     after : List rules.ImportDirective
     after = map directive_of w.after
 
-    others : List rules.ImportDirective
-    others = directives_in ys
-
-    stands : IsPermutation (directives_in xs ++ others) (directive_of d ∷ ((before ++ after) ++ others))
-    stands = subst (λ l. IsPermutation (l ++ others) (directive_of d ∷ ((before ++ after) ++ others))) (sym (ap (map directive_of) w.all ∙ map-append directive_of w.before (d ∷ w.after)))
-        (IsPermutation-append_left others (before ++ directive_of d ∷ after) (directive_of d ∷ (before ++ after)) (IsPermutation-middle before (directive_of d) after))
-
-    now : directives_in xs' ++ directives_in ys' ≡ ((before ++ after) ++ others) ++ kept
-    now = ap (λ l. directives_in l ++ directives_in ys') left
-        ∙ ap (λ l. l ++ directives_in ys') (ap (map directive_of) w.without ∙ map-append directive_of w.before w.after)
-        ∙ ap (λ l. (before ++ after) ++ l) more
-        ∙ sym (append_assoc (before ++ after) others kept)
-
-    all : IsPermutation (((before ++ after) ++ others) ++ kept) (directives_in xs' ++ directives_in ys')
-    all = subst (IsPermutation (((before ++ after) ++ others) ++ kept)) (sym now) (IsPermutation-refl (((before ++ after) ++ others) ++ kept))
-
-replaced : (ys : List (Option ImportDirective)) (i : ℕ) (d : ImportDirective) (w : Around ys i d) (entry : Option ImportDirective)
-    → directives_in (slice_set ys i entry) ≡ map directive_of w.before ++ (directives_kept entry ++ map directive_of w.after)
-replaced ys i d w None = ap (map directive_of) w.without ∙ map-append directive_of w.before w.after
-replaced ys i d w (Some next) = ap (map directive_of) (w.replaced next) ∙ map-append directive_of w.before (next ∷ w.after)
-
--- an import that leaves the indeterminate ones, or stays in its place
-pub retired_indeterminate : (xs ys ys' : List (Option ImportDirective)) (i : ℕ) (d : ImportDirective) (entry : Option ImportDirective) → slice_get ys i ≡ Some (Some d)
-    → ys' ≡ slice_set ys i entry
-    → IsRetired (directives_in xs ++ directives_in ys) (directive_of d) (directives_kept entry) (directives_in xs ++ directives_in ys')
-retired_indeterminate xs ys ys' i d entry here put = record { rest = before ++ after; stands = stands; left = all }
-  where
-    w : Around ys i d
-    w = around ys i d here
-
-    before : List rules.ImportDirective
-    before = directives_in xs ++ map directive_of w.before
-
-    after : List rules.ImportDirective
-    after = map directive_of w.after
-
-    stands : IsPermutation (directives_in xs ++ directives_in ys) (directive_of d ∷ (before ++ after))
+    stands : IsPermutation (directives_in xs) (directive_of d ∷ (before ++ after))
     stands =
-        subst (λ l. IsPermutation l (directive_of d ∷ (before ++ after)))
-        (append_assoc (directives_in xs) (map directive_of w.before) (directive_of d ∷ after) ∙ ap (λ l. directives_in xs ++ l) (sym (ap (map directive_of) w.all ∙ map-append directive_of w.before (d ∷ w.after))))
+        subst (λ l. IsPermutation l (directive_of d ∷ (before ++ after))) (sym (ap (map directive_of) w.all ∙ map-append directive_of w.before (d ∷ w.after)))
         (IsPermutation-middle before (directive_of d) after)
 
-    now : directives_in xs ++ directives_in ys' ≡ before ++ (directives_kept entry ++ after)
-    now = ap (λ l. directives_in xs ++ l) (ap directives_in put ∙ replaced ys i d w entry)
-        ∙ sym (append_assoc (directives_in xs) (map directive_of w.before) (directives_kept entry ++ after))
+    now : directives_in ys ≡ before ++ (directives_kept entry ++ after)
+    now = ap directives_in put ∙ replaced xs i d w entry
 
-    all : IsPermutation ((before ++ after) ++ directives_kept entry) (directives_in xs ++ directives_in ys')
+    all : IsPermutation ((before ++ after) ++ directives_kept entry) (directives_in ys)
     all =
         subst (IsPermutation ((before ++ after) ++ directives_kept entry)) (sym now)
         (subst (IsPermutation ((before ++ after) ++ directives_kept entry)) (append_assoc before (directives_kept entry) after) (appended_in before after (directives_kept entry)))

@@ -1,5 +1,5 @@
 -- What an import gives, where that is in types alone.
-use Rattle.std.proofs.Common.{◌≡◌, ◌&&◌, ◌∙◌, Bool, true, false, cond, List, [], ◌∷◌, ◌++◌, Option, None, Some, option_map, refl, sym, ap}
+use Rattle.std.proofs.Common.{◌≡◌, ◌&&◌, ◌∙◌, Bool, true, false, cond, [], ◌∷◌, ◌++◌, Option, None, Some, option_map, refl, sym, ap}
 use Rattle.std.specs.Prelude.{length, nat_lt}
 use Rattle.item_tree.specs.declared.mod_path.ModPath.{ModPath}
 use Rattle.tree_ids.specs.declared.name.Name.{Name}

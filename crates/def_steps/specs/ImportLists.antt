@@ -1,5 +1,5 @@
 -- Imports in lists whose places may be empty, and what the end of a run does with those that are unresolved.
-use Rattle.std.specs.Prelude.{List, [], ◌∷◌, ◌++◌, cond, map, filter_map, Option, Some, None, IsPermutation}
+use Rattle.std.specs.Prelude.{ℕ, List, [], ◌∷◌, ◌++◌, cond, map, filter_map, Option, Some, None, option_and_then, slice_get, IsPermutation}
 use Rattle.item_tree.specs.declared.items.UseImport.{UseImport}
 use Rattle.tree_ids.specs.declared.name.Name.{Name}
 use Rattle.def_ids.specs.declared.ids.ModuleId.{ModuleId}
@@ -9,9 +9,12 @@ use Rattle.def_modules.specs.Scopes.{marked_failed}
 use Rattle.def_rules.specs.Imports.{bound_name, is_empty, no_namespaces, unresolved_imports}
 use Rattle.def_rules.specs.State as rules
 use Rattle.def_steps.specs.declared.directive.ImportDirective.{ImportDirective}
+use Rattle.def_steps.specs.declared.import_lists.ImportAt.{ImportAt}
 use Rattle.def_steps.specs.declared.import_lists.ImportList.{ImportList}
 use Rattle.def_steps.specs.declared.import_lists.ImportList.TheVariants.{Unresolved, Indeterminate}
+use Rattle.def_steps.specs.declared.import_lists.PendingImports.{PendingImports}
 use Rattle.def_steps.specs.declared.import_lists.WrittenUse.{WrittenUse}
+use Rattle.def_steps.specs.Listed.{entry_in}
 use Rattle.def_steps.specs.Shown.{directive_of, import_of, ns_set}
 
 -- the entries of a list that are still there
@@ -22,10 +25,18 @@ present entries = filter_map (λ entry. entry) entries
 abbrev pub directives_in : List (Option ImportDirective) → List rules.ImportDirective
 directives_in entries = map directive_of (present entries)
 
--- one of two lists
-abbrev pub entries_in : ImportList → List (Option ImportDirective) → List (Option ImportDirective) → List (Option ImportDirective)
-entries_in Unresolved unresolved indeterminate = unresolved
-entries_in Indeterminate unresolved indeterminate = indeterminate
+-- the imports that may still be recorded, in the order in which they were queued
+abbrev pub pending : PendingImports → List rules.ImportDirective
+pending imports = directives_in imports.directives.items
+
+-- the numbers in one of the two lists
+abbrev pub numbers_in : ImportList → PendingImports → List ℕ
+numbers_in Unresolved imports = imports.unresolved.items
+numbers_in Indeterminate imports = imports.indeterminate.items
+
+-- the import at a place of a list, if one stands there
+abbrev pub import_at : PendingImports → ImportAt → Option ImportDirective
+import_at imports at = option_and_then (λ number. option_and_then (entry_in at.list) (slice_get imports.directives.items number)) (slice_get (numbers_in at.list imports) at.index)
 
 -- the imports of a `use` item, of which nothing is recorded yet
 abbrev pub queued : ModuleId → WrittenUse → List UseImport → List rules.ImportDirective

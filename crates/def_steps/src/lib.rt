@@ -17,7 +17,7 @@ pub use directive::{
     kept_after, new_prelude,
 };
 pub use glob_scope::{GlobScope, variants_entries};
-pub use import_lists::{ImportList, WrittenUse, drop_left, next_tried, queue_imports, retire};
+pub use import_lists::{ImportAt, ImportList, PendingImports, WrittenUse};
 pub use left_imports::report_left_imports;
 pub use named::{lone_given, named_entries};
 pub use targets::{add_target, edges_of, targets_of};

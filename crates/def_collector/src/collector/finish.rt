@@ -10,7 +10,8 @@ ghost use Rattle.def_laws.specs.Finished.{IsFinished};
 ghost use Rattle.def_map.specs.DefMaps as whole;
 ghost use Rattle.def_sources.specs.Tables.{bound_by};
 ghost use Rattle.def_rules.specs.Report.{import_report, left_import};
-ghost use Rattle.def_steps.specs.ImportLists.{marked_each, unresolved_in};
+ghost use Rattle.def_rules.specs.Imports.{unresolved_imports};
+ghost use Rattle.def_steps.specs.ImportLists.{marked_each, pending};
 
 use super::DefCollector;
 use def_answer::Collected;
@@ -42,18 +43,15 @@ impl DefCollector<'_> {
         Ok(collector.into_collected(outcome))
     }
 
-    /// Marks and reports the imports left over, those of the unresolved list first. The
-    /// indeterminate ones have recorded something, and so add nothing. Answers them.
+    /// Marks and reports the imports left over, which are those of which nothing was recorded. Answers
+    /// them.
     fn report_left(&mut self) -> Result<Vec<LeftImport>, AllocError>
         ensures frame { self.new ≡ record self.old { def_map = self.new.def_map; diagnostics = self.new.diagnostics } }
         ensures map { IfOk result (λ imports. map_state self.new.def_map
-            ≡ marked_each (unresolved_in self.old.indeterminate_imports.items) (marked_each (unresolved_in self.old.unresolved_imports.items) (map_state self.old.def_map))) }
-        ensures imports { IfOk result (λ imports. imports.items
-            ≡ map left_import (unresolved_in self.old.unresolved_imports.items) ++ map left_import (unresolved_in self.old.indeterminate_imports.items)) }
-        ensures diagnostics { IfOk result (λ imports. let told = import_report (missing_in self.old.missing_crates) in
-            self.new.diagnostics.items
-            ≡ (self.old.diagnostics.items ++ flat_map told (unresolved_in self.old.unresolved_imports.items))
-            ++ flat_map told (unresolved_in self.old.indeterminate_imports.items)) }
+            ≡ marked_each (unresolved_imports (pending self.old.imports)) (map_state self.old.def_map)) }
+        ensures imports { IfOk result (λ imports. imports.items ≡ map left_import (unresolved_imports (pending self.old.imports))) }
+        ensures diagnostics { IfOk result (λ imports. self.new.diagnostics.items
+            ≡ self.old.diagnostics.items ++ flat_map (import_report (missing_in self.old.missing_crates)) (unresolved_imports (pending self.old.imports))) }
     {
         let mut imports = Vec::new(self.alloc);
         report_left_imports(
@@ -61,14 +59,7 @@ impl DefCollector<'_> {
             &mut imports,
             &mut self.diagnostics,
             &self.missing_crates,
-            self.unresolved_imports.as_slice(),
-        )?;
-        report_left_imports(
-            &mut self.def_map,
-            &mut imports,
-            &mut self.diagnostics,
-            &self.missing_crates,
-            self.indeterminate_imports.as_slice(),
+            self.imports.entries(),
         )?;
         Ok(imports)
     }
@@ -92,8 +83,7 @@ impl DefCollector<'_> {
             mod_dirs: _,
             item_attrs: _,
             deferred_builtin_derives: _,
-            unresolved_imports: _,
-            indeterminate_imports: _,
+            imports: _,
             unresolved_macros: _,
             expansions: _,
             diagnostics,

@@ -11,7 +11,7 @@ use super::DefCollector;
 use def_interner::{Interner, Location};
 use def_locs::UseLoc;
 use def_parts::Site;
-use def_steps::{WrittenUse, is_prelude_import, queue_imports};
+use def_steps::{WrittenUse, is_prelude_import};
 use item_tree::{ItemNode, RawVisibility, Seq, UseImport};
 use std::alloc::AllocError;
 
@@ -44,7 +44,7 @@ impl<'a> DefCollector<'a> {
             vis: visibility,
             is_prelude: is_prelude_import(node),
         };
-        let unresolved = &mut self.unresolved_imports;
-        queue_imports(unresolved, site.module_id, written, imports.as_slice())
+        self.imports
+            .queue(site.module_id, written, imports.as_slice())
     }
 }

@@ -6,7 +6,7 @@ use Rattle.def_map.specs.PerNs.{per_namespace}
 use Rattle.def_sources.specs.Tables.{bound_by, found_by}
 use Rattle.def_rules.specs.Imports.{is_ready}
 use Rattle.def_steps.specs.Shown.{ns_set}
-use Rattle.def_imports.proofs.GlanceLemmas.{given-alone, known-unready, nothing-unready}
+use Rattle.def_imports.proofs.GlanceLemmas.{known-unready, nothing-unready}
 use Rattle.def_imports.proofs.imports.glance_at.Goals as goal
 
 pub returns-in_default-found : goal.returns-in_default-found
@@ -27,11 +27,12 @@ returns-then-not-is_extended_by g c =
     ∙ ap (is_ready recorded) c.in-Some.ensures
     ∙ known-unready recorded (found_by c.in-Some-found.found) _ (ns_set c.found-given.result) c.is_extended_by.result c.in-Some-found.ensures c.found-given.ensures c.is_extended_by.ensures c.if-not-is_extended_by.true
 
-pub returns-in-Some-binding : goal.returns-in-Some-binding
-returns-in-Some-binding g c =
+pub returns-in-Some-lone_ns : goal.returns-in-Some-lone_ns
+returns-in-Some-lone_ns g c =
     let import = c.args.directive.now.import in
-    let w = world_lent g.D.SourceDatabase.oracle bound_by c.args.world.now in
-    ap (λ asked. resolve w asked import.module_id import.written.now.path) (sym c.for_import-asked.ensures)
-    ∙ c.in-Some.ensures
-    ∙ ap (λ found. reached (per_namespace found) None false) (sym c.in-Some-found.ensures)
-    ∙ ap (λ found. reached found None false) (given-alone (found_by c.in-Some-found.found) c.in-Some-lone_ns.ns c.in-Some-binding.item c.in-Some-lone_ns.ensures c.in-Some-binding.ensures)
+    let w = world_lent g.D.SourceDatabase.oracle bound_by c.args.world.now in (
+      ap (λ asked. resolve w asked import.module_id import.written.now.path) (sym c.for_import-asked.ensures)
+          ∙ c.in-Some.ensures
+          ∙ ap (λ found. reached (per_namespace found) None false) (sym c.in-Some-found.ensures),
+      c.in-Some-lone_ns.ensures,
+    )

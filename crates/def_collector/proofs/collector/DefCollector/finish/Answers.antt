@@ -1,4 +1,4 @@
-use Rattle.std.proofs.Common.{ap, map, refl, subst, sym, ◌∙◌}
+use Rattle.std.proofs.Common.{ap, map, subst, sym, ◌∙◌}
 use Rattle.std.specs.HashMap.{IsUnique}
 use Rattle.def_calls.specs.Shown.{macros_in}
 use Rattle.def_ids.specs.Equality.{glob_eq}
@@ -6,10 +6,9 @@ use Rattle.def_modules.specs.Maps.{map_state}
 use Rattle.def_sources.specs.Tables.{bound_by}
 use Rattle.def_answer.specs.Shown.{shown}
 use Rattle.def_collector.specs.Collector.{state_of}
-use Rattle.def_rules.specs.Report.{Answer, AreEdges, AreTargets, left_import, left_macro, shown_targets}
+use Rattle.def_rules.specs.Report.{Answer, AreEdges, AreTargets, left_macro, shown_targets}
 use Rattle.def_answer.specs.declared.answer.Collected.{Collected}
 use Rattle.def_rules.specs.State.{State}
-use Rattle.def_steps.specs.ImportLists.{marked_each, unresolved_in}
 use Rattle.def_collector.specs.declared.collector.DefCollector.{DefCollector}
 use Rattle.def_collector.proofs.FinishLemmas.{edges_listed, finished, targets_listed}
 use Rattle.def_collector.proofs.collector.DefCollector.finish.Goals as goal
@@ -26,10 +25,8 @@ returns c = λ session.
     edges_listed c.table.result.now c.args.self.table c.in_ok-edges.edges.items (c.table.ensures ∙ ap (λ (x : DefCollector). x.table) frame) c.in_ok-edges.ensures in
     let targets : AreTargets end.targets (map shown_targets c.in_ok-targets.targets.items) =
     targets_listed c.args.self.targets (map shown_targets c.in_ok-targets.targets.items) (c.in_ok-targets.ensures.listed ∙ ap (λ (x : DefCollector). x.targets.entries) frame) (subst (λ (x : DefCollector). IsUnique glob_eq x.targets) frame c.targets_of.ensures.once) in
-    finished end c.args.limit_met answer (marked_each (unresolved_in c.args.self.unresolved_imports.items) end.map) (map_state left.def_map)
-    (map left_import (unresolved_in c.args.self.unresolved_imports.items)) c.in_ok-imports.imports.items _ left.diagnostics.items
-    c.args.self.unresolved_imports.items c.args.self.indeterminate_imports.items refl
-    refl told.map refl told.imports refl told.diagnostics
+    finished end c.args.limit_met answer (map_state left.def_map) c.in_ok-imports.imports.items left.diagnostics.items
+    told.map told.imports told.diagnostics
     became.map (became.content ∙ ap (λ (x : DefCollector). bound_by x.table) frame) (ap (λ (x : Collected). (shown x).local) became.rest ∙ ap (λ (x : DefCollector). (state_of x session).local) frame)
     (ap (λ (x : Collected). x.diagnostics) became.rest)
     (ap (λ (x : Collected). x.outcome.imports.items) became.rest) (ap (λ (x : Collected). x.outcome.macros.items) became.rest ∙ c.in_ok-macros.ensures ∙ ap (map left_macro) (ap (λ (x : DefCollector). macros_in x.unresolved_macros.items) frame))
