@@ -13,10 +13,10 @@ use Rattle.def_steps.specs.declared.directive.NamespaceSet.{NamespaceSet}
 use Rattle.def_steps.specs.declared.import_lists.ImportList.{ImportList}
 use Rattle.def_steps.specs.declared.import_lists.ImportList.TheVariants.{Unresolved, Indeterminate}
 use Rattle.def_steps.specs.declared.import_lists.PendingImports.{PendingImports}
-use Rattle.def_steps.specs.ImportLists.{import_at, numbers_in, pending, present}
+use Rattle.def_steps.specs.ImportLists.{IsInOrder, IsRetired, import_at, numbers_in, pending, present}
 use Rattle.def_steps.specs.Listed.{IsListed, entry_in, has_number, is_in, kept_entry, stands_in}
-use Rattle.def_steps.specs.Shown.{directive_of, ns_set}
-use Rattle.def_steps.proofs.ImportListsLaws.{present-all}
+use Rattle.def_steps.specs.Shown.{directive_of, directives_kept, kept_with, ns_set}
+use Rattle.def_steps.proofs.ImportListsLaws.{present-all, retired}
 
 -- an entry of a list in which one was set is that one, or was there
 set-cases : {A : Type 0} (xs : List A) (i j : ℕ) (y x : A) → slice_get (slice_set xs i y) j ≡ Some x → ((j ≡ i) × (x ≡ y)) ⊎ (slice_get xs j ≡ Some x)
@@ -171,6 +171,12 @@ pub stands_there : (imports : PendingImports) (at : ImportAt) (number : ℕ) (d 
 stands_there imports at number d placed there =
     entry-there at.list (slice_get imports.directives.items number) d
     (ap (option_and_then (λ n. option_and_then (entry_in at.list) (slice_get imports.directives.items n))) (sym placed) ∙ there)
+
+-- what left its entry, or stays with other namespaces, left the others
+pub retired-in-order : (old new : PendingImports) (at : ImportAt) (d : ImportDirective) (kept : Option NamespaceSet) → import_at old at ≡ Some d → IsInOrder old at d kept new
+    → IsRetired (pending old) (directive_of d) (directives_kept (kept_with d.import kept)) (pending new)
+retired-in-order old new at d kept here order =
+    retired old.directives.items new.directives.items order.number d (kept_with d.import kept) (stands_there old at order.number d order.stood here) order.entries
 
 -- what holds of each import at a place of a list holds of all that may still be recorded
 pub all-pending : (P : rules.ImportDirective → Type 0) (imports : PendingImports) → ((at : ImportAt) (d : ImportDirective) → import_at imports at ≡ Some d → P (directive_of d)) → All P (pending imports)

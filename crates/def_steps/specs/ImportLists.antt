@@ -1,5 +1,5 @@
 -- Imports in lists whose places may be empty, and what the end of a run does with those that are unresolved.
-use Rattle.std.specs.Prelude.{ℕ, List, [], ◌∷◌, ◌++◌, cond, map, filter_map, Option, Some, None, option_and_then, slice_get, IsPermutation}
+use Rattle.std.specs.Prelude.{ℕ, List, [], ◌∷◌, ◌++◌, cond, map, filter_map, ◌≡◌, Option, Some, None, is_some, option_and_then, slice_get, slice_set, IsPermutation}
 use Rattle.item_tree.specs.declared.items.UseImport.{UseImport}
 use Rattle.tree_ids.specs.declared.name.Name.{Name}
 use Rattle.def_ids.specs.declared.ids.ModuleId.{ModuleId}
@@ -9,13 +9,14 @@ use Rattle.def_modules.specs.Scopes.{marked_failed}
 use Rattle.def_rules.specs.Imports.{bound_name, is_empty, no_namespaces, unresolved_imports}
 use Rattle.def_rules.specs.State as rules
 use Rattle.def_steps.specs.declared.directive.ImportDirective.{ImportDirective}
+use Rattle.def_steps.specs.declared.directive.NamespaceSet.{NamespaceSet}
 use Rattle.def_steps.specs.declared.import_lists.ImportAt.{ImportAt}
 use Rattle.def_steps.specs.declared.import_lists.ImportList.{ImportList}
 use Rattle.def_steps.specs.declared.import_lists.ImportList.TheVariants.{Unresolved, Indeterminate}
 use Rattle.def_steps.specs.declared.import_lists.PendingImports.{PendingImports}
 use Rattle.def_steps.specs.declared.import_lists.WrittenUse.{WrittenUse}
-use Rattle.def_steps.specs.Listed.{entry_in}
-use Rattle.def_steps.specs.Shown.{directive_of, import_of, ns_set}
+use Rattle.def_steps.specs.Listed.{entry_in, with_number}
+use Rattle.def_steps.specs.Shown.{directive_of, import_of, kept_with, ns_set}
 
 -- the entries of a list that are still there
 unfoldable pub present : {A : Type 0} → List (Option A) → List A
@@ -51,6 +52,14 @@ pub record IsRetired (old : List rules.ImportDirective) (d : rules.ImportDirecti
   pub rest : List rules.ImportDirective
   pub stands : IsPermutation old (d ∷ rest)
   pub left : IsPermutation (rest ++ kept) new
+
+-- an import was recorded at its place, and stays with these namespaces or leaves: each other one stays as it was and where it stood, and where it was unresolved it stands last among those that are indeterminate
+pub record IsInOrder (old : PendingImports) (at : ImportAt) (d : ImportDirective) (kept : Option NamespaceSet) (new : PendingImports) : Type 0 where
+  pub number : ℕ
+  pub stood : slice_get (numbers_in at.list old) at.index ≡ Some number
+  pub entries : new.directives.items ≡ slice_set old.directives.items number (kept_with d.import kept)
+  pub unresolved : new.unresolved.items ≡ old.unresolved.items
+  pub indeterminate : new.indeterminate.items ≡ cond (is_some kept) (with_number at.list number old.indeterminate.items) old.indeterminate.items
 
 -- the imports of a list that are unresolved
 abbrev pub unresolved_in : List (Option ImportDirective) → List rules.Import

@@ -1,5 +1,5 @@
 -- Imports in two lists of their numbers: those that are unresolved, and those that are indeterminate.
-use Rattle.std.specs.Prelude.{◌≡◌, ℕ, Bool, true, cond, not, nat_eq, is_some, List, Option, Some, None, option_and_then, slice_get}
+use Rattle.std.specs.Prelude.{◌≡◌, ℕ, Bool, true, cond, not, nat_eq, is_some, List, [], ◌∷◌, ◌++◌, Option, Some, None, option_and_then, slice_get}
 use Rattle.std.specs.List.{list_any}
 use Rattle.def_rules.specs.Imports.{is_empty}
 use Rattle.def_rules.specs.State.{NsSet}
@@ -36,3 +36,8 @@ has_number numbers number = list_any (nat_eq number) numbers
 abbrev pub IsListed : List (Option ImportDirective) → List ℕ → List ℕ → Type 0
 IsListed entries unresolved indeterminate = (number : ℕ) (d : ImportDirective) → slice_get entries number ≡ Some (Some d) →
     has_number (cond (is_empty (ns_set d.recorded)) unresolved indeterminate) number ≡ true
+
+-- the numbers of those that are indeterminate once one of a list is among them: an unresolved one stands last, another where it stood
+abbrev pub with_number : ImportList → ℕ → List ℕ → List ℕ
+with_number Unresolved number indeterminate = indeterminate ++ number ∷ []
+with_number Indeterminate number indeterminate = indeterminate

@@ -103,8 +103,8 @@ impl<'a> PendingImports<'a> {
     ghost use Rattle.std.specs.Prelude.{◌++◌, ◌∷◌, [], Some, true, false, length, slice_get, slice_set, OnOk};
     ghost use Rattle.def_rules.specs.Imports.{no_namespaces};
     ghost use Rattle.def_steps.specs.declared.directive.ImportDirective.{ImportDirective};
-    ghost use Rattle.def_steps.specs.ImportLists.{IsRetired, import_at, numbers_in, pending, queued};
-    ghost use Rattle.def_steps.specs.Listed.{has_number};
+    ghost use Rattle.def_steps.specs.ImportLists.{IsInOrder, IsRetired, import_at, numbers_in, pending, queued};
+    ghost use Rattle.def_steps.specs.Listed.{has_number, with_number};
     ghost use Rattle.def_steps.specs.Shown.{directive_of, directives_kept, import_of, kept_with};
 
     /// No imports.
@@ -204,6 +204,8 @@ impl<'a> PendingImports<'a> {
     fn list_indeterminate(&mut self, list: ImportList, number: usize) -> Result<(), AllocError>
         requires { has_number (numbers_in list self.old) number ≡ true }
         ensures directives { self.new.directives ≡ self.old.directives }
+        ensures unresolved { self.new.unresolved ≡ self.old.unresolved }
+        ensures last { OnOk result (self.new.indeterminate.items ≡ with_number list number self.old.indeterminate.items) }
         ensures has { OnOk result (has_number self.new.indeterminate.items number ≡ true) }
     {
         match list {
@@ -219,7 +221,9 @@ impl<'a> PendingImports<'a> {
     #[inline(always)]
     fn keep(&mut self, number: usize, kept: Option<NamespaceSet>)
         requires { IfSome kept (λ recorded. (is_empty (ns_set recorded) ≡ false) × (has_number self.old.indeterminate.items number ≡ true)) }
-        ensures { (d : ImportDirective) → slice_get self.old.directives.items number ≡ Some (Some d) →
+        ensures unresolved { self.new.unresolved ≡ self.old.unresolved }
+        ensures indeterminate { self.new.indeterminate ≡ self.old.indeterminate }
+        ensures entry { (d : ImportDirective) → slice_get self.old.directives.items number ≡ Some (Some d) →
             self.new.directives.items ≡ slice_set self.old.directives.items number (kept_with d.import kept) }
     {
         if let Some(entry) = self.directives.get_mut(number) {
@@ -232,8 +236,10 @@ impl<'a> PendingImports<'a> {
     #[inline(always)]
     pub fn retire(&mut self, at: ImportAt, kept: Option<NamespaceSet>) -> Result<(), AllocError>
         requires { IfSome kept (λ recorded. is_empty (ns_set recorded) ≡ false) }
-        ensures { OnOk result ((d : ImportDirective) → import_at self.old at ≡ Some d →
+        ensures retired { OnOk result ((d : ImportDirective) → import_at self.old at ≡ Some d →
             IsRetired (pending self.old) (directive_of d) (directives_kept (kept_with d.import kept)) (pending self.new)) }
+        ensures order { OnOk result ((d : ImportDirective) → import_at self.old at ≡ Some d →
+            IsInOrder self.old at d kept self.new) }
     {
         let Some(number) = self.numbers(at.list).get(at.index) else {
             return Ok(());
