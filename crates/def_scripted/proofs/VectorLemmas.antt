@@ -1,9 +1,8 @@
 -- Looking for a vector by its name.
 use Rattle.std.proofs.Common.{◌≡◌, ◌||◌, refl, ap, ℕ, List, [], ◌∷◌, map, bytes_eq}
 use Rattle.std.specs.List.{list_any}
-use Rattle.def_scripted.specs.declared.named.Listed.{Listed}
 
--- a vector of a name is there where the name is
-pub any_named : (vectors : List Listed) (name : List ℕ) → list_any (λ v. bytes_eq v.name.now name) vectors ≡ list_any (λ known. bytes_eq known name) (map (λ v. v.name.now) vectors)
-any_named [] name = refl
-any_named (v ∷ vs) name = ap (λ rest. bytes_eq v.name.now name || rest) (any_named vs name)
+-- a name is among those that references lead to where it is among these
+pub any_named : {A : Type 0} (now : A → List ℕ) (names : List A) (name : List ℕ) → list_any (λ known. bytes_eq (now known) name) names ≡ list_any (λ known. bytes_eq known name) (map now names)
+any_named now [] name = refl
+any_named now (known ∷ names) name = ap (λ rest. bytes_eq (now known) name || rest) (any_named now names name)

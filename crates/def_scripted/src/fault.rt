@@ -1,33 +1,6 @@
-//! Why a command ends early, and why a text is not read.
+//! Why a text is not read.
 
-use item_tree::TreeId;
-use std::alloc::AllocError;
-use std::io;
-
-/// Why a command ends early: memory was refused, a write to standard output failed, or the text of
-/// a file or a block cannot be read.
-#[derive(Debug, Drop)]
-pub enum Fault {
-    Memory,
-    Output,
-    Text {
-        tree: TreeId,
-        /// The byte from which on it cannot be read.
-        byte: usize,
-    },
-}
-
-impl From<AllocError> for Fault {
-    fn from(_error: AllocError) -> Self {
-        Fault::Memory
-    }
-}
-
-impl From<io::Error> for Fault {
-    fn from(_error: io::Error) -> Self {
-        Fault::Output
-    }
-}
+use std::alloc::{AllocError, AllocFailed};
 
 /// Why a text is not read: memory was refused, or the text cannot be read from this byte on.
 #[derive(Drop)]
@@ -36,15 +9,51 @@ pub enum ReadFault {
     Byte(usize),
 }
 
-impl From<AllocError> for ReadFault {
+/// Why a text of rows is not read: memory was refused, or the line of this number does not fit.
+#[derive(Drop)]
+pub enum FixtureFault {
+    Memory,
+    Line(usize),
+}
+
+impl From<AllocError> for FixtureFault {
     fn from(_error: AllocError) -> Self {
-        ReadFault::Memory
+        FixtureFault::Memory
     }
 }
 
-/// Why reading stops: memory was refused, or the token that comes does not fit.
+/// Why reading stops: memory was refused, or the token or the line that comes does not fit.
 #[derive(Clone, Copy)]
 pub(crate) enum Stop {
     Memory,
     Here,
+}
+
+impl From<AllocError> for Stop {
+    fn from(_error: AllocError) -> Self {
+        Stop::Memory
+    }
+}
+
+impl<T: Drop> From<AllocFailed<T>> for Stop {
+    fn from(_error: AllocFailed<T>) -> Self {
+        Stop::Memory
+    }
+}
+
+/// What was read on a line, or the fault of that line.
+pub(crate) fn on_line(read: Result<(), Stop>, line: usize) -> Result<(), FixtureFault> {
+    match read {
+        Ok(()) => Ok(()),
+        Err(Stop::Memory) => Err(FixtureFault::Memory),
+        Err(Stop::Here) => Err(FixtureFault::Line(line)),
+    }
+}
+
+/// Adds what was read, if it could be read.
+pub(crate) fn push<T: Drop>(list: &mut Vec<T>, read: Option<T>) -> Result<(), Stop> {
+    match read {
+        Some(item) => Ok(list.push(item)?),
+        None => Err(Stop::Here),
+    }
 }

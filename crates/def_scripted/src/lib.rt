@@ -1,32 +1,36 @@
-//! How scripted crates are written down, those that have a name, the item trees that their texts
-//! stand for, and the lines in which what is collected of them is printed.
+//! Scripted workspaces: the reader of the texts of their files, which are the Rust text of their items,
+//! and rows, which are texts that have a line for each setting of a workspace and a section for each of
+//! its files and calls, beside the lines that are shown of it; and the workspaces that have a name.
 #![tactic(auto)]
 
 mod attributes;
-mod chain;
+mod calls;
 mod fault;
+mod fixture;
 mod imports;
 mod items;
 mod kinds;
-mod lines;
 mod named;
-mod page;
+mod parts;
 mod paths;
 mod pieces;
 mod reader;
-mod script;
+mod sections;
+mod settings;
+mod texts;
 mod tokens;
 mod trees;
 mod variants;
 mod words;
 
-pub use fault::{Fault, ReadFault};
-pub use items::{ReadEnum, ReadFile};
-pub use lines::print;
-pub use named::{Listed, find, vectors};
-pub use script::{
-    ALONE, BuiltinAttrText, BuiltinDeriveText, BuiltinText, CALL, CallText, CalledBy, ChainText,
-    CrateText, DependencyText, StyleText, Vector,
+pub use fault::{FixtureFault, ReadFault};
+pub use fixture::{
+    BlockText, BuiltinAttrText, BuiltinDeriveText, BuiltinText, CallText, CalledBy, ChainText,
+    CrateText, DependencyText, FileText, Fixture, ProgramText, StyleText, Unknown,
 };
+pub use items::{ReadEnum, ReadFile};
+pub use named::{find, vectors};
+pub use parts::{Part, rows_in};
+pub use sections::read_row;
 pub use trees::read;
 pub use variants::ReadVariant;

@@ -1,164 +1,138 @@
-//! The words of lines of text.
+//! What single words stand for. Places and macros are written as in the lines that are shown.
 
-use def_bindings::{ImportOrExternCrate, Visibility};
-use def_ids::{Def, MacroId, ModuleId};
-use def_interner::Interner;
-use def_rules::{DefDiagnostic, DefDiagnosticKind};
-use item_tree::{Crate, HirFileId, Name, Text};
-use std::io;
+use crate::fault::{Stop, push};
+use crate::fixture::{CalledBy, Unknown};
+use crate::parts::Words;
+use bitflags::Flags;
+use def_ids::{Edition, Macro2Id, MacroId, MacroRulesId, ProcMacroId};
+use def_locs::BuiltinAttr;
+use def_oracle::LangCrate;
+use item_tree::{FileId, HirFileId, MacroCallId, MacroCallStyles};
 
-/// A word of a line: a text, a name, or numbers with what stands before and between them, as
-/// `in:3`, `import:4.0` or `mod:1/0`. A space stands before each but the bare ones, with which lines
-/// begin, and the segments of paths.
-#[derive(Clone, Copy)]
-pub enum Word {
-    Bare(&'static str),
-    Text(&'static str),
-    Name(Name),
-    /// A segment of a path, with what stands before it.
-    Segment(&'static str, Name),
-    Number(&'static str, usize),
-    Numbers(&'static str, usize, char, usize),
-    /// The files that the diagnostic of this number looked for.
-    Files(usize),
-    /// The end of the line.
-    End,
+/// The number that a word is.
+pub fn number(word: &str) -> Option<usize> {
+    word.parse::<usize>().ok()
 }
 
-/// A module of the crate in work by its number, and any other one with its crate.
-fn module_word(krate: Crate, id: ModuleId) -> Word {
-    if id.map.krate == krate {
-        Word::Number("mod:", id.index)
-    } else {
-        Word::Numbers("mod:", id.map.krate.0, '/', id.index)
-    }
+/// The number of 32 bits that a word is.
+pub fn small_number(word: &str) -> Option<u32> {
+    word.parse::<u32>().ok()
 }
 
-fn macro_word(id: MacroId) -> Word {
-    match id {
-        MacroId::MacroRules(id) => Word::Number("macro_rules:", id.0),
-        MacroId::Macro2(id) => Word::Number("macro:", id.0),
-        MacroId::ProcMacro(id) => Word::Number("proc_macro:", id.0),
-    }
-}
-
-/// A definition, as the map of a crate names it.
-pub fn def_word(krate: Crate, def: Def) -> Word {
-    match def {
-        Def::Module(id) => module_word(krate, id),
-        Def::Function(id) => Word::Number("fn:", id.0),
-        Def::Struct(id) => Word::Number("struct:", id.0),
-        Def::Union(id) => Word::Number("union:", id.0),
-        Def::Enum(id) => Word::Number("enum:", id.0),
-        Def::Variant(id) => Word::Number("variant:", id.0),
-        Def::Const(id) => Word::Number("const:", id.0),
-        Def::Static(id) => Word::Number("static:", id.0),
-        Def::Trait(id) => Word::Number("trait:", id.0),
-        Def::TypeAlias(id) => Word::Number("type:", id.0),
-        Def::Builtin(number) => Word::Number("builtin:", number as usize),
-        Def::Macro(id) => macro_word(id),
-    }
-}
-
-pub fn visibility_word(vis: Visibility) -> Word {
-    match vis {
-        Visibility::Public => Word::Text("pub"),
-        Visibility::PubCrate => Word::Text("crate"),
-        Visibility::Module(id) => Word::Number("in:", id.index),
-    }
-}
-
-/// What brought a binding.
-pub fn origin_word(origin: Option<ImportOrExternCrate>) -> Word {
-    match origin {
-        None => Word::Text("decl"),
-        Some(ImportOrExternCrate::Import(id)) => {
-            Word::Numbers("import:", id.use_id.0, '.', id.idx as usize)
+/// Adds the numbers of 32 bits that are left of some words.
+pub fn numbers(list: &mut Vec<u32>, words: &mut Words<'_>) -> Result<(), Stop> {
+    for _ in 0..words.left.len() {
+        match words.next() {
+            "" => break,
+            word => push(list, small_number(word))?,
         }
-        Some(ImportOrExternCrate::Glob(id)) => {
-            Word::Numbers("glob:", id.use_id.0, '.', id.idx as usize)
-        }
-        Some(ImportOrExternCrate::ExternCrate(id)) => Word::Number("extern:", id.0),
-    }
-}
-
-/// An item of a file: the file's number, or `m` and the number of the macro call that it comes
-/// from, and the number of the item.
-pub fn item_word(file: HirFileId, item: usize) -> Word {
-    match file {
-        HirFileId::File(file) => Word::Numbers("", file.0, ':', item),
-        HirFileId::Macro(call) => Word::Numbers("m", call.0, ':', item),
-    }
-}
-
-/// The text of a name, or none where the session doesn't know it.
-pub fn text_of(session: &Interner, name: Name) -> &str {
-    session.text(name).unwrap_or("")
-}
-
-/// Prints a text behind another one.
-fn print_text<W: io::Write>(before: &str, text: &str, out: &mut W) -> io::Result<()> {
-    write!(out, "{before}{text}")
-}
-
-/// Prints texts, with commas between them, behind a space.
-fn print_texts<W: io::Write>(texts: &[Text], out: &mut W) -> io::Result<()> {
-    print_text("", " ", out)?;
-    let mut before = "";
-    for text in texts {
-        print_text(before, text.as_str(), out)?;
-        before = ",";
     }
     Ok(())
 }
 
-/// The files that the diagnostic of a number looked for.
-fn files_of(diagnostics: &[DefDiagnostic], number: usize) -> &[Text] {
-    match diagnostics.get(number) {
-        Some(
-            DefDiagnostic {
-                kind: DefDiagnosticKind::UnresolvedModule { candidates },
-                ..
-            },
-        ) => candidates.as_slice(),
-        _ => &[],
-    }
-}
-
-/// Prints a word.
-fn print_word<W: io::Write>(
-    session: &Interner,
-    diagnostics: &[DefDiagnostic],
-    word: Word,
-    out: &mut W,
-) -> io::Result<()> {
+/// The crate of the language that has this name.
+pub fn lang(word: &str) -> Option<LangCrate> {
     match word {
-        Word::Bare(text) => print_text("", text, out),
-        Word::Text(text) => print_text(" ", text, out),
-        Word::Name(name) => print_text(" ", text_of(session, name), out),
-        Word::Segment(before, name) => print_text(before, text_of(session, name), out),
-        Word::Number(before, number) => write!(out, " {before}{number}"),
-        Word::Numbers(before, number, mark, place) => {
-            write!(out, " {before}{number}{mark}{place}")
-        }
-        Word::Files(number) => print_texts(files_of(diagnostics, number), out),
-        Word::End => print_text("\n", "", out),
+        "core" => Some(LangCrate::Core),
+        "std" => Some(LangCrate::Std),
+        _ => None,
     }
 }
 
-/// Prints words up to the end of a line. Their names are a session's, and they speak of these
-/// diagnostics.
-pub fn print_line<W: io::Write>(
-    session: &Interner,
-    diagnostics: &[DefDiagnostic],
-    words: &[Word],
-    out: &mut W,
-) -> io::Result<()> {
-    for word in words {
-        print_word(session, diagnostics, *word, out)?;
-        if matches!(word, Word::End) {
-            break;
+/// What an oracle does not know.
+pub fn unknown(word: &str) -> Option<Unknown> {
+    match word {
+        "files" => Some(Unknown::Files),
+        "crates" => Some(Unknown::Crates),
+        "variants" => Some(Unknown::Variants),
+        "maps" => Some(Unknown::Maps),
+        _ => None,
+    }
+}
+
+/// The edition of a year.
+pub fn edition(word: &str) -> Option<Edition> {
+    match word {
+        "2015" => Some(Edition::Edition2015),
+        "2018" => Some(Edition::Edition2018),
+        "2021" => Some(Edition::Edition2021),
+        "2024" => Some(Edition::Edition2024),
+        _ => None,
+    }
+}
+
+/// Two numbers with a mark between them.
+fn pair(word: &str, mark: char) -> Option<(usize, usize)> {
+    let (first, second) = word.split_once(mark)?;
+    Some((number(first)?, number(second)?))
+}
+
+/// Where an item stands: its file and its number, as `0:1`, or the number of the macro call that it
+/// comes from behind an `m`, as `m0:1`.
+pub fn place(word: &str) -> Option<(HirFileId, usize)> {
+    match word.strip_prefix('m') {
+        Some(numbers) => {
+            let (call, item) = pair(numbers, ':')?;
+            Some((HirFileId::Macro(MacroCallId(call)), item))
+        }
+        None => {
+            let (file, item) = pair(word, ':')?;
+            Some((HirFileId::File(FileId(file)), item))
         }
     }
-    Ok(())
+}
+
+/// A macro: its kind and its number, as `macro:0`.
+pub fn macro_of(word: &str) -> Option<MacroId> {
+    let (kind, id) = word.split_once(':')?;
+    let id = number(id)?;
+    match kind {
+        "macro_rules" => Some(MacroId::MacroRules(MacroRulesId(id))),
+        "macro" => Some(MacroId::Macro2(Macro2Id(id))),
+        "proc_macro" => Some(MacroId::ProcMacro(ProcMacroId(id))),
+        _ => None,
+    }
+}
+
+/// By what a macro is called: `attr`, or a path of a derive list, by the number of its attribute and
+/// its place, as `derive:0.1`.
+pub fn called_by(word: &str) -> Option<CalledBy> {
+    if word == "attr" {
+        return Some(CalledBy::Attr);
+    }
+    let (attr, pos) = pair(word.strip_prefix("derive:")?, '.')?;
+    Some(CalledBy::Derive { attr, pos })
+}
+
+/// A builtin attribute by its name, or by the number of another one.
+pub fn builtin_attr(word: &str) -> Option<BuiltinAttr> {
+    match word {
+        "test" => Some(BuiltinAttr::Test),
+        "bench" => Some(BuiltinAttr::Bench),
+        "test_case" => Some(BuiltinAttr::TestCase),
+        "derive" => Some(BuiltinAttr::Derive),
+        _ => Some(BuiltinAttr::Other(small_number(word)?)),
+    }
+}
+
+/// A way in which a macro may be called.
+fn style(word: &str) -> Option<MacroCallStyles> {
+    match word {
+        "fn" => Some(MacroCallStyles::FN_LIKE),
+        "attr" => Some(MacroCallStyles::ATTR),
+        "derive" => Some(MacroCallStyles::DERIVE),
+        _ => None,
+    }
+}
+
+/// The ways in which a macro may be called, by the words that are left.
+pub fn styles(words: &mut Words<'_>) -> Option<MacroCallStyles> {
+    let mut styles = MacroCallStyles::empty();
+    for _ in 0..words.left.len() {
+        match words.next() {
+            "" => break,
+            word => styles = styles.union(style(word)?),
+        }
+    }
+    Some(styles)
 }

@@ -6,7 +6,7 @@ use Rattle.tree_ids.specs.declared.ids.TreeId.{TreeId}
 use Rattle.def_map.specs.DefMaps.{seeded}
 use Rattle.def_map.specs.Oracle.{Oracle}
 use Rattle.def_rules.specs.State.{Setting}
-use Rattle.def_scripted.specs.declared.script.CrateText.{CrateText}
+use Rattle.def_scripted.specs.declared.fixture.CrateText.{CrateText}
 
 -- the tree of a file
 abbrev pub file_tree : FileId → TreeId

@@ -3,40 +3,30 @@
 ghost use Rattle.std.specs.Prelude.{◌≡◌, ◌<◌, ◌∷◌, [], true, false, map, OnOk, OnErr};
 ghost use Rattle.def_workspace.specs.Command.{is_answerable, is_list, is_show};
 
+use crate::collecting::collect;
+use crate::fault::Fault;
+use crate::lines::print;
 use crate::workspace::Workspace;
-use def_scripted::{CrateText, Fault, Vector, find, print, vectors};
+use def_scripted::{Part, find, read_row, vectors};
 use std::alloc::{AllocError, Global};
 use std::io;
 
 /// Prints the names of the vectors.
 fn list<W: io::Write>(out: &mut W) -> Result<(), Fault> {
-    for vector in vectors() {
-        let name = vector.name;
+    for name in vectors() {
         writeln!(out, "{name}")?;
     }
     Ok(())
 }
 
-/// Collects the crates of a vector, and prints the map of the last.
-pub fn show<W: io::Write>(alloc: Global, vector: &Vector, out: &mut W) -> Result<(), Fault> {
-    let mut workspace = Workspace::new(alloc, vector)?;
-    show_last(&mut workspace, vector.crates, out)
-}
-
-/// Collects crates, each with the maps of those before it, and prints the map of the last.
-fn show_last<W: io::Write>(
-    workspace: &mut Workspace,
-    crates: &[CrateText],
-    out: &mut W,
-) -> Result<(), Fault> {
-    let Some((last, others)) = crates.split_last() else {
-        return Ok(());
-    };
-    for krate in others {
-        workspace.collect_dependency(krate)?;
+/// Collects the crates of a workspace that is written as rows are, and prints the map of the last.
+fn show<W: io::Write>(alloc: Global, text: &str, out: &mut W) -> Result<(), Fault> {
+    let row = read_row(alloc, Part { text, line: 1 })?;
+    let mut workspace = Workspace::new(alloc, &row)?;
+    match collect(&mut workspace, &row)? {
+        Some(collected) => print(alloc, &workspace.session, &collected, out),
+        None => Ok(()),
     }
-    let collected = workspace.collect(last)?;
-    print(workspace.alloc, &workspace.session, &collected, out)
 }
 
 /// Says that memory was refused, and answers the status.
@@ -48,10 +38,10 @@ fn out_of_memory<E: io::Write>(err: &mut E) -> u8
 }
 
 /// Says that the text of a file cannot be read, and answers the status.
-fn unreadable<E: io::Write>(err: &mut E, byte: usize) -> u8
+fn unreadable<E: io::Write>(err: &mut E, what: &str, number: usize) -> u8
     ensures { result ≡ 1 }
 {
-    let _ = writeln!(err, "a text cannot be read from byte {byte} on");
+    let _ = writeln!(err, "a text cannot be read from {what} {number} on");
     1
 }
 
@@ -66,7 +56,8 @@ fn status<E: io::Write>(ended: Result<(), Fault>, err: &mut E) -> u8
         Ok(()) => 0,
         Err(Fault::Memory) => out_of_memory(err),
         Err(Fault::Output) => 1,
-        Err(Fault::Text { tree: _, byte }) => unreadable(err, byte),
+        Err(Fault::Text { tree: _, byte }) => unreadable(err, "byte", byte),
+        Err(Fault::Row(line)) => unreadable(err, "line", line),
     }
 }
 
@@ -121,7 +112,7 @@ fn run_words<O: io::Write, E: io::Write>(
         return usage(err);
     }
     match find(name) {
-        Some(vector) => status(show(alloc, vector, out), err),
+        Some(text) => status(show(alloc, text, out), err),
         None => {
             let _ = writeln!(err, "unknown vector: {name}");
             2

@@ -7,14 +7,15 @@ ghost use Rattle.def_answer.specs.Shown.{shown};
 ghost use Rattle.def_rules.specs.Headline.{Answers};
 ghost use Rattle.def_workspace.specs.Workspace.{file_tree, setting};
 
+use crate::fault::Fault;
 use def_collector::{Collected, collect_defs};
 use def_database::{Database, DeriveCallKey};
 use def_ids::VariantId;
 use def_interner::Interner;
 use def_map::{CallAnswer, CrateData, DefMap, Dependency, EnumVariant};
 use def_scripted::{
-    CallText, CalledBy, ChainText, CrateText, DependencyText, Fault, ReadEnum, ReadFault, ReadFile,
-    Vector, read,
+    BuiltinDeriveText, CallText, CalledBy, ChainText, CrateText, DependencyText, FileText, Fixture,
+    ReadEnum, ReadFault, ReadFile, read,
 };
 use item_tree::{AttrId, Crate, FileAstId, FileId, HirFileId, InFile, MacroCallId, Seq, TreeId};
 use std::alloc::{AllocError, Global};
@@ -46,72 +47,100 @@ impl Workspace {
         })
     }
 
-    /// Adds the files, the macro calls and the crates of a vector.
-    fn fill(&mut self, vector: &Vector) -> Result<(), Fault> {
-        for (number, text) in vector.files.iter().enumerate() {
-            self.add_text(tree_id(FileId(number)), text)?;
-            self.add_paths(FileId(number), vector.paths)?;
-        }
-        for (number, text) in vector.calls.iter().enumerate() {
-            self.add_call(MacroCallId(number), text)?;
-        }
-        if let Some(chain) = &vector.chain {
-            self.add_chain(vector.calls.len(), chain)?;
-        }
-        for krate in vector.crates {
-            self.add_crate(krate)?;
-        }
-        for text in vector.builtin_types {
-            let name = self.session.intern_name(text.name)?;
-            self.db.add_builtin(name, text.number)?;
-        }
-        self.add_macros(vector)?;
-        self.add_derives(vector)?;
+    /// Adds the files, the macro calls and the crates of a row, and what else its oracle answers.
+    fn fill(&mut self, row: &Fixture<'_>) -> Result<(), Fault> {
+        self.add_files(row)?;
+        self.add_calls(row)?;
+        self.add_crates(row)?;
+        self.add_macros(row)?;
+        self.add_derives(row)?;
         Ok(())
     }
 
-    /// Adds how the macros of a vector are called, its builtin attributes, and the flags of the crate
-    /// that is shown.
-    fn add_macros(&mut self, vector: &Vector) -> Result<(), AllocError> {
-        for text in vector.builtin_attrs {
+    /// Adds the files of a row, and the paths that lead from each to others.
+    fn add_files(&mut self, row: &Fixture<'_>) -> Result<(), Fault> {
+        for (number, file) in row.files.iter().enumerate() {
+            self.add_file(tree_id(FileId(number)), file)?;
+            self.add_paths(FileId(number), row.paths.as_slice())?;
+        }
+        Ok(())
+    }
+
+    /// Adds the macro calls of a row.
+    fn add_calls(&mut self, row: &Fixture<'_>) -> Result<(), Fault> {
+        for (number, text) in row.calls.iter().enumerate() {
+            self.add_call(MacroCallId(number), text)?;
+        }
+        if let Some(chain) = &row.chain {
+            self.add_chain(row.calls.len(), chain)?;
+        }
+        Ok(())
+    }
+
+    /// Adds the crates of a row, the builtin types, and the flags of the crate that is shown.
+    fn add_crates(&mut self, row: &Fixture<'_>) -> Result<(), AllocError> {
+        for krate in &row.crates {
+            self.add_crate(krate)?;
+        }
+        for text in &row.builtin_types {
+            let name = self.session.intern_name(text.name)?;
+            self.db.add_builtin(name, text.number)?;
+        }
+        if let Some(krate) = row.crates.last() {
+            self.add_flags(Crate(krate.krate), row.flags.as_slice())?;
+        }
+        Ok(())
+    }
+
+    /// Adds words that `cfg` knows of a crate.
+    fn add_flags(&mut self, krate: Crate, flags: &[&str]) -> Result<(), AllocError> {
+        for flag in flags {
+            let name = self.session.intern_name(flag)?;
+            self.db.add_flag(krate, name)?;
+        }
+        Ok(())
+    }
+
+    /// Adds how the macros of a row are called, and its builtin attributes.
+    fn add_macros(&mut self, row: &Fixture<'_>) -> Result<(), AllocError> {
+        for text in &row.builtin_attrs {
             let name = self.session.intern_name(text.name)?;
             self.db.add_builtin_attr(name, text.attr)?;
         }
-        for text in vector.styles {
+        for text in &row.styles {
             let position = InFile {
                 file: text.file,
                 value: FileAstId(text.ast_id),
             };
             self.db.add_styles(position, text.styles)?;
         }
-        let Some(krate) = vector.crates.last() else {
-            return Ok(());
-        };
-        for flag in vector.flags {
-            let name = self.session.intern_name(flag)?;
-            self.db.add_flag(Crate(krate.krate), name)?;
+        Ok(())
+    }
+
+    /// Adds the builtin derives of a row, and which of them give impls with no expansion.
+    fn add_derives(&mut self, row: &Fixture<'_>) -> Result<(), AllocError> {
+        for text in &row.builtin_derives {
+            self.add_derive(text)?;
+        }
+        self.db.set_derive_fast_path(row.derive_fast_path);
+        Ok(())
+    }
+
+    /// Adds a builtin derive.
+    fn add_derive(&mut self, text: &BuiltinDeriveText<'_>) -> Result<(), AllocError> {
+        let name = self.session.intern_name(text.name)?;
+        self.db.add_builtin_derive(name, text.number)?;
+        if text.has_impl {
+            let traits = text.traits.as_slice().to_vec(self.alloc)?;
+            self.db.add_derive_traits(text.number, traits)?;
         }
         Ok(())
     }
 
-    /// Adds the builtin derives of a vector, and which of them give impls with no expansion.
-    fn add_derives(&mut self, vector: &Vector) -> Result<(), AllocError> {
-        for text in vector.builtin_derives {
-            let name = self.session.intern_name(text.name)?;
-            self.db.add_builtin_derive(name, text.number)?;
-            if text.has_impl {
-                let traits = text.traits.to_vec(self.alloc)?;
-                self.db.add_derive_traits(text.number, traits)?;
-            }
-        }
-        self.db.set_derive_fast_path(vector.derive_fast_path);
-        Ok(())
-    }
-
-    /// The workspace of a vector, with no crate collected.
-    pub fn new(alloc: Global, vector: &Vector) -> Result<Workspace, Fault> {
+    /// The workspace of a row, with no crate collected.
+    pub fn new(alloc: Global, row: &Fixture<'_>) -> Result<Workspace, Fault> {
         let mut workspace = Workspace::empty(alloc)?;
-        workspace.fill(vector)?;
+        workspace.fill(row)?;
         Ok(workspace)
     }
 
@@ -121,6 +150,15 @@ impl Workspace {
             self.db.add_path(from, path, FileId(*number))?;
         }
         Ok(())
+    }
+
+    /// Adds the items of a file.
+    fn add_file(&mut self, id: TreeId, file: &FileText<'_>) -> Result<(), Fault> {
+        if file.times == 1 {
+            return self.add_text(id, file.text);
+        }
+        let text = repeated(self.alloc, file)?;
+        self.add_text(id, text.as_str())
     }
 
     /// Adds the items of a file or a block, whose text this is.
@@ -160,7 +198,7 @@ impl Workspace {
     }
 
     /// Adds the answer of a macro call, or the call of an attribute macro or a derive.
-    fn add_answer(&mut self, call: MacroCallId, text: &CallText) -> Result<(), AllocError> {
+    fn add_answer(&mut self, call: MacroCallId, text: &CallText<'_>) -> Result<(), AllocError> {
         let position = InFile {
             file: text.file,
             value: FileAstId(text.ast_id),
@@ -188,7 +226,7 @@ impl Workspace {
     }
 
     /// Adds a macro call, and the items of its expansion.
-    pub fn add_call(&mut self, call: MacroCallId, text: &CallText) -> Result<(), Fault> {
+    pub fn add_call(&mut self, call: MacroCallId, text: &CallText<'_>) -> Result<(), Fault> {
         self.add_answer(call, text)?;
         if text.is_include {
             self.db.add_include(call)?;
@@ -201,7 +239,7 @@ impl Workspace {
     }
 
     /// Adds calls in a row, numbered from this number on.
-    fn add_chain(&mut self, first: usize, chain: &ChainText) -> Result<(), Fault> {
+    fn add_chain(&mut self, first: usize, chain: &ChainText<'_>) -> Result<(), Fault> {
         for place in 0..chain.length {
             let call = call_at(first, chain, place);
             self.add_call(MacroCallId(first.saturating_add(place)), &call)?;
@@ -209,7 +247,8 @@ impl Workspace {
         Ok(())
     }
 
-    fn dependency(&mut self, text: &DependencyText) -> Result<Dependency, AllocError> {
+    /// A crate on which another one depends.
+    fn dependency(&mut self, text: &DependencyText<'_>) -> Result<Dependency, AllocError> {
         Ok(Dependency {
             name: self.session.intern_name(text.name)?,
             krate: Crate(text.krate),
@@ -219,22 +258,22 @@ impl Workspace {
     }
 
     /// Adds what is known of a crate.
-    fn add_crate(&mut self, text: &CrateText) -> Result<(), AllocError> {
+    fn add_crate(&mut self, text: &CrateText<'_>) -> Result<(), AllocError> {
         let mut deps = Seq::from_vec(Vec::new(self.alloc));
-        for dependency in text.deps {
+        for dependency in &text.deps {
             deps.push(self.dependency(dependency)?)?;
         }
         let data = CrateData {
             root_file: FileId(text.root_file),
             proc_macro: false,
-            lang: None,
+            lang: text.lang,
             deps,
         };
         self.db.add_crate(Crate(text.krate), data)
     }
 
     /// Collects the definitions of a crate.
-    pub fn collect(&mut self, text: &CrateText) -> Result<Collected, AllocError>
+    pub fn collect(&mut self, text: &CrateText<'_>) -> Result<Collected, AllocError>
         // What is answered ends a run over the crate.
         ensures answers { IfOk result (λ collected.
             Answers (setting (answers_of self.old.db) text.now)
@@ -248,7 +287,7 @@ impl Workspace {
     }
 
     /// Collects the definitions of a crate, and hands their map to the crates that depend on it.
-    pub fn collect_dependency(&mut self, text: &CrateText) -> Result<(), AllocError> {
+    pub fn collect_dependency(&mut self, text: &CrateText<'_>) -> Result<(), AllocError> {
         let Collected {
             def_map,
             local_def_map,
@@ -269,12 +308,27 @@ fn tree_id(file: FileId) -> TreeId
     }
 }
 
+/// The text of a file, whose last line stands there so often.
+fn repeated(alloc: Global, file: &FileText<'_>) -> Result<String, AllocError> {
+    let (above, last) = file.text.rsplit_once('\n').unwrap_or(("", file.text));
+    let mut text = String::from_str(alloc, above)?;
+    for _ in 0..file.times {
+        text.push_str("\n")?;
+        text.push_str(last)?;
+    }
+    Ok(text)
+}
+
 /// The call at a place of a row whose first has this number.
 fn call_at<'a>(first: usize, chain: &ChainText<'a>, place: usize) -> CallText<'a> {
     let mut call = chain.first;
-    if let Some(before) = place.checked_sub(1) {
-        call.file = HirFileId::Macro(MacroCallId(first.saturating_add(before)));
-        call.ast_id = chain.ast_id;
+    match (chain.ast_id, place.checked_sub(1)) {
+        (Some(ast_id), Some(before)) => {
+            call.file = HirFileId::Macro(MacroCallId(first.saturating_add(before)));
+            call.ast_id = ast_id;
+        }
+        (Some(_), None) => {}
+        (None, _) => call.ast_id = call.ast_id.saturating_add(place),
     }
     if chain.length.saturating_sub(1) <= place {
         call.gives = chain.last;

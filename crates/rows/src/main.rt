@@ -3,7 +3,7 @@
 //! with those that are wanted.
 #![tactic(auto)]
 
-mod collecting;
+mod program;
 mod records;
 mod run;
 

@@ -1,9 +1,11 @@
 //! Runs the rows of one text.
 
-use crate::collecting::collect;
+use crate::program::write_run;
 use crate::records::write_records;
-use def_workspace::{Collected, Fault, Vector, Workspace, find, print};
-use fixtures::{Fixture, FixtureFault, Part, lists_of, read, rows_in, vector_of};
+use def_workspace::{
+    Collected, Fault, Fixture, FixtureFault, Part, Workspace, collect, find, print, read_row,
+    rows_in,
+};
 use std::alloc::Global;
 use std::io::{self, Write};
 
@@ -14,44 +16,55 @@ pub struct Counts {
     pub wrong: usize,
 }
 
-/// Writes the lines of what is collected of a row.
+/// Writes the lines of what is collected of a row, and where that is asked those of what is recorded.
 fn write_collected(
-    row: &Fixture<'_>,
+    has_records: bool,
     workspace: &Workspace,
     collected: &Collected,
     lines: &mut Vec<u8>,
 ) -> Result<(), Fault> {
     print(workspace.alloc, &workspace.session, collected, lines)?;
-    if row.records.is_some() {
+    if has_records {
         writeln!(lines, "recorded:")?;
         write_records(&workspace.session, collected, lines)?;
     }
     Ok(())
 }
 
-/// Collects the crates of the workspace of a row, and writes the lines of the last one.
-fn write_vector(
+/// Collects the crates of a workspace, and writes the lines of the last one.
+fn write_workspace(
     alloc: Global,
     row: &Fixture<'_>,
-    vector: &Vector<'_>,
+    has_records: bool,
     lines: &mut Vec<u8>,
 ) -> Result<(), Fault> {
-    let mut workspace = Workspace::new(alloc, vector)?;
-    match collect(&mut workspace, row, vector.crates)? {
-        Some(collected) => write_collected(row, &workspace, &collected, lines),
+    let mut workspace = Workspace::new(alloc, row)?;
+    match collect(&mut workspace, row)? {
+        Some(collected) => write_collected(has_records, &workspace, &collected, lines),
         None => Ok(writeln!(lines, "no block")?),
     }
 }
 
-/// Writes the lines of a row, whose workspace is its own or has a name.
-fn write_row(alloc: Global, row: &Fixture<'_>, lines: &mut Vec<u8>) -> Result<(), Fault> {
-    let Some(name) = row.vector else {
-        let lists = lists_of(alloc, row)?;
-        return write_vector(alloc, row, &vector_of(row, &lists), lines);
+/// Writes the lines of the workspace that has a name.
+fn write_named(
+    alloc: Global,
+    name: &str,
+    has_records: bool,
+    lines: &mut Vec<u8>,
+) -> Result<(), Fault> {
+    let Some(text) = find(name) else {
+        return Ok(writeln!(lines, "no workspace")?);
     };
-    match find(name) {
-        Some(vector) => write_vector(alloc, row, vector, lines),
-        None => Ok(writeln!(lines, "no workspace")?),
+    let row = read_row(alloc, Part { text, line: 1 })?;
+    write_workspace(alloc, &row, has_records, lines)
+}
+
+/// Writes the lines of a row: of a run of the program, of a workspace that has a name, or of its own.
+fn write_row(alloc: Global, row: &Fixture<'_>, lines: &mut Vec<u8>) -> Result<(), Fault> {
+    match (&row.program, row.vector) {
+        (Some(program), _) => Ok(write_run(alloc, program, lines)?),
+        (None, Some(name)) => write_named(alloc, name, row.records.is_some(), lines),
+        (None, None) => write_workspace(alloc, row, row.records.is_some(), lines),
     }
 }
 
@@ -75,13 +88,16 @@ fn write_ended(text: &str, lines: &mut Vec<u8>) -> io::Result<()> {
 /// Writes the lines that a row wants.
 fn write_wanted(row: &Fixture<'_>, lines: &mut Vec<u8>) -> io::Result<()> {
     write_ended(row.shows, lines)?;
-    match row.records {
-        Some(records) => {
-            writeln!(lines, "recorded:")?;
-            write_ended(records, lines)
-        }
-        None => Ok(()),
+    if let Some(program) = &row.program {
+        let status = program.status;
+        writeln!(lines, "status {status}")?;
+        write_ended(program.says, lines)?;
     }
+    if let Some(records) = row.records {
+        writeln!(lines, "recorded:")?;
+        write_ended(records, lines)?;
+    }
+    Ok(())
 }
 
 /// Writes the name of a row that is wrong, the lines that are wanted, and those that it has.
@@ -115,7 +131,7 @@ fn report_fault<W: io::Write>(fault: FixtureFault, out: &mut W) -> Result<(), Fa
 
 /// Runs a row, and answers whether it is right.
 fn is_right<W: io::Write>(alloc: Global, part: Part<'_>, out: &mut W) -> Result<bool, Fault> {
-    match read(alloc, part) {
+    match read_row(alloc, part) {
         Ok(row) => has_wanted(alloc, &row, out),
         Err(fault) => {
             report_fault(fault, out)?;

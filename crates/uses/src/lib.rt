@@ -1,11 +1,10 @@
-//! How the library is used, by examples: a database is filled, a crate of two files is collected, a
-//! dependency and then its user, and a block; and what was collected is read.
+//! How the library is used, by examples that are tests: a database is filled, a crate of two files is
+//! collected, a dependency and then its user, and a block; and what was collected is read. Beside them
+//! stand tests of what no contract says and no row can: token trees, item trees, tables, globs and
+//! maps at work.
 #![tactic(auto)]
 
-pub mod blocks;
-pub mod collecting;
-pub mod dependencies;
-pub mod items;
-pub mod oracle;
-pub mod reading;
-pub mod two_files;
+#[cfg(test)]
+mod examples;
+#[cfg(test)]
+mod layers;

@@ -3,5 +3,5 @@ use Rattle.std.specs.List.{list_any}
 use Rattle.def_scripted.proofs.named.first_named.Given as goal
 
 -- those that are left decide
-abbrev pub invariant-loop-vector : goal.invariant-loop-vector
-invariant-loop-vector l = list_any (λ v. bytes_eq v.name.now l.name) (drop l.vector-index l.vectors) ≡ list_any (λ v. bytes_eq v.name.now l.name) l.vectors
+abbrev pub invariant-loop-place : goal.invariant-loop-place
+invariant-loop-place l = list_any (λ known. bytes_eq known.now l.name) (drop l.place l.names) ≡ list_any (λ known. bytes_eq known.now l.name) l.names

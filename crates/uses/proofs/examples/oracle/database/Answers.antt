@@ -1,7 +1,7 @@
 use Rattle.std.proofs.Common.{ap, ◌∙◌, Option, codes}
 use Rattle.tree_ids.specs.declared.ids.FileId.{FileId}
 use Rattle.def_map.specs.Oracle.{Oracle}
-use Rattle.uses.proofs.oracle.database.Goals as goal
+use Rattle.uses.proofs.examples.oracle.database.Goals as goal
 
 abbrev asked : Oracle → Option FileId
 asked oracle = oracle.resolve_path (record { 0 = 0 }) (codes "a.rs")

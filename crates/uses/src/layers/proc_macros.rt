@@ -1,6 +1,6 @@
 //! What a derive declares, by the arguments of its attribute.
 
-use super::token_trees::trees_of;
+use crate::layers::token_trees::trees_of;
 use def_parts::parse_macro_name_and_helper_attrs;
 use item_tree::Name;
 use std::alloc::{AllocError, Global};

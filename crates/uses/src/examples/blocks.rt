@@ -1,7 +1,7 @@
 //! A block of a function's body: `use S as T;`, in a crate with `pub struct S;`.
 
-use crate::collecting::{collect_first, tree_of_file};
-use crate::items::{add_item, crate_data, import_as, struct_of};
+use crate::examples::collecting::{collect_first, tree_of_file};
+use crate::examples::items::{add_item, crate_data, import_as, struct_of};
 use hir_def::{
     BlockId, BlockInfo, Collected, Crate, Database, DefMap, Edition, FileId, HirFileId, Interner,
     ModuleId, Seq, SourceDatabase, TreeId, collect_defs,

@@ -4,8 +4,8 @@
 ghost use Rattle.std.specs.Prelude.{◌≡◌, Some, IfOk, codes};
 ghost use Rattle.def_database.specs.Database.{answers_of};
 
-use crate::collecting::tree_of_file;
-use crate::items::{add_item, add_items, crate_data, import_of, module_of, struct_of};
+use crate::examples::collecting::tree_of_file;
+use crate::examples::items::{add_item, add_items, crate_data, import_of, module_of, struct_of};
 use hir_def::{Crate, Database, FileId, Interner, ModItemKind, Seq};
 use std::alloc::{AllocError, Global};
 

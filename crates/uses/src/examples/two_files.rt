@@ -1,7 +1,7 @@
 //! Collecting a crate in two files.
 
-use crate::collecting::collect_crate;
-use crate::oracle::{CRATE, ROOT_FILE};
+use crate::examples::collecting::collect_crate;
+use crate::examples::oracle::{CRATE, ROOT_FILE};
 use hir_def::{Collected, Interner, SourceDatabase};
 use std::alloc::{AllocError, Global};
 

@@ -1,6 +1,6 @@
 //! Reading what was collected: the scope of a module, what a path means, and what is left over.
 
-use crate::items::path_of;
+use crate::examples::items::path_of;
 use hir_def::{BuiltinShadowMode, Collected, Def, Interner, ModuleId, Name, SourceDatabase};
 use std::alloc::{AllocError, Global};
 

@@ -1,14 +1,18 @@
 //! The examples of the library's use, at work.
 
-use def_ids::{Def, StructId};
-use def_interner::Interner;
-use def_workspace::Collected;
-use item_tree::Name;
+mod blocks;
+mod collecting;
+mod dependencies;
+mod items;
+mod oracle;
+mod reading;
+mod two_files;
+
+use hir_def::{Collected, Def, Interner, Name, StructId};
+use oracle::database;
+use reading::{first_left_over, type_at_path, type_in_scope};
 use std::alloc::{AllocError, Global};
 use std::test::Fail;
-use uses::oracle::database;
-use uses::reading::{first_left_over, type_at_path, type_in_scope};
-use uses::{blocks, dependencies, two_files};
 
 /// The one struct of each example.
 const STRUCT: Def = Def::Struct(StructId(0));

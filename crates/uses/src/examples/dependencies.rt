@@ -1,7 +1,7 @@
 //! Two crates: `pub struct S;`, and `use d::S;` of one that knows the first as `d`.
 
-use crate::collecting::{collect_crate, collect_first, tree_of_file};
-use crate::items::{add_item, crate_data, import_of, struct_of};
+use crate::examples::collecting::{collect_crate, collect_first, tree_of_file};
+use crate::examples::items::{add_item, crate_data, import_of, struct_of};
 use hir_def::{Collected, Crate, Database, Dependency, FileId, Interner, Seq};
 use std::alloc::{AllocError, Global};
 

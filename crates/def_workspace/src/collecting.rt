@@ -1,8 +1,11 @@
-//! What is collected of a row.
+//! What is collected of a row: its crates, each over those before it, or a block of the last one.
 
-use def_map::{BlockInfo, DefMap, ModuleId};
-use def_workspace::{Collected, CrateText, Fault, Workspace, collect_defs};
-use fixtures::{BlockLine, CrateLine, Fixture, Unknown};
+use crate::fault::Fault;
+use crate::workspace::Workspace;
+use def_collector::{Collected, collect_defs};
+use def_ids::ModuleId;
+use def_map::{BlockInfo, DefMap};
+use def_scripted::{BlockText, CrateText, Fixture, Unknown};
 use item_tree::{BlockId, Crate, FileId, HirFileId, TreeId};
 use std::alloc::AllocError;
 
@@ -12,17 +15,8 @@ const BLOCK: TreeId = TreeId {
     block: Some(BlockId(0)),
 };
 
-/// Writes down which crates of the language the crates of a row are.
-fn set_langs(workspace: &mut Workspace, crates: &[CrateLine<'_>]) {
-    for line in crates {
-        if let Some(known) = workspace.db.crates.known.get_mut(&Crate(line.krate)) {
-            known.lang = line.lang;
-        }
-    }
-}
-
 /// Forgets what the oracle of a row does not know.
-fn forget(workspace: &mut Workspace, unknown: Unknown) {
+fn forget(workspace: &mut Workspace, unknown: &Unknown) {
     let db = &mut workspace.db;
     match unknown {
         Unknown::Files => db.files.trees.clear(),
@@ -73,7 +67,7 @@ fn collect_in(
 fn collect_block(
     workspace: &mut Workspace,
     krate: &CrateText<'_>,
-    block: &BlockLine<'_>,
+    block: &BlockText<'_>,
 ) -> Result<Option<Collected>, Fault> {
     workspace.collect_dependency(krate)?;
     workspace.add_text(BLOCK, block.items)?;
@@ -92,19 +86,15 @@ fn collect_others(workspace: &mut Workspace, others: &[CrateText<'_>]) -> Result
     Ok(())
 }
 
-/// Collects the crates of a row, each over those before it. The last one, or its block, is answered.
-pub fn collect(
-    workspace: &mut Workspace,
-    row: &Fixture<'_>,
-    crates: &[CrateText<'_>],
-) -> Result<Option<Collected>, Fault> {
-    let Some((last, others)) = crates.split_last() else {
+/// Collects the crates of a row, each over those before it. The last one, or its block, is answered;
+/// `None` where no block may stand there.
+pub fn collect(workspace: &mut Workspace, row: &Fixture<'_>) -> Result<Option<Collected>, Fault> {
+    let Some((last, others)) = row.crates.as_slice().split_last() else {
         return Ok(None);
     };
-    set_langs(workspace, row.crates.as_slice());
     collect_others(workspace, others)?;
     for unknown in &row.unknown {
-        forget(workspace, *unknown);
+        forget(workspace, unknown);
     }
     match &row.block {
         Some(block) => collect_block(workspace, last, block),

@@ -3,8 +3,8 @@
 use crate::fault::Fault;
 use crate::page::Page;
 use crate::words::{Word, def_word, item_word, origin_word, text_of, visibility_word};
-use def_answer::Collected;
 use def_bindings::{Binding, Visibility};
+use def_collector::Collected;
 use def_interner::Interner;
 use def_map::{DefMap, ItemScope, PerNs};
 use def_rules::{DefDiagnostic, DefDiagnosticKind, Edge, LeftImport, LeftMacro, LeftMacroKind};

@@ -1,7 +1,13 @@
-//! A vector with a long text.
+//! The texts of the scripted workspaces that have names, each a row that wants no lines.
 
-/// A module with a call by a path, and modules that each glob the one before.
-pub const CHAIN: &str = "pub macro late {} mod m0{crate::late!();} mod m1{pub use crate::m0::*;}
+pub static ATTRS: &str = r#"
+-- file
+#![recursion_limit = "4"] #![no_core] #![no_std] #![feature(register_tool)]
+-- shows"#;
+
+pub static CHAIN: &str = "
+-- file
+pub macro late {} mod m0{crate::late!();} mod m1{pub use crate::m0::*;}
 mod m2{pub use crate::m1::*;} mod m3{pub use crate::m2::*;} mod m4{pub use crate::m3::*;}
 mod m5{pub use crate::m4::*;} mod m6{pub use crate::m5::*;} mod m7{pub use crate::m6::*;}
 mod m8{pub use crate::m7::*;} mod m9{pub use crate::m8::*;} mod m10{pub use crate::m9::*;}
@@ -74,4 +80,113 @@ mod m141{pub use crate::m140::*;} mod m142{pub use crate::m141::*;}
 mod m143{pub use crate::m142::*;} mod m144{pub use crate::m143::*;}
 mod m145{pub use crate::m144::*;} mod m146{pub use crate::m145::*;}
 mod m147{pub use crate::m146::*;} mod m148{pub use crate::m147::*;}
-mod m149{pub use crate::m148::*;} mod m150{pub use crate::m149::*;}";
+mod m149{pub use crate::m148::*;} mod m150{pub use crate::m149::*;}
+-- call at 0:2 of macro:0
+pub struct N;
+-- shows";
+
+pub static CIRCULAR: &str = r#"
+path foo.rs file 1
+-- file
+#[path = "foo.rs"] mod foo;
+-- file
+#[path = "foo.rs"] mod foo;
+-- shows"#;
+
+pub static CYCLE: &str = "
+-- file
+mod a { pub use crate::b::*; pub struct X; }
+mod b { pub use crate::a::*; pub struct Y; }
+-- shows";
+
+pub static EMPTY: &str = "
+-- shows";
+
+pub static EXCUSED: &str = "
+-- file
+extern crate gone as g; use g::X; use ::g::Y; use self::g::Z;
+-- shows";
+
+pub static FALLBACK: &str = "
+-- file
+#[nope] #[nix] pub struct S;
+-- shows";
+
+pub static FIELDS: &str = "
+-- file
+pub struct Q(pub u8, pub(crate) u8);
+-- shows";
+
+pub static FOLLOW: &str = "
+-- file
+mod t { pub struct N; pub macro late {} }
+mod s { pub use crate::t::*; crate::t::late!(); } use s::*;
+-- call at 0:5 of macro:0
+pub struct N;
+-- shows";
+
+pub static GLOB: &str = "
+-- file
+mod a { pub struct S; } use a::*;
+-- shows";
+
+pub static LIST: &str = "
+-- file
+mod p { pub use crate::m::*; }
+mod t { pub struct A; pub struct B; }
+mod m { pub struct A; pub use crate::t::*; }
+-- shows";
+
+pub static MODULE_MACRO: &str = "
+-- file
+mod m { macro_rules! foo {} } use m::foo as bar;
+-- shows";
+
+pub static PARTIAL: &str = "
+-- file
+pub macro one {} pub macro two {}
+mod s { pub trait Q {} crate::one!(); } use s::Q;
+-- call at 0:4 of macro:0
+pub fn Q() {} crate::two!();
+-- call at m0:1 of macro:1
+pub macro Q {}
+-- shows";
+
+pub static PLAIN: &str = "
+-- file
+mod a { pub struct S; } use a::S; use a::T;
+-- shows";
+
+pub static PRIVATE: &str = "
+-- file
+mod a { pub struct T(u8); } use a::*;
+-- shows";
+
+pub static ROUNDS: &str = r#"
+-- file
+#![recursion_limit = "4294967295"] pub macro more {} crate::more!();
+-- chain length 10000 item 0 of macro:0
+crate::more!();
+-- last
+crate::more!();
+-- shows"#;
+
+pub static TARGETS: &str = "
+-- file
+mod t { pub mod q { pub struct A; } } pub macro late {}
+mod s { pub use crate::t::*; crate::late!(); } use s::q::*;
+-- call at 0:6 of macro:0
+pub mod q { pub struct B; } pub fn q() {}
+-- shows";
+
+pub static TEXTUAL_USE: &str = "
+-- file
+macro_rules! foo {} use foo as bar;
+-- shows";
+
+pub static UNDERSCORE: &str = "
+-- file
+pub trait Tr {} mod a {} mod b {}
+pub(in crate::a) use Tr as _;
+pub(in crate::b) use Tr as _;
+-- shows";

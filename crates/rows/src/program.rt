@@ -1,0 +1,74 @@
+//! Runs of the program that prints maps: what it writes and says, its status, and what a write that is
+//! refused changes of them.
+
+use def_workspace::{ProgramText, run, run_args};
+use std::alloc::Global;
+use std::io::{self, Write};
+
+/// A writer that takes so many bytes, and then fails.
+#[derive(Drop)]
+struct Narrow {
+    room: usize,
+}
+
+impl io::Write for Narrow {
+    fn write(&mut self, buf: &[u8]) -> io::Result<usize> {
+        if self.room < buf.len() {
+            return Err(io::Error::from(io::ErrorKind::StorageFull));
+        }
+        self.room -= buf.len();
+        Ok(buf.len())
+    }
+
+    fn flush(&mut self) -> io::Result<()> {
+        Ok(())
+    }
+}
+
+/// Runs the program, and answers its status.
+fn status_of<O: io::Write, E: io::Write>(
+    alloc: Global,
+    program: &ProgramText<'_>,
+    out: &mut O,
+    err: &mut E,
+) -> u8 {
+    if program.is_no_text {
+        let args = Err(io::Error::from(io::ErrorKind::InvalidData));
+        run_args(alloc, args, out, err)
+    } else {
+        run(alloc, program.words.as_slice(), out, err)
+    }
+}
+
+/// Whether a run with so much room for its text, which is too little, ends with status 1, and says
+/// nothing.
+fn is_refused(alloc: Global, program: &ProgramText<'_>, room: usize) -> bool {
+    let mut said: Vec<u8> = Vec::new(alloc);
+    status_of(alloc, program, &mut Narrow { room }, &mut said) == 1 && said.is_empty()
+}
+
+/// Whether a run ends so with each lesser room for its text, of which there are so many bytes, and
+/// ends with its own status where it has this room and can say nothing.
+fn is_refused_alone(alloc: Global, program: &ProgramText<'_>, length: usize, status: u8) -> bool {
+    for room in 0..length {
+        if !is_refused(alloc, program, room) {
+            return false;
+        }
+    }
+    let mut out = Narrow { room: length };
+    status_of(alloc, program, &mut out, &mut Narrow { room: 0 }) == status
+}
+
+/// Writes what a run writes, its status, and what it says, and a line where a refused write changes
+/// more than it should.
+pub fn write_run(alloc: Global, program: &ProgramText<'_>, lines: &mut Vec<u8>) -> io::Result<()> {
+    let mut said: Vec<u8> = Vec::new(alloc);
+    let status = status_of(alloc, program, lines, &mut said);
+    let length = lines.len();
+    writeln!(lines, "status {status}")?;
+    lines.write_all(said.as_slice())?;
+    if !is_refused_alone(alloc, program, length, status) {
+        writeln!(lines, "a refused write is not told")?;
+    }
+    Ok(())
+}

@@ -1,0 +1,8 @@
+//! What no contract says of the layers below the collector, and no row can say: token trees, item
+//! trees, tables, globs and maps at work.
+
+mod proc_macros;
+mod shown_order;
+mod tables;
+mod token_trees;
+mod trees;
