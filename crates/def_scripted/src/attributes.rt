@@ -32,6 +32,15 @@ impl Written {
             None => AttrsOrCfg::Enabled(attrs),
         }
     }
+
+    /// The attributes of an item, if something stands before it.
+    pub fn of_item(self) -> Option<AttrsOrCfg> {
+        if self.list.is_empty() && self.cfg.is_none() {
+            None
+        } else {
+            Some(self.into_attrs())
+        }
+    }
 }
 
 /// Adds a token to those of an attribute.

@@ -104,7 +104,7 @@ impl Items {
         let attrs = mem::replace(&mut self.attrs, Written::new(self.alloc));
         self.nodes.push(ItemNode {
             ast_id: FileAstId(number),
-            attrs: Some(attrs.into_attrs()),
+            attrs: attrs.of_item(),
             kind,
         })?;
         self.place(ModItemId(number))?;

@@ -1,5 +1,5 @@
 -- What the database of one file answers.
-use Rattle.std.specs.Prelude.{false, List, [], ◌∷◌, Option, Some, None, Result, Ok, Err, slice_get}
+use Rattle.std.specs.Prelude.{ℕ, ◌+◌, ◌-◌, ◌^◌, min, false, List, [], ◌∷◌, Option, Some, None, Result, Ok, Err, slice_get}
 use Rattle.tree_ids.specs.declared.ids.HirFileId.{HirFileId}
 use Rattle.tree_ids.specs.declared.ids.HirFileId.TheVariants.{File, Macro}
 use Rattle.item_tree.specs.declared.tree.ItemTree.{ItemTree}
@@ -18,9 +18,14 @@ abbrev pub tree_in : OneFile → HirFileId → Option ItemTree
 tree_in one (File file) = Some one.tree
 tree_in one (Macro call) = slice_get one.expansions.items call.0
 
--- a call whose macro is found has the number of its item
+-- the number of an item's call: in the file the item's own, and in what a call gives the next one after that call's
+abbrev pub number_at : HirFileId → ℕ → ℕ
+number_at (File _) item = item
+number_at (Macro call) item = min (call.0 + 1) (2 ^ 64 - 1)
+
+-- a call whose macro is found has the number of its place
 abbrev pub call_answer : PlainCall → List (Option MacroDefId) → Result CallAnswer UnresolvedMacro
-call_answer query (Some found ∷ _) = Ok (record { value = Some (record { 0 = query.position.value.0 }); err = None; inner = [] })
+call_answer query (Some found ∷ _) = Ok (record { value = Some (record { 0 = number_at query.position.file query.position.value.0 }); err = None; inner = [] })
 call_answer query _ = Err (record { path = query.path })
 
 -- all answers: each question is about the one file and the one crate
@@ -38,7 +43,7 @@ answers_of one =
       asked_paths = λ query. query.path ∷ [];
       macro_call = call_answer;
       make_attr_call = λ query. record { 0 = 0 };
-      make_derive_call = λ query. record { 0 = query.position.value.0 };
+      make_derive_call = λ query. record { 0 = number_at query.position.file query.position.value.0 };
       is_include = λ call. false;
       enum_variants = λ loc. None;
       assoc_items = λ owner. None;

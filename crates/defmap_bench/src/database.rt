@@ -1,5 +1,6 @@
 //! A database that answers from fields, so that no time goes into its answers.
-ghost use Rattle.defmap_bench.specs.Database.{answers_of};
+ghost use Rattle.std.specs.Prelude.{◌≡◌};
+ghost use Rattle.defmap_bench.specs.Database.{answers_of, number_at};
 
 use bitflags::Flags;
 use def_locs::{BuiltinAttr, EnumLoc};
@@ -15,14 +16,41 @@ use item_tree::{
 use std::alloc::{AllocError, Global};
 
 /// One crate in one file. Each question about a file or a crate is about these. The number of a
-/// call or of a derive is that of its item, so no item of an expansion that is called or derives may
-/// have the number of another. Each builtin attribute macro reads derives.
+/// call or of a derive in the file is that of its item, and in what another call gives it is the
+/// next one after that call's: so no more than one call or derive may stand there, and not two calls
+/// may have one number. Each builtin attribute macro reads derives.
 #[derive(Drop)]
 pub struct OneFile {
     pub tree: ItemTree,
     pub krate: CrateData,
     /// What calls give, by their numbers.
     pub expansions: Vec<ItemTree>,
+}
+
+impl OneFile {
+    /// The crate of a tree, whose calls give nothing yet.
+    pub fn new(alloc: Global, tree: ItemTree) -> OneFile {
+        OneFile {
+            tree,
+            krate: CrateData {
+                root_file: FileId(0),
+                proc_macro: false,
+                lang: None,
+                deps: Seq::from_vec(Vec::new(alloc)),
+            },
+            expansions: Vec::new(alloc),
+        }
+    }
+}
+
+/// The number of the call of an item.
+fn number_of(position: InFile<FileAstId>) -> usize
+    ensures { result ≡ number_at position.file position.value.0 }
+{
+    match position.file {
+        HirFileId::File(_) => position.value.0,
+        HirFileId::Macro(call) => call.0.saturating_add(1),
+    }
 }
 
 impl SourceDatabase for OneFile {
@@ -71,7 +99,7 @@ impl SourceDatabase for OneFile {
     ) -> Result<Result<CallAnswer, UnresolvedMacro>, AllocError> {
         match resolver.resolve(query.path) {
             Some(_) => Ok(Ok(CallAnswer {
-                value: Some(MacroCallId(query.position.value.0)),
+                value: Some(MacroCallId(number_of(query.position))),
                 err: None,
                 inner: Seq::from_vec(Vec::new(alloc)),
             })),
@@ -86,7 +114,7 @@ impl SourceDatabase for OneFile {
     }
 
     fn make_derive_call(&self, query: DeriveCallQuery) -> MacroCallId {
-        MacroCallId(query.position.value.0)
+        MacroCallId(number_of(query.position))
     }
 
     fn is_include(&self, _call: MacroCallId) -> bool {

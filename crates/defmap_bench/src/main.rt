@@ -2,92 +2,64 @@
 //! crates take for large inputs, and prints a table or lines for each.
 #![tactic(auto)]
 
-mod asked;
+mod cells;
 mod database;
 mod figures;
 mod globs;
-mod maker;
 mod measure;
 mod places;
-mod random;
-mod ratio;
 mod report;
-mod shape;
 mod tables;
-mod text;
-mod tree;
+mod texts;
 mod trees;
 
-use asked::{Asked, Subject, asked_by};
-use measure::measure_shape;
-use shape::Shape;
-use std::alloc::Global;
+use measure::{Table, measure_text};
 use std::process::ExitCode;
-use std::rt::{Clock, Env};
-use std::{env, io};
+use std::rt::{Clock, Files};
+use std::{env, fs, io};
 
-/// The shapes that are measured where all are asked for.
-static ALL: [Shape; 12] = [
-    Shape::Items,
-    Shape::Imports,
-    Shape::Star,
-    Shape::Chain,
-    Shape::RealCode,
-    Shape::OneEachPass,
-    Shape::Calls,
-    Shape::CallChain,
-    Shape::QueuedCalls,
-    Shape::Rounds,
-    Shape::Derives,
-    Shape::GivenUp,
-];
-
-/// The words of the command line.
-fn words_of(rt: &(impl Env + AllocGlobal)) -> io::Result<Vec<String>> {
-    let mut words = Vec::new(rt.alloc());
-    for word in env::args(rt)? {
-        words.push(word)?;
+/// Measures what a word asks for, and answers whether it names something. Most words name the
+/// file of a crate.
+fn run<R: Clock + Files + AllocGlobal, W: io::Write>(
+    rt: &R,
+    out: &mut W,
+    table: &mut Table,
+    word: &str,
+) -> io::Result<bool> {
+    match word {
+        "trees" => trees::run(rt.alloc(), rt, out)?,
+        "tables" => tables::run(rt.alloc(), rt, out)?,
+        "globs" => globs::run(rt.alloc(), rt, out)?,
+        _ => {
+            let Ok(text) = fs::read_to_string(rt, word) else {
+                return Ok(false);
+            };
+            measure_text(rt.alloc(), rt, out, table, text.as_str())?;
+        }
     }
-    Ok(words)
+    Ok(true)
 }
 
-/// Measures all shapes.
-fn run_all<C: Clock, W: io::Write>(
-    alloc: Global,
-    clock: &C,
-    out: &mut W,
-    greatest: usize,
-) -> io::Result<()> {
-    for shape in ALL.as_slice() {
-        measure_shape(alloc, clock, out, *shape, greatest)?;
+/// Measures what the words of the command line ask for, up to one that names nothing, and answers
+/// whether there is a word, and each names something.
+fn run_all<W: io::Write>(rt: &HostRuntime, out: &mut W) -> io::Result<bool> {
+    let mut table = Table::new(rt.alloc());
+    let mut is_known = false;
+    for word in env::args(rt)?.skip(1) {
+        is_known = run(rt, out, &mut table, word.as_str())?;
+        if !is_known {
+            break;
+        }
     }
-    Ok(())
-}
-
-/// Measures what is asked for.
-fn run<C: Clock, W: io::Write>(
-    alloc: Global,
-    clock: &C,
-    out: &mut W,
-    asked: Asked,
-) -> io::Result<()> {
-    match asked.subject {
-        Subject::All => run_all(alloc, clock, out, asked.greatest),
-        Subject::One(shape) => measure_shape(alloc, clock, out, shape, asked.greatest),
-        Subject::Trees => trees::run(alloc, clock, out),
-        Subject::Tables => tables::run(alloc, clock, out),
-        Subject::Globs => globs::run(alloc, clock, out),
-    }
+    Ok(is_known)
 }
 
 fn main(rt: HostRuntime) -> io::Result<ExitCode> {
-    let words = words_of(&rt)?;
-    let Some(asked) = asked_by(words.as_slice()) else {
-        eprintln!(rt;
-            "usage: defmap_bench SHAPE [GREATEST]\nshapes: all, items, imports, star, chain, real, passes, calls, call-chain, queued, rounds, derives, fallback\n   or: defmap_bench trees | tables | globs"
-        )?;
-        return Ok(ExitCode::from(2));
-    };
-    run(rt.alloc(), &rt, &mut io::writer(&rt), asked)?;
-    Ok(ExitCode::SUCCESS)
+    if run_all(&rt, &mut io::writer(&rt))? {
+        return Ok(ExitCode::SUCCESS);
+    }
+    eprintln!(rt;
+        "usage: defmap_bench FILE..\nfiles: crates that tools/shapes writes\n   or: defmap_bench trees | tables | globs"
+    )?;
+    Ok(ExitCode::from(2))
 }

@@ -2,16 +2,14 @@
 ghost use Rattle.std.specs.Prelude.{◌≡◌, None};
 
 use crate::database::OneFile;
-use crate::figures::{Counted, Figures, lesser, print_head, print_line};
-use crate::maker::Maker;
+use crate::figures::{Figures, lesser, print_head, print_line};
 use crate::places::{Place, places_of, time_places};
-use crate::shape::{Plan, Shape, given_lines, lines_of};
-use crate::tree::{add_trees, named_tree};
+use crate::texts::{add_given, items_in, read_tree};
 use def_collector::{Collected, collect_defs};
 use def_ids::Edition;
 use def_interner::Interner;
-use def_map::{CrateData, DefMap};
-use item_tree::{Crate, FileId, HirFileId, Seq, TreeId};
+use def_map::DefMap;
+use item_tree::{Crate, FileId, HirFileId, TreeId};
 use std::alloc::{AllocError, Global};
 use std::io;
 use std::rt::Clock;
@@ -23,21 +21,22 @@ const ITEMS_IN_ALL: usize = 1_000_000;
 
 const MOST_TIMES: usize = 40;
 
-/// What one run gave: how many items there were, the places that are bound, and the time.
+/// A table in work: the first line of the crates that it is of, and what was measured of the last
+/// one.
+#[derive(Drop)]
+pub struct Table {
+    head: String,
+    smaller: Option<Figures>,
+}
+
+/// What one run gave: how many items the crate has, what its calls gave, the places that are bound,
+/// and the time.
 #[derive(Drop)]
 struct Run {
     items: usize,
+    given: usize,
     places: Vec<Place>,
     time: Duration,
-}
-
-/// What a run is over: the number of items, what they are made with, the names, and the database.
-#[derive(Drop)]
-struct Written {
-    items: usize,
-    maker: Maker,
-    session: Interner,
-    db: OneFile,
 }
 
 /// The tree of the one file.
@@ -50,52 +49,10 @@ fn root_tree() -> TreeId
     }
 }
 
-/// What is known of the crate.
-fn crate_data(alloc: Global) -> CrateData {
-    CrateData {
-        root_file: FileId(0),
-        proc_macro: false,
-        lang: None,
-        deps: Seq::from_vec(Vec::new(alloc)),
-    }
-}
-
-/// A crate of a shape, whose calls give nothing yet.
-fn write_crate(alloc: Global, plan: Plan) -> io::Result<Written> {
-    let lines = lines_of(alloc, plan)?;
-    let mut maker = Maker::new(alloc);
-    let mut session = Interner::new(alloc)?;
-    let tree = named_tree(&mut maker, &mut session, lines.as_slice())?;
-    Ok(Written {
-        items: lines.len(),
-        maker,
-        session,
-        db: OneFile {
-            tree,
-            krate: crate_data(alloc),
-            expansions: Vec::new(alloc),
-        },
-    })
-}
-
-/// Adds what the calls of a crate give.
-fn add_given(written: &mut Written, plan: Plan) -> io::Result<()> {
-    let Written {
-        items: _,
-        maker,
-        session,
-        db,
-    } = written;
-    let given = given_lines(maker.alloc, plan)?;
-    add_trees(maker, session, given.as_slice(), &mut db.expansions)?;
-    Ok(maker.end()?)
-}
-
 /// Collects the definitions of a crate.
-fn collect(alloc: Global, written: &mut Written) -> Result<Collected, AllocError> {
+fn collect(alloc: Global, one: &OneFile, session: &mut Interner) -> Result<Collected, AllocError> {
     let seeded = DefMap::seed(alloc, Crate(0), Edition::Edition2021, None)?;
-    let db = &written.db;
-    collect_defs(alloc, db, &mut written.session, seeded, root_tree(), None)
+    collect_defs(alloc, one, session, seeded, root_tree(), None)
 }
 
 /// The places that a run bound, if it left no import and no call over.
@@ -112,55 +69,78 @@ fn places_in(alloc: Global, collected: &Collected) -> io::Result<Vec<Place>> {
     Ok(places_of(alloc, &collected.def_map)?)
 }
 
-/// What one run gave.
+/// What one run over a crate gave.
 fn run_of(
-    items: usize,
+    one: &OneFile,
     places: io::Result<Vec<Place>>,
     time: io::Result<Duration>,
 ) -> io::Result<Run> {
     let time = time?;
-    let places = places?;
     Ok(Run {
-        items,
-        places,
+        items: items_in(&one.tree),
+        given: one.expansions.len(),
+        places: places?,
         time,
     })
 }
 
 /// Collects the definitions of a crate, and times that.
-fn time_collect<C: Clock>(alloc: Global, clock: &C, written: &mut Written) -> io::Result<Run> {
+fn time_collect<C: Clock>(
+    alloc: Global,
+    clock: &C,
+    one: &OneFile,
+    session: &mut Interner,
+) -> io::Result<Run> {
     let start = Instant::now(clock)?;
-    let collected = collect(alloc, written)?;
+    let collected = collect(alloc, one, session)?;
     let time = start.elapsed(clock);
-    run_of(written.items, places_in(alloc, &collected), time)
+    run_of(one, places_in(alloc, &collected), time)
 }
 
-/// One run over a crate of its own.
+/// One run over a crate, once what its calls give is read.
 fn run_over<C: Clock>(
     alloc: Global,
     clock: &C,
-    plan: Plan,
-    written: &mut Written,
+    given: &str,
+    session: &mut Interner,
+    one: &mut OneFile,
 ) -> io::Result<Run> {
-    add_given(written, plan)?;
-    time_collect(alloc, clock, written)
+    add_given(alloc, session, given, one)?;
+    time_collect(alloc, clock, one, session)
 }
 
-/// One run.
-fn run_once<C: Clock>(alloc: Global, clock: &C, plan: Plan) -> io::Result<Run> {
-    let mut written = write_crate(alloc, plan)?;
-    run_over(alloc, clock, plan, &mut written)
+/// One run over the crate of a text, under names of a session.
+fn run_in<C: Clock>(
+    alloc: Global,
+    clock: &C,
+    text: &str,
+    session: &mut Interner,
+) -> io::Result<Run> {
+    let (file, given) = text.split_once("-- gives\n").unwrap_or((text, ""));
+    let mut one = OneFile::new(alloc, read_tree(alloc, session, file)?);
+    run_over(alloc, clock, given, session, &mut one)
+}
+
+/// One run over the crate of a text.
+fn run_once<C: Clock>(alloc: Global, clock: &C, text: &str) -> io::Result<Run> {
+    let mut session = Interner::new(alloc)?;
+    run_in(alloc, clock, text, &mut session)
 }
 
 /// What is measured, once.
-fn measure_once<C: Clock>(alloc: Global, clock: &C, plan: Plan) -> io::Result<Figures> {
-    let run = run_once(alloc, clock, plan)?;
-    let (counted, places_time) = match plan.shape.counted() {
-        Counted::Bindings => {
+fn measure_once<C: Clock>(
+    alloc: Global,
+    clock: &C,
+    counted: &str,
+    text: &str,
+) -> io::Result<Figures> {
+    let run = run_once(alloc, clock, text)?;
+    let (counted, places_time) = match counted {
+        "rounds" => (run.given, None),
+        _ => {
             let time = time_places(alloc, clock, run.places.as_slice())?;
             (run.places.len(), Some(time))
         }
-        Counted::Rounds => (plan.size, None),
     };
     Ok(Figures {
         items: run.items,
@@ -170,51 +150,56 @@ fn measure_once<C: Clock>(alloc: Global, clock: &C, plan: Plan) -> io::Result<Fi
     })
 }
 
-/// How often a crate is measured.
-fn times_of(plan: Plan) -> usize {
-    match plan.shape {
-        Shape::OneEachPass => 1,
-        _ => (ITEMS_IN_ALL / plan.size.max(1)).clamp(1, MOST_TIMES),
-    }
-}
-
 /// The least times of some measurements.
-fn measure<C: Clock>(alloc: Global, clock: &C, plan: Plan) -> io::Result<Figures> {
-    let mut figures = measure_once(alloc, clock, plan)?;
-    for _ in 1..times_of(plan) {
-        figures = lesser(figures, measure_once(alloc, clock, plan)?);
+fn measure<C: Clock>(alloc: Global, clock: &C, counted: &str, text: &str) -> io::Result<Figures> {
+    let mut figures = measure_once(alloc, clock, counted, text)?;
+    let times = (ITEMS_IN_ALL / figures.items.max(1)).clamp(1, MOST_TIMES);
+    for _ in 1..times {
+        figures = lesser(figures, measure_once(alloc, clock, counted, text)?);
     }
     Ok(figures)
 }
 
-/// Measures a crate, and prints a line.
-fn measure_line<C: Clock, W: io::Write>(
-    alloc: Global,
-    clock: &C,
-    out: &mut W,
-    plan: Plan,
-    smaller: Option<Figures>,
-) -> io::Result<Figures> {
-    let figures = measure(alloc, clock, plan)?;
-    print_line(out, figures, smaller)?;
-    Ok(figures)
-}
-
-/// Measures a shape in all its sizes up to a greatest, and prints a line for each.
-pub fn measure_shape<C: Clock, W: io::Write>(
-    alloc: Global,
-    clock: &C,
-    out: &mut W,
-    shape: Shape,
-    greatest: usize,
-) -> io::Result<()> {
-    print_head(out, shape.title(), shape.counted())?;
-    let mut smaller = None;
-    for size in shape.sizes() {
-        if *size <= greatest {
-            let plan = Plan { shape, size: *size };
-            smaller = Some(measure_line(alloc, clock, out, plan, smaller)?);
+impl Table {
+    /// No table yet.
+    pub fn new(alloc: Global) -> Table {
+        Table {
+            head: String::new(alloc),
+            smaller: None,
         }
     }
+
+    /// Begins a table, if the last one is not of crates with this first line.
+    fn begin<W: io::Write>(
+        &mut self,
+        alloc: Global,
+        out: &mut W,
+        head: &str,
+        title: &str,
+        counted: &str,
+    ) -> io::Result<()> {
+        if self.head.as_str() == head {
+            return Ok(());
+        }
+        self.head = String::from_str(alloc, head)?;
+        self.smaller = None;
+        print_head(out, title, counted)
+    }
+}
+
+/// Measures the crate of a text, and prints a line, below the head of a table if it begins one.
+pub fn measure_text<C: Clock, W: io::Write>(
+    alloc: Global,
+    clock: &C,
+    out: &mut W,
+    table: &mut Table,
+    text: &str,
+) -> io::Result<()> {
+    let (head, text) = text.split_once('\n').unwrap_or((text, ""));
+    let (counted, title) = head.split_once(": ").unwrap_or(("bindings", head));
+    table.begin(alloc, out, head, title, counted)?;
+    let figures = measure(alloc, clock, counted, text)?;
+    print_line(out, figures, table.smaller)?;
+    table.smaller = Some(figures);
     Ok(())
 }

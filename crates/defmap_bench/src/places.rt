@@ -23,18 +23,6 @@ pub struct Place {
 /// The map of the kit that stands for one look at each place.
 type Plain = IndexMap<Place, Binding<Visibility>>;
 
-/// All namespaces, in the order in which places are listed.
-static NAMESPACES: [Namespace; 3] = [Namespace::Types, Namespace::Values, Namespace::Macros];
-
-/// Whether a name is bound in a namespace.
-fn is_bound(bound: &PerNs, ns: Namespace) -> bool {
-    match ns {
-        Namespace::Types => bound.types.is_some(),
-        Namespace::Values => bound.values.is_some(),
-        Namespace::Macros => bound.macros.is_some(),
-    }
-}
-
 /// Adds the namespaces in which a name is bound.
 fn add_name(
     places: &mut Vec<Place>,
@@ -42,10 +30,17 @@ fn add_name(
     name: Name,
     bound: &PerNs,
 ) -> Result<(), AllocError> {
-    for ns in NAMESPACES.as_slice() {
-        if is_bound(bound, *ns) {
-            places.push(Place { at, name, ns: *ns })?;
-        }
+    if bound.types.is_some() {
+        let ns = Namespace::Types;
+        places.push(Place { at, name, ns })?;
+    }
+    if bound.values.is_some() {
+        let ns = Namespace::Values;
+        places.push(Place { at, name, ns })?;
+    }
+    if bound.macros.is_some() {
+        let ns = Namespace::Macros;
+        places.push(Place { at, name, ns })?;
     }
     Ok(())
 }

@@ -1,11 +1,10 @@
 //! Times and ratios as lines of text.
 
-use crate::ratio::Ratio;
+use crate::cells::{Cell, print_cell};
 use std::io;
 use std::time::Duration;
 
 /// A line about some times, which have places.
-#[derive(Clone, Copy)]
 pub enum Entry {
     /// A time in microseconds.
     Time(&'static str, usize),
@@ -21,30 +20,20 @@ fn time_at(times: &[Duration], place: usize) -> Duration {
     }
 }
 
+fn print_ratio<W: io::Write>(
+    out: &mut W,
+    what: &str,
+    time: Duration,
+    unit: Duration,
+) -> io::Result<()> {
+    write!(out, "{what}: ")?;
+    print_cell(out, 0, &Cell::Ratio(time.as_nanos(), unit.as_nanos()))?;
+    writeln!(out)
+}
+
 fn print_time<W: io::Write>(out: &mut W, what: &str, time: Duration) -> io::Result<()> {
     let micros = time.as_micros();
     writeln!(out, "{what}: {micros} us")
-}
-
-fn print_ratio<W: io::Write>(out: &mut W, what: &str, ratio: Ratio) -> io::Result<()> {
-    let whole = ratio.whole;
-    let rest = ratio.hundredths;
-    writeln!(out, "{what}: {whole}.{rest:02}")
-}
-
-/// The ratio of two times.
-fn ratio_of(times: &[Duration], time: usize, unit: usize) -> Ratio {
-    Ratio::new(
-        time_at(times, time).as_nanos(),
-        time_at(times, unit).as_nanos(),
-    )
-}
-
-fn print_entry<W: io::Write>(out: &mut W, entry: Entry, times: &[Duration]) -> io::Result<()> {
-    match entry {
-        Entry::Time(what, place) => print_time(out, what, time_at(times, place)),
-        Entry::Ratio(what, time, unit) => print_ratio(out, what, ratio_of(times, time, unit)),
-    }
 }
 
 /// Prints a line for each entry.
@@ -54,7 +43,12 @@ pub fn print_report<W: io::Write>(
     times: &[Duration],
 ) -> io::Result<()> {
     for entry in entries {
-        print_entry(out, *entry, times)?;
+        match entry {
+            Entry::Time(what, place) => print_time(out, what, time_at(times, *place))?,
+            Entry::Ratio(what, time, unit) => {
+                print_ratio(out, what, time_at(times, *time), time_at(times, *unit))?
+            }
+        }
     }
     Ok(())
 }
