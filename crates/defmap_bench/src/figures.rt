@@ -1,6 +1,6 @@
 //! What is measured of a crate, as a line of text.
 
-use crate::cells::{Cell, print_cell};
+use crate::cells::{Cell, print_cell, ratio};
 use std::io;
 use std::time::Duration;
 
@@ -14,6 +14,9 @@ pub struct Figures {
     pub time: Duration,
     pub places_time: Option<Duration>,
 }
+
+/// How wide the columns are.
+static WIDTHS: [usize; 7] = [9, 10, 8, 9, 8, 10, 9];
 
 /// Of two measurements of one crate, each time the lesser.
 pub fn lesser(one: Figures, other: Figures) -> Figures {
@@ -34,31 +37,29 @@ fn nanos_each(time: Duration, counted: usize) -> Cell {
 }
 
 /// How many times the cost of a binding or a round of the smaller crate one of the larger crate
-/// costs.
-fn to_smaller(larger: Figures, smaller: Figures) -> Cell {
+/// costs, if there is a smaller one.
+fn to_smaller(larger: Figures, smaller: Option<Figures>) -> Cell {
+    let Some(smaller) = smaller else {
+        return Cell::Nothing;
+    };
     let cost = larger.time.as_nanos();
     let smaller_cost = smaller.time.as_nanos();
-    Cell::Ratio(
+    ratio(
         cost.saturating_mul(smaller.counted as u128),
         smaller_cost.saturating_mul(larger.counted as u128),
     )
 }
 
-/// What compares a crate with the next smaller one, if there was one, and with the kit's map, if
-/// that was measured.
-fn compared(figures: Figures, smaller: Option<Figures>) -> [Cell; 3] {
-    let to_smaller = match smaller {
-        Some(smaller) => to_smaller(figures, smaller),
-        None => Cell::Nothing,
-    };
-    let (place, to_place) = match figures.places_time {
+/// What one place took in the kit's map, and how many times that a binding took, if that was
+/// measured.
+fn to_places(figures: Figures) -> (Cell, Cell) {
+    match figures.places_time {
         Some(time) => (
             nanos_each(time, figures.counted),
-            Cell::Ratio(figures.time.as_nanos(), time.as_nanos()),
+            ratio(figures.time.as_nanos(), time.as_nanos()),
         ),
         None => (Cell::Nothing, Cell::Nothing),
-    };
-    [to_smaller, place, to_place]
+    }
 }
 
 /// Prints one line, with the ratio to the next smaller crate if there was one.
@@ -67,14 +68,19 @@ pub fn print_line<W: io::Write>(
     figures: Figures,
     smaller: Option<Figures>,
 ) -> io::Result<()> {
-    let [to_smaller, place, to_place] = compared(figures, smaller);
-    print_cell(out, 9, &Cell::Number(figures.items as u128))?;
-    print_cell(out, 10, &Cell::Number(figures.counted as u128))?;
-    print_cell(out, 8, &Cell::Number(figures.time.as_millis()))?;
-    print_cell(out, 9, &nanos_each(figures.time, figures.counted))?;
-    print_cell(out, 8, &to_smaller)?;
-    print_cell(out, 10, &place)?;
-    print_cell(out, 9, &to_place)?;
+    let (place, times_place) = to_places(figures);
+    let cells = [
+        Cell::Number(figures.items as u128),
+        Cell::Number(figures.counted as u128),
+        Cell::Number(figures.time.as_millis()),
+        nanos_each(figures.time, figures.counted),
+        to_smaller(figures, smaller),
+        place,
+        times_place,
+    ];
+    for place in 0..7 {
+        print_cell(out, WIDTHS[place], cells[place])?;
+    }
     writeln!(out)
 }
 

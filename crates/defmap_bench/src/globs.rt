@@ -121,7 +121,7 @@ fn add_edges<T: BindingTable<Vis = Visibility>, O: VisOrder<Vis = Visibility>>(
 }
 
 /// How long a late name takes in a table without names and edges, once it has a graph's edges.
-fn time_graph<C: Clock, T: BindingTable<Vis = Visibility>, O: VisOrder<Vis = Visibility>>(
+fn time_name<C: Clock, T: BindingTable<Vis = Visibility>, O: VisOrder<Vis = Visibility>>(
     clock: &C,
     order: &O,
     globs: &mut Globs<T>,
@@ -137,15 +137,16 @@ fn time_graph<C: Clock, T: BindingTable<Vis = Visibility>, O: VisOrder<Vis = Vis
     }
 }
 
-/// One round over a new table.
-fn time_round<C: Clock>(
+/// One round over a table without names and edges.
+fn time_round<C: Clock, T: BindingTable<Vis = Visibility> + Drop, O: VisOrder<Vis = Visibility>>(
     alloc: Global,
     clock: &C,
-    order: &ModuleTree,
+    order: &O,
+    table: T,
     graph: &Graph,
 ) -> io::Result<Duration> {
-    let mut globs = Globs::new(alloc, Table::of_map(alloc, MAP)?);
-    time_graph(clock, order, &mut globs, graph)
+    let mut globs = Globs::new(alloc, table);
+    time_name(clock, order, &mut globs, graph)
 }
 
 /// How long a late name takes in each graph, in the fastest round.
@@ -153,7 +154,8 @@ fn times_of<C: Clock>(alloc: Global, clock: &C, order: &ModuleTree) -> io::Resul
     let mut least = [Duration::MAX; 4];
     for place in 0..4 {
         for _ in 0..ROUNDS {
-            let time = time_round(alloc, clock, order, &GRAPHS[place])?;
+            let table = Table::of_map(alloc, MAP)?;
+            let time = time_round(alloc, clock, order, table, &GRAPHS[place])?;
             least[place] = least[place].min(time);
         }
     }

@@ -1,5 +1,4 @@
 //! Measures how long the definitions of a synthetic crate take to be collected.
-ghost use Rattle.std.specs.Prelude.{◌≡◌, None};
 
 use crate::database::OneFile;
 use crate::figures::{Figures, lesser, print_head, print_line};
@@ -21,6 +20,12 @@ const ITEMS_IN_ALL: usize = 1_000_000;
 
 const MOST_TIMES: usize = 40;
 
+/// The tree of the one file.
+const ROOT: TreeId = TreeId {
+    file: HirFileId::File(FileId(0)),
+    block: None,
+};
+
 /// A table in work: the first line of the crates that it is of, and what was measured of the last
 /// one.
 #[derive(Drop)]
@@ -39,20 +44,10 @@ struct Run {
     time: Duration,
 }
 
-/// The tree of the one file.
-fn root_tree() -> TreeId
-    ensures { result.block ≡ None }
-{
-    TreeId {
-        file: HirFileId::File(FileId(0)),
-        block: None,
-    }
-}
-
 /// Collects the definitions of a crate.
 fn collect(alloc: Global, one: &OneFile, session: &mut Interner) -> Result<Collected, AllocError> {
     let seeded = DefMap::seed(alloc, Crate(0), Edition::Edition2021, None)?;
-    collect_defs(alloc, one, session, seeded, root_tree(), None)
+    collect_defs(alloc, one, session, seeded, ROOT, None)
 }
 
 /// The places that a run bound, if it left no import and no call over.
@@ -195,8 +190,12 @@ pub fn measure_text<C: Clock, W: io::Write>(
     table: &mut Table,
     text: &str,
 ) -> io::Result<()> {
-    let (head, text) = text.split_once('\n').unwrap_or((text, ""));
-    let (counted, title) = head.split_once(": ").unwrap_or(("bindings", head));
+    let Some((head, text)) = text.split_once('\n') else {
+        return Err(io::Error::other("the text has one line"));
+    };
+    let Some((counted, title)) = head.split_once(": ") else {
+        return Err(io::Error::other("the first line does not say what is counted"));
+    };
     table.begin(alloc, out, head, title, counted)?;
     let figures = measure(alloc, clock, counted, text)?;
     print_line(out, figures, table.smaller)?;

@@ -77,17 +77,15 @@ pub fn places_of(alloc: Global, map: &DefMap) -> Result<Vec<Place>, AllocError> 
 }
 
 /// What each place is bound to in the map of the kit.
-fn some_binding() -> Binding<Visibility> {
-    Binding {
-        def: Def::Struct(StructId(0)),
-        vis: Visibility::Public,
-        import: None,
-    }
-}
+const BOUND: Binding<Visibility> = Binding {
+    def: Def::Struct(StructId(0)),
+    vis: Visibility::Public,
+    import: None,
+};
 
 fn insert_all(map: &mut Plain, places: &[Place]) -> Result<(), AllocError> {
     for place in places {
-        map.insert(*place, some_binding())?;
+        map.insert(*place, BOUND)?;
     }
     Ok(())
 }

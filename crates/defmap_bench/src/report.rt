@@ -1,6 +1,6 @@
 //! Times and ratios as lines of text.
 
-use crate::cells::{Cell, print_cell};
+use crate::cells::{print_cell, ratio};
 use std::io;
 use std::time::Duration;
 
@@ -27,7 +27,7 @@ fn print_ratio<W: io::Write>(
     unit: Duration,
 ) -> io::Result<()> {
     write!(out, "{what}: ")?;
-    print_cell(out, 0, &Cell::Ratio(time.as_nanos(), unit.as_nanos()))?;
+    print_cell(out, 0, ratio(time.as_nanos(), unit.as_nanos()))?;
     writeln!(out)
 }
 

@@ -40,39 +40,34 @@ static REPORT: [Entry; 9] = [
 /// A name in a module.
 type Place = (ModuleId, Name);
 
-fn place(index: usize, name: usize) -> Place {
-    (ModuleId { map: MAP, index }, Name(name))
-}
-
-/// Each name in each module, module by module, as a crate is collected.
-fn by_module(alloc: Global) -> Result<Vec<Place>, AllocError> {
+/// Each name in each module: name by name, or module by module, as a crate is collected.
+fn places(alloc: Global, is_by_name: bool) -> Result<Vec<Place>, AllocError> {
     let mut places = Vec::new(alloc);
-    for index in 0..MODULES {
-        for name in 0..NAMES {
-            places.push(place(index, name))?;
-        }
+    for number in 0..MODULES * NAMES {
+        let (index, name) = if is_by_name {
+            (number % MODULES, number / MODULES)
+        } else {
+            (number / NAMES, number % NAMES)
+        };
+        places.push((ModuleId { map: MAP, index }, Name(name)))?;
     }
     Ok(places)
 }
 
-/// The same, name by name.
-fn by_name(alloc: Global) -> Result<Vec<Place>, AllocError> {
-    let mut places = Vec::new(alloc);
-    for name in 0..NAMES {
-        for index in 0..MODULES {
-            places.push(place(index, name))?;
-        }
+/// Binds the names at some places to structs that all see.
+fn fill<T: BindingTable<Vis = Visibility>>(
+    table: &mut T,
+    places: &[Place],
+) -> Result<(), AllocError> {
+    for (module, name) in places {
+        let binding = Binding {
+            def: Def::Struct(StructId(name.0)),
+            vis: Visibility::Public,
+            import: None,
+        };
+        table.set(*module, *name, Namespace::Types, binding)?;
     }
-    Ok(places)
-}
-
-/// A declaration that all see.
-fn binding(name: Name) -> Binding<Visibility> {
-    Binding {
-        def: Def::Struct(StructId(name.0)),
-        vis: Visibility::Public,
-        import: None,
-    }
+    Ok(())
 }
 
 /// How long an empty table takes to be filled.
@@ -82,9 +77,7 @@ fn time_insertions<C: Clock, T: BindingTable<Vis = Visibility>>(
     places: &[Place],
 ) -> io::Result<Duration> {
     let start = Instant::now(clock)?;
-    for (module, name) in places {
-        table.set(*module, *name, Namespace::Types, binding(*name))?;
-    }
+    fill(table, places)?;
     start.elapsed(clock)
 }
 
@@ -92,7 +85,7 @@ fn time_insertions<C: Clock, T: BindingTable<Vis = Visibility>>(
 fn are_bound<T: BindingTable<Vis = Visibility>>(table: &T, places: &[Place]) -> bool {
     for (module, name) in places {
         match table.binding(*module, *name, Namespace::Types) {
-            Some(there) if there.def == binding(*name).def => {}
+            Some(there) if there.def == Def::Struct(StructId(name.0)) => {}
             _ => return false,
         }
     }
@@ -114,37 +107,17 @@ fn time_lookups<C: Clock, T: BindingTable<Vis = Visibility>>(
 }
 
 /// How long an empty table takes to be filled, and then to be read by module and by name.
-fn time_table<C: Clock, T: BindingTable<Vis = Visibility>>(
+fn time_table<C: Clock, T: BindingTable<Vis = Visibility> + Drop>(
     clock: &C,
-    table: &mut T,
+    mut table: T,
     by_module: &[Place],
     by_name: &[Place],
 ) -> io::Result<[Duration; 3]> {
     Ok([
-        time_insertions(clock, table, by_module)?,
-        time_lookups(clock, table, by_module)?,
-        time_lookups(clock, table, by_name)?,
+        time_insertions(clock, &mut table, by_module)?,
+        time_lookups(clock, &table, by_module)?,
+        time_lookups(clock, &table, by_name)?,
     ])
-}
-
-fn time_scope_table<C: Clock>(
-    alloc: Global,
-    clock: &C,
-    by_module: &[Place],
-    by_name: &[Place],
-) -> io::Result<[Duration; 3]> {
-    let mut table = ScopeTable::new(alloc)?;
-    time_table(clock, &mut table, by_module, by_name)
-}
-
-fn time_numbered_table<C: Clock>(
-    alloc: Global,
-    clock: &C,
-    by_module: &[Place],
-    by_name: &[Place],
-) -> io::Result<[Duration; 3]> {
-    let mut table = Table::of_map(alloc, MAP)?;
-    time_table(clock, &mut table, by_module, by_name)
 }
 
 /// The least times of the two tables, which take turns, as the report numbers them.
@@ -156,8 +129,8 @@ fn least_times<C: Clock>(
 ) -> io::Result<[Duration; 6]> {
     let mut least = [Duration::MAX; 6];
     for _ in 0..ROUNDS {
-        let [a, b, c] = time_scope_table(alloc, clock, by_module, by_name)?;
-        let [d, e, f] = time_numbered_table(alloc, clock, by_module, by_name)?;
+        let [a, b, c] = time_table(clock, ScopeTable::new(alloc)?, by_module, by_name)?;
+        let [d, e, f] = time_table(clock, Table::of_map(alloc, MAP)?, by_module, by_name)?;
         let times = [a, b, c, d, e, f];
         for place in 0..6 {
             least[place] = least[place].min(times[place]);
@@ -168,8 +141,8 @@ fn least_times<C: Clock>(
 
 /// Times both tables over the same places.
 pub fn run<C: Clock, W: io::Write>(alloc: Global, clock: &C, out: &mut W) -> io::Result<()> {
-    let by_module = by_module(alloc)?;
-    let by_name = by_name(alloc)?;
+    let by_module = places(alloc, false)?;
+    let by_name = places(alloc, true)?;
     let times = least_times(alloc, clock, by_module.as_slice(), by_name.as_slice())?;
     print_report(out, REPORT.as_slice(), times.as_slice())
 }
