@@ -1,3 +1,4 @@
+pub mod Answer
 pub mod Collector
 pub mod Constructors
 pub mod Passes

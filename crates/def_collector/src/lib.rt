@@ -3,6 +3,7 @@
 //! macros, and whole runs.
 #![tactic(auto)]
 
+mod answer;
 mod calls;
 mod collector;
 mod fallback;
@@ -19,7 +20,7 @@ mod seeding;
 mod stack;
 mod wakes;
 
-pub use def_answer::Collected;
+pub use answer::Collected;
 pub use def_rules::{
     DefDiagnostic, DefDiagnosticKind, DefDiagnostics, Edge, LeftImport, LeftMacro, LeftMacroKind,
     Outcome,

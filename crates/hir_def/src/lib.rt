@@ -51,8 +51,7 @@ pub use def_map::{
 pub use either::Either;
 
 // The collector, and what it answers.
-pub use def_answer::Collected;
-pub use def_collector::collect_defs;
+pub use def_collector::{Collected, collect_defs};
 pub use def_rules::{
     DefDiagnostic, DefDiagnosticKind, DefDiagnostics, Edge, LeftImport, LeftMacro, LeftMacroKind,
     Outcome,

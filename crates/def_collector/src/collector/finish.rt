@@ -5,7 +5,7 @@ ghost use Rattle.def_interner.specs.declared.interner.Interner.{Interner};
 ghost use Rattle.def_crates.specs.Missing.{missing_in};
 ghost use Rattle.def_modules.specs.Maps.{map_state};
 ghost use Rattle.def_collector.specs.Collector.{state_of};
-ghost use Rattle.def_answer.specs.Shown.{shown};
+ghost use Rattle.def_collector.specs.Answer.{shown};
 ghost use Rattle.def_laws.specs.Finished.{IsFinished};
 ghost use Rattle.def_map.specs.DefMaps as whole;
 ghost use Rattle.def_sources.specs.Tables.{bound_by};
@@ -14,7 +14,7 @@ ghost use Rattle.def_rules.specs.Imports.{unresolved_imports};
 ghost use Rattle.def_steps.specs.ImportLists.{marked_each, pending};
 
 use super::DefCollector;
-use def_answer::Collected;
+use crate::answer::Collected;
 use def_calls::left_macros;
 use def_map::DefMap;
 use def_rules::{LeftImport, Outcome};

@@ -3,7 +3,7 @@
 ghost use Rattle.std.specs.Prelude.{◌≡◌, IfOk};
 ghost use Rattle.def_interner.specs.Session.{AddsLocations, session_of};
 ghost use Rattle.def_rules.specs.Headline.{Answers};
-ghost use Rattle.def_answer.specs.Shown.{shown};
+ghost use Rattle.def_collector.specs.Answer.{shown};
 ghost use Rattle.uses.specs.Setting.{file_tree, setting};
 
 use hir_def::{

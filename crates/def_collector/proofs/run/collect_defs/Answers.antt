@@ -2,7 +2,7 @@ use Rattle.std.proofs.Common.{option_map, refl, subst, ◌≡◌}
 use Rattle.def_interner.specs.Session.{session_of}
 use Rattle.def_map.specs.DefMaps as whole
 use Rattle.def_modules.specs.Locals.{local_view}
-use Rattle.def_answer.specs.Shown.{shown}
+use Rattle.def_collector.specs.Answer.{shown}
 use Rattle.def_collector.specs.Collector.{state_of}
 use Rattle.def_collector.specs.Setting.{setting_of}
 use Rattle.def_rules.specs.Report.{with_macro_reports}

@@ -4,10 +4,10 @@ use Rattle.def_calls.specs.Shown.{macros_in}
 use Rattle.def_ids.specs.Equality.{glob_eq}
 use Rattle.def_modules.specs.Maps.{map_state}
 use Rattle.def_sources.specs.Tables.{bound_by}
-use Rattle.def_answer.specs.Shown.{shown}
+use Rattle.def_collector.specs.Answer.{shown}
 use Rattle.def_collector.specs.Collector.{state_of}
 use Rattle.def_rules.specs.Report.{Answer, AreEdges, AreTargets, left_macro, shown_targets}
-use Rattle.def_answer.specs.declared.answer.Collected.{Collected}
+use Rattle.def_collector.specs.declared.answer.Collected.{Collected}
 use Rattle.def_rules.specs.State.{State}
 use Rattle.def_collector.specs.declared.collector.DefCollector.{DefCollector}
 use Rattle.def_collector.proofs.FinishLemmas.{edges_listed, finished, targets_listed}

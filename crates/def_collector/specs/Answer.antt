@@ -2,7 +2,7 @@
 use Rattle.def_map.specs.DefMaps as whole
 use Rattle.def_modules.specs.Locals.{local_view}
 use Rattle.def_rules.specs.Report.{Answer}
-use Rattle.def_answer.specs.declared.answer.Collected.{Collected}
+use Rattle.def_collector.specs.declared.answer.Collected.{Collected}
 
 -- all that is answered
 abbrev pub shown : Collected → Answer
