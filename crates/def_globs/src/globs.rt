@@ -55,7 +55,9 @@ impl<T> Model for Globs<T> {
     ghost view = { λ g. g.table };
 }
 
-impl<T: BindingTable> Globs<T> {
+// What asks nothing of the table stands apart: a call of a bounded impl is compared with the whole impl
+// of the table at each place that makes it.
+impl<T> Globs<T> {
     /// This table, with the edges that it has.
     pub fn new(alloc: Global, table: T) -> Globs<T>
         ensures { result ≡ table }
@@ -79,13 +81,6 @@ impl<T: BindingTable> Globs<T> {
     {
         let Globs { table, changes: _ } = self;
         table
-    }
-
-    /// Says how many names a module without names may get.
-    pub fn expect_names(&mut self, module: ModuleId, names: usize)
-        ensures { T.content self.new ≡ T.content self.old }
-    {
-        self.table.expect_names(module, names);
     }
 
     /// Begins to watch which names change.
@@ -112,6 +107,15 @@ impl<T: BindingTable> Globs<T> {
         ensures { self.new ≡ self.old }
     {
         self.changes.forget();
+    }
+}
+
+impl<T: BindingTable> Globs<T> {
+    /// Says how many names a module without names may get.
+    pub fn expect_names(&mut self, module: ModuleId, names: usize)
+        ensures { T.content self.new ≡ T.content self.old }
+    {
+        self.table.expect_names(module, names);
     }
 
     /// Takes a binding out.
