@@ -34,7 +34,7 @@ use def_crates::{MissingCrates, deps_by_name, is_proc_macro_crate, top_attrs};
 use def_ids::{ItemContainerId, MapId, ModuleId};
 use def_imports::Room;
 use def_interner::Interner;
-use def_items::{ItemList, disabled_by, report_disabled, top_items};
+use def_items::{ItemList, disabled_by, expect_names, report_disabled, top_items};
 use def_map::{DefMap, LocalDefMap, SourceDatabase};
 use def_parts::{Globs, ModDir, ModDirs, Site};
 use def_rounds::resolution_loop;
@@ -134,7 +134,7 @@ fn make_room<'a>(collector: &mut DefCollector<'a>, room: Room) -> Result<(), All
         map: collector.def_map.tree.map,
         index: 0,
     };
-    collector.table.expect_names(root, room.root_items);
+    expect_names(&mut collector.table, root, room.root_items);
     collector.def_map.reserve(room.modules)?;
     collector.def_map.expect_items(0, room.root_items);
     collector.imports.reserve(room.imports)

@@ -5,6 +5,7 @@ ghost use Rattle.def_items.specs.Parts.{with_parts};
 ghost use Rattle.def_laws.specs.Performs.{Performs, Updated};
 ghost use Rattle.def_rules.specs.Items.{declared_effect, declared_entry, struct_effect};
 ghost use Rattle.def_rules.specs.State.{State};
+ghost use Rattle.def_sources.specs.Tables.{bound_by};
 
 use def_bindings::{Entry, Namespace, Visibility, lesser_or_import};
 use def_globs::Globs;
@@ -49,6 +50,13 @@ pub fn put(
 {
     table.update(&def_map.tree, module_id, list)?;
     Ok(())
+}
+
+/// Says how many names a module without names may get.
+pub fn expect_names(table: &mut Globs<Table>, module_id: ModuleId, names: usize)
+    ensures { bound_by table.new ≡ bound_by table.old }
+{
+    table.expect_names(module_id, names);
 }
 
 /// Declares a definition in one namespace. On `Err` nothing but safety is promised.

@@ -12,7 +12,7 @@ ghost use Rattle.def_rules.specs.Items.{declared_entry};
 ghost use Rattle.def_rules.specs.Modules.{add_module, bring_if, fresh_module, is_macro_use, next_module};
 ghost use Rattle.def_rules.specs.State.{State};
 
-use crate::declarations::{Definition, put};
+use crate::declarations::{Definition, expect_names, put};
 use crate::lists::ItemList;
 use def_bindings::{Namespace, Visibility};
 use def_globs::Globs;
@@ -132,6 +132,6 @@ pub fn push_child_module(
         added.parent,
         &[declared.entry(Namespace::Types)],
     )?;
-    table.expect_names(child, added.items);
+    expect_names(table, child, added.items);
     Ok(child)
 }
