@@ -17,9 +17,14 @@ use std::alloc::{AllocError, Global};
 use std::collections::VecDeque;
 
 /// The derives that are deferred, by the positions of their items.
-#[derive(Drop)]
 pub struct DeferredDerives {
     by_item: IndexMap<InFile<FileAstId>, Seq<DeferredDerive>>,
+}
+
+impl Drop for DeferredDerives {
+    fn drop(self) {
+        let DeferredDerives { by_item: _ } = self;
+    }
 }
 
 impl DeferredDerives {

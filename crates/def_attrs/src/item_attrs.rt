@@ -12,10 +12,18 @@ use std::alloc::{AllocError, Global};
 
 /// Of each item of a file, the attribute that was passed over, with those before it; and of the item
 /// at each position, the attributes that expansions are not to see.
-#[derive(Drop)]
 pub struct ItemAttrs {
     skipped: IndexMap<InFile<ModItemId>, AttrId>,
     active: IndexMap<InFile<FileAstId>, Seq<AttrId>>,
+}
+
+impl Drop for ItemAttrs {
+    fn drop(self) {
+        let ItemAttrs {
+            skipped: _,
+            active: _,
+        } = self;
+    }
 }
 
 impl ItemAttrs {

@@ -10,9 +10,14 @@ use item_tree::{ModPath, Name, PathKind};
 use std::alloc::{AllocError, Global};
 
 /// The names of the extern crates that were not found.
-#[derive(Drop)]
 pub struct MissingCrates {
     names: IndexSet<Name>,
+}
+
+impl Drop for MissingCrates {
+    fn drop(self) {
+        let MissingCrates { names: _ } = self;
+    }
 }
 
 impl MissingCrates {

@@ -10,9 +10,14 @@ use indexmap::IndexMap;
 use std::alloc::{AllocError, Global};
 
 /// The directory of each module whose items were walked.
-#[derive(Drop)]
 pub struct ModDirs {
     dirs: IndexMap<ModuleId, ModDir>,
+}
+
+impl Drop for ModDirs {
+    fn drop(self) {
+        let ModDirs { dirs: _ } = self;
+    }
 }
 
 impl ModDirs {

@@ -35,7 +35,6 @@ pub struct WrittenUse<'a> {
 
 /// The imports that may still be recorded. Each stays where it was queued, so one that is recorded
 /// is neither copied nor moved, and passes go over lists of numbers.
-#[derive(Drop)]
 pub struct PendingImports<'a> {
     /// The imports, in the order in which they were queued. One of which nothing more may be
     /// recorded leaves `None`.
@@ -47,6 +46,16 @@ pub struct PendingImports<'a> {
     /// left stays listed until `drop_left`.
     pub(crate) indeterminate: Vec<usize>,
     ghost listed: { IsListed directives.items unresolved.items indeterminate.items },
+}
+
+impl Drop for PendingImports<'_> {
+    fn drop(self) {
+        let PendingImports {
+            directives: _,
+            unresolved: _,
+            indeterminate: _,
+        } = self;
+    }
 }
 
 impl ImportList {
