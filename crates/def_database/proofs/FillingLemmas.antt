@@ -71,6 +71,23 @@ trees_same = λ i a b. tree-same a.file b.file a.block b.block i
 same_file : (a b : FileId) → file_id_eq a b ≡ true → a ≡ b
 same_file a b e = ap (λ (n : ℕ). let x : FileId = record { 0 = n } in x) (eqb-true a.0 b.0 e)
 
+-- where a path of a file leads, also if no path of it does
+led_in : {Y S : Type 0} (fresh : IndexMap (String Y) FileId S) → IsEmpty fresh → (text : List ℕ) (o : Option (IndexMap (String Y) FileId S)) → get_by_text (unwrap_or o fresh) text ≡ path_in o text
+led_in fresh empty text None = ap (λ es. lookup (λ k. bytes_eq text (string_bytes k)) es) empty
+led_in fresh empty text (Some paths) = refl
+
+module _ {Y S : Type 0} (from : FileId) (old new : FileId → Option (IndexMap (String Y) FileId S)) (fresh inner : IndexMap (String Y) FileId S) where
+  -- the map of a file's paths, or a fresh one, is written anew, and leads where it led
+  pub kept : ((q : FileId) → new q ≡ cond (file_id_eq from q) (Some inner) (old q))
+      → IsEmpty fresh
+      → get_by_text inner ≡ get_by_text (unwrap_or (old from) fresh)
+      → ◌≡◌ {A = FileId → List ℕ → Option FileId} (λ anchor text. path_in (new anchor) text) (λ anchor text. path_in (old anchor) text)
+  kept written empty same = λ i q text. (ap (λ o. path_in o text) (written q) ∙ by q text (file_id_eq from q) refl) i
+    where
+      by : (q : FileId) (text : List ℕ) (b : Bool) → file_id_eq from q ≡ b → path_in (cond b (Some inner) (old q)) text ≡ path_in (old q) text
+      by q text false e = refl
+      by q text true e = ap (λ f. f text) same ∙ led_in fresh empty text (old from) ∙ ap (λ k. path_in (old k) text) (same_file from q e)
+
 module _ {Y S : Type 0} (from : FileId) (path : List ℕ) (to : FileId) (old new : FileId → Option (IndexMap (String Y) FileId S)) (fresh inner : IndexMap (String Y) FileId S) where
   -- one more path of a file, in the map of its paths or in a fresh one
   pub led : ((q : FileId) → new q ≡ cond (file_id_eq from q) (Some inner) (old q))
@@ -79,10 +96,6 @@ module _ {Y S : Type 0} (from : FileId) (path : List ℕ) (to : FileId) (old new
       → (λ (anchor : FileId) (text : List ℕ). path_in (new anchor) text) ≡ with_lead (λ (anchor : FileId) (text : List ℕ). path_in (old anchor) text) from path to
   led written empty added = λ i q text. (ap (λ o. path_in o text) (written q) ∙ by q text (file_id_eq from q) refl) i
     where
-      shown : (text : List ℕ) (o : Option (IndexMap (String Y) FileId S)) → get_by_text (unwrap_or o fresh) text ≡ path_in o text
-      shown text None = ap (λ es. lookup (λ k. bytes_eq text (string_bytes k)) es) empty
-      shown text (Some paths) = refl
-
       by : (q : FileId) (text : List ℕ) (b : Bool) → file_id_eq from q ≡ b → path_in (cond b (Some inner) (old q)) text ≡ cond (b && bytes_eq path text) (Some to) (path_in (old q) text)
       by q text false e = refl
-      by q text true e = ap (λ f. f text) added ∙ ap (λ o. cond (bytes_eq path text) (Some to) o) (shown text (old from) ∙ ap (λ k. path_in (old k) text) (same_file from q e))
+      by q text true e = ap (λ f. f text) added ∙ ap (λ o. cond (bytes_eq path text) (Some to) o) (led_in fresh empty text (old from) ∙ ap (λ k. path_in (old k) text) (same_file from q e))

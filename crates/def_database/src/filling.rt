@@ -31,6 +31,7 @@ impl Database {
     /// Leads a path, seen from a file, to a file.
     pub fn add_path(&mut self, from: FileId, path: &str, to: FileId) -> Result<(), AllocError>
         ensures ok { OnOk result (answers_of self.new ≡ with_path (answers_of self.old) from path.now to) }
+        ensures err { OnErr result (answers_of self.new ≡ answers_of self.old) }
     {
         lead_from(&mut self.files.paths, from, path, to)?;
         Ok(())
@@ -54,8 +55,7 @@ impl Database {
         Ok(())
     }
 
-    /// Hands a crate's finished maps to the crates that depend on it. On `Err` the first of the two
-    /// may be there.
+    /// Hands a crate's finished maps to the crates that depend on it: both, or on `Err` neither.
     pub fn add_map(
         &mut self,
         krate: Crate,
@@ -63,7 +63,9 @@ impl Database {
         local_def_map: LocalDefMap,
     ) -> Result<(), AllocError>
         ensures ok { OnOk result (answers_of self.new ≡ with_maps (answers_of self.old) krate def_map local_def_map) }
+        ensures err { OnErr result (answers_of self.new ≡ answers_of self.old) }
     {
+        self.crates.local_maps.reserve(1)?;
         self.crates.maps.insert(krate, def_map)?;
         self.crates.local_maps.insert(krate, local_def_map)?;
         Ok(())
@@ -234,7 +236,8 @@ impl Database {
 
 /// Leads a path to a file.
 fn lead(paths: &mut IndexMap<String, FileId>, path: &str, to: FileId) -> Result<(), AllocError>
-    ensures { OnOk result (get_by_text paths.new ≡ set_where (bytes_eq path.now) (Some to) (get_by_text paths.old)) }
+    ensures ok { OnOk result (get_by_text paths.new ≡ set_where (bytes_eq path.now) (Some to) (get_by_text paths.old)) }
+    ensures err { OnErr result (get_by_text paths.new ≡ get_by_text paths.old) }
 {
     let alloc = *paths.allocator();
     let path = String::from_str(alloc, path)?;
@@ -249,7 +252,8 @@ fn lead_from(
     path: &str,
     to: FileId,
 ) -> Result<(), AllocError>
-    ensures { OnOk result (leads paths.new ≡ with_lead (leads paths.old) from path.now to) }
+    ensures ok { OnOk result (leads paths.new ≡ with_lead (leads paths.old) from path.now to) }
+    ensures err { OnErr result (leads paths.new ≡ leads paths.old) }
 {
     let alloc = *paths.allocator();
     let of_file = paths.entry(from)?.or_insert(IndexMap::new(alloc));
