@@ -14,7 +14,10 @@ use Rattle.tree_ids.specs.contracts.ids.HirFileIdPartialEq.TheImpl as files
 use Rattle.tree_ids.specs.contracts.ids.TreeIdPartialEq.TheImpl as trees
 use Rattle.def_modules.specs.Equality.{file_eq}
 use Rattle.def_modules.specs.Updates.{set_where}
-use Rattle.def_database.specs.Database.{file_id_eq, path_in, tree_eq}
+use Rattle.def_database.specs.declared.database.AssocKey.{AssocKey}
+use Rattle.def_database.specs.declared.database.AssocKey.TheVariants.{Trait, Impl, Expansion}
+use Rattle.def_database.specs.contracts.database.AssocKeyPartialEq.TheImpl as assoc_keys
+use Rattle.def_database.specs.Database.{assoc_key_eq, file_id_eq, path_in, tree_eq}
 use Rattle.def_database.specs.Filling.{with_lead}
 
 module _ {K X Y S : Type 0} (eq : K → K → Bool) (f : Option X → Y) (old new : IndexMap K X S) (k : K) (x : X) where
@@ -67,6 +70,21 @@ tree-same (Macro f) (Macro g) (Some a) (Some b) = refl
 -- the derived test of trees is that of the definitions
 pub trees_same : trees.ghosts.eq ≡ tree_eq
 trees_same = λ i a b. tree-same a.file b.file a.block b.block i
+
+assoc_key-same : (a b : AssocKey) → assoc_keys.ghosts.eq a b ≡ assoc_key_eq a b
+assoc_key-same (Trait a) (Trait b) = refl
+assoc_key-same (Trait a) (Impl b) = refl
+assoc_key-same (Trait a) (Expansion b) = refl
+assoc_key-same (Impl a) (Trait b) = refl
+assoc_key-same (Impl a) (Impl b) = refl
+assoc_key-same (Impl a) (Expansion b) = refl
+assoc_key-same (Expansion a) (Trait b) = refl
+assoc_key-same (Expansion a) (Impl b) = refl
+assoc_key-same (Expansion a) (Expansion b) = refl
+
+-- the derived test of what associated items are found by is that of the definitions
+pub assoc_keys_same : assoc_keys.ghosts.eq ≡ assoc_key_eq
+assoc_keys_same = λ i a b. assoc_key-same a b i
 
 same_file : (a b : FileId) → file_id_eq a b ≡ true → a ≡ b
 same_file a b e = ap (λ (n : ℕ). let x : FileId = record { 0 = n } in x) (eqb-true a.0 b.0 e)
