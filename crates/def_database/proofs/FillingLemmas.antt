@@ -1,7 +1,8 @@
 -- What a database answers after a write.
-use Rattle.std.proofs.Common.{◌≡◌, refl, ap, ◌∙◌, ℕ, Bool, true, false, ◌&&◌, cond, List, Option, Some, None, Result, Ok, Err, OnErr, rules}
+use Rattle.std.proofs.Common.{◌≡◌, refl, ap, ◌∙◌, ℕ, Bool, true, false, ◌&&◌, ◌||◌, cond, List, [], Option, Some, None, Result, Ok, Err, OnErr, rules}
 use Rattle.std.specs.Prelude.{String, bytes_eq, option_map, unwrap_or}
 use Rattle.std.specs.String.{string_bytes}
+use Rattle.std.specs.List.{list_any}
 use Rattle.std.specs.Map.{lookup}
 use Rattle.std.proofs.lemmas.Bool.{eqb-true}
 use Rattle.indexmap.specs.IndexMap.{IndexMap, IsEmpty, get, get_by_text}
@@ -12,12 +13,14 @@ use Rattle.tree_ids.specs.declared.ids.HirFileId.TheVariants.{File, Macro}
 use Rattle.tree_ids.specs.declared.ids.TreeId.{TreeId}
 use Rattle.tree_ids.specs.contracts.ids.HirFileIdPartialEq.TheImpl as files
 use Rattle.tree_ids.specs.contracts.ids.TreeIdPartialEq.TheImpl as trees
+use Rattle.tree_ids.specs.declared.name.Name.{Name}
+use Rattle.def_bindings.specs.Content.{is_name}
 use Rattle.def_modules.specs.Equality.{file_eq}
 use Rattle.def_modules.specs.Updates.{set_where}
 use Rattle.def_database.specs.declared.database.AssocKey.{AssocKey}
 use Rattle.def_database.specs.declared.database.AssocKey.TheVariants.{Trait, Impl, Expansion}
 use Rattle.def_database.specs.contracts.database.AssocKeyPartialEq.TheImpl as assoc_keys
-use Rattle.def_database.specs.Database.{assoc_key_eq, file_id_eq, path_in, tree_eq}
+use Rattle.def_database.specs.Database.{assoc_key_eq, file_id_eq, is_read_attr, path_in, tree_eq}
 use Rattle.def_database.specs.Filling.{with_lead}
 
 module _ {K X Y S : Type 0} (eq : K → K → Bool) (f : Option X → Y) (old new : IndexMap K X S) (k : K) (x : X) where
@@ -70,6 +73,14 @@ tree-same (Macro f) (Macro g) (Some a) (Some b) = refl
 -- the derived test of trees is that of the definitions
 pub trees_same : trees.ghosts.eq ≡ tree_eq
 trees_same = λ i a b. tree-same a.file b.file a.block b.block i
+
+or_false : (b : Bool) → (b || false) ≡ b
+or_false true = refl
+or_false false = refl
+
+-- where no name was written down, an attribute is no macro if definitions are collected by it
+pub none_inert : (names : List Name) → names ≡ [] → (λ (name : Name). is_read_attr name || list_any (is_name name) names) ≡ is_read_attr
+none_inert names none = λ i name. (ap (λ ns. is_read_attr name || list_any (is_name name) ns) none ∙ or_false (is_read_attr name)) i
 
 assoc_key-same : (a b : AssocKey) → assoc_keys.ghosts.eq a b ≡ assoc_key_eq a b
 assoc_key-same (Trait a) (Trait b) = refl

@@ -1,6 +1,6 @@
 //! A database whose answers are data.
 ghost use Rattle.std.specs.Prelude.{◌≡◌, IfOk};
-ghost use Rattle.def_database.specs.Database.{answers_of, assoc_key, is_read_attr};
+ghost use Rattle.def_database.specs.Database.{answers_of, assoc_key, is_read_attr, nothing_known};
 
 use def_ids::{ImplId, MacroId, TraitId};
 use def_locs::{BuiltinAttr, EnumLoc};
@@ -182,8 +182,11 @@ impl Drop for Database {
 }
 
 impl Database {
-    /// A database that knows nothing.
-    pub fn new(alloc: Global) -> Database {
+    /// A database that knows nothing: what is asked of it has no answer, or the one that stands for
+    /// none, as a call without items.
+    pub fn new(alloc: Global) -> Database
+        ensures { answers_of result ≡ nothing_known }
+    {
         Database {
             files: Files {
                 trees: IndexMap::new(alloc),
