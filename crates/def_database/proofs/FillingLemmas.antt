@@ -1,7 +1,8 @@
 -- What a database answers after a write.
-use Rattle.std.proofs.Common.{◌≡◌, refl, ap, ◌∙◌, ℕ, Bool, true, false, ◌&&◌, cond, List, Option, Some, None, Result, Ok, Err, OnErr, rules}
+use Rattle.std.proofs.Common.{◌≡◌, refl, ap, ◌∙◌, ℕ, Bool, true, false, ◌&&◌, ◌||◌, cond, List, [], Option, Some, None, Result, Ok, Err, OnErr, rules}
 use Rattle.std.specs.Prelude.{String, bytes_eq, option_map, unwrap_or}
 use Rattle.std.specs.String.{string_bytes}
+use Rattle.std.specs.List.{list_any}
 use Rattle.std.specs.Map.{lookup}
 use Rattle.std.proofs.lemmas.Bool.{eqb-true}
 use Rattle.indexmap.specs.IndexMap.{IndexMap, IsEmpty, get, get_by_text}
@@ -12,9 +13,14 @@ use Rattle.tree_ids.specs.declared.ids.HirFileId.TheVariants.{File, Macro}
 use Rattle.tree_ids.specs.declared.ids.TreeId.{TreeId}
 use Rattle.tree_ids.specs.contracts.ids.HirFileIdPartialEq.TheImpl as files
 use Rattle.tree_ids.specs.contracts.ids.TreeIdPartialEq.TheImpl as trees
+use Rattle.tree_ids.specs.declared.name.Name.{Name}
+use Rattle.def_bindings.specs.Content.{is_name}
 use Rattle.def_modules.specs.Equality.{file_eq}
 use Rattle.def_modules.specs.Updates.{set_where}
-use Rattle.def_database.specs.Database.{file_id_eq, path_in, tree_eq}
+use Rattle.def_database.specs.declared.database.AssocKey.{AssocKey}
+use Rattle.def_database.specs.declared.database.AssocKey.TheVariants.{Trait, Impl, Expansion}
+use Rattle.def_database.specs.contracts.database.AssocKeyPartialEq.TheImpl as assoc_keys
+use Rattle.def_database.specs.Database.{assoc_key_eq, file_id_eq, is_read_attr, path_in, tree_eq}
 use Rattle.def_database.specs.Filling.{with_lead}
 
 module _ {K X Y S : Type 0} (eq : K → K → Bool) (f : Option X → Y) (old new : IndexMap K X S) (k : K) (x : X) where
@@ -68,8 +74,48 @@ tree-same (Macro f) (Macro g) (Some a) (Some b) = refl
 pub trees_same : trees.ghosts.eq ≡ tree_eq
 trees_same = λ i a b. tree-same a.file b.file a.block b.block i
 
+or_false : (b : Bool) → (b || false) ≡ b
+or_false true = refl
+or_false false = refl
+
+-- where no name was written down, an attribute is no macro if definitions are collected by it
+pub none_inert : (names : List Name) → names ≡ [] → (λ (name : Name). is_read_attr name || list_any (is_name name) names) ≡ is_read_attr
+none_inert names none = λ i name. (ap (λ ns. is_read_attr name || list_any (is_name name) ns) none ∙ or_false (is_read_attr name)) i
+
+assoc_key-same : (a b : AssocKey) → assoc_keys.ghosts.eq a b ≡ assoc_key_eq a b
+assoc_key-same (Trait a) (Trait b) = refl
+assoc_key-same (Trait a) (Impl b) = refl
+assoc_key-same (Trait a) (Expansion b) = refl
+assoc_key-same (Impl a) (Trait b) = refl
+assoc_key-same (Impl a) (Impl b) = refl
+assoc_key-same (Impl a) (Expansion b) = refl
+assoc_key-same (Expansion a) (Trait b) = refl
+assoc_key-same (Expansion a) (Impl b) = refl
+assoc_key-same (Expansion a) (Expansion b) = refl
+
+-- the derived test of what associated items are found by is that of the definitions
+pub assoc_keys_same : assoc_keys.ghosts.eq ≡ assoc_key_eq
+assoc_keys_same = λ i a b. assoc_key-same a b i
+
 same_file : (a b : FileId) → file_id_eq a b ≡ true → a ≡ b
 same_file a b e = ap (λ (n : ℕ). let x : FileId = record { 0 = n } in x) (eqb-true a.0 b.0 e)
+
+-- where a path of a file leads, also if no path of it does
+led_in : {Y S : Type 0} (fresh : IndexMap (String Y) FileId S) → IsEmpty fresh → (text : List ℕ) (o : Option (IndexMap (String Y) FileId S)) → get_by_text (unwrap_or o fresh) text ≡ path_in o text
+led_in fresh empty text None = ap (λ es. lookup (λ k. bytes_eq text (string_bytes k)) es) empty
+led_in fresh empty text (Some paths) = refl
+
+module _ {Y S : Type 0} (from : FileId) (old new : FileId → Option (IndexMap (String Y) FileId S)) (fresh inner : IndexMap (String Y) FileId S) where
+  -- the map of a file's paths, or a fresh one, is written anew, and leads where it led
+  pub kept : ((q : FileId) → new q ≡ cond (file_id_eq from q) (Some inner) (old q))
+      → IsEmpty fresh
+      → get_by_text inner ≡ get_by_text (unwrap_or (old from) fresh)
+      → ◌≡◌ {A = FileId → List ℕ → Option FileId} (λ anchor text. path_in (new anchor) text) (λ anchor text. path_in (old anchor) text)
+  kept written empty same = λ i q text. (ap (λ o. path_in o text) (written q) ∙ by q text (file_id_eq from q) refl) i
+    where
+      by : (q : FileId) (text : List ℕ) (b : Bool) → file_id_eq from q ≡ b → path_in (cond b (Some inner) (old q)) text ≡ path_in (old q) text
+      by q text false e = refl
+      by q text true e = ap (λ f. f text) same ∙ led_in fresh empty text (old from) ∙ ap (λ k. path_in (old k) text) (same_file from q e)
 
 module _ {Y S : Type 0} (from : FileId) (path : List ℕ) (to : FileId) (old new : FileId → Option (IndexMap (String Y) FileId S)) (fresh inner : IndexMap (String Y) FileId S) where
   -- one more path of a file, in the map of its paths or in a fresh one
@@ -79,10 +125,6 @@ module _ {Y S : Type 0} (from : FileId) (path : List ℕ) (to : FileId) (old new
       → (λ (anchor : FileId) (text : List ℕ). path_in (new anchor) text) ≡ with_lead (λ (anchor : FileId) (text : List ℕ). path_in (old anchor) text) from path to
   led written empty added = λ i q text. (ap (λ o. path_in o text) (written q) ∙ by q text (file_id_eq from q) refl) i
     where
-      shown : (text : List ℕ) (o : Option (IndexMap (String Y) FileId S)) → get_by_text (unwrap_or o fresh) text ≡ path_in o text
-      shown text None = ap (λ es. lookup (λ k. bytes_eq text (string_bytes k)) es) empty
-      shown text (Some paths) = refl
-
       by : (q : FileId) (text : List ℕ) (b : Bool) → file_id_eq from q ≡ b → path_in (cond b (Some inner) (old q)) text ≡ cond (b && bytes_eq path text) (Some to) (path_in (old q) text)
       by q text false e = refl
-      by q text true e = ap (λ f. f text) added ∙ ap (λ o. cond (bytes_eq path text) (Some to) o) (shown text (old from) ∙ ap (λ k. path_in (old k) text) (same_file from q e))
+      by q text true e = ap (λ f. f text) added ∙ ap (λ o. cond (bytes_eq path text) (Some to) o) (led_in fresh empty text (old from) ∙ ap (λ k. path_in (old k) text) (same_file from q e))

@@ -81,6 +81,10 @@ derive_call calls query = unwrap_or (calls (derive_call_key query)) no_call
 abbrev pub with_derive_call : Oracle → DeriveCallKey → MacroCallId → Oracle
 with_derive_call o key call = record o { make_derive_call = λ query. cond (derive_call_key_eq key (derive_call_key query)) call (o.make_derive_call query) }
 
+-- a macro that is called as `m!(..)` alone
+abbrev pub fn_like : MacroCallStyles
+fn_like = record { 0 = 1 }
+
 -- the ways in which the macro at a position may be called
 abbrev pub with_styles : Oracle → Position → MacroCallStyles → Oracle
 with_styles o position styles = record o { rule_styles = λ p krate. cond (position_eq position p) styles (o.rule_styles p krate) }

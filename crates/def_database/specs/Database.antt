@@ -16,9 +16,13 @@ use Rattle.def_map.specs.DefMaps.{view_of}
 use Rattle.def_modules.specs.Equality.{file_eq, position_eq}
 use Rattle.def_modules.specs.Locals.{local_view}
 use Rattle.def_map.specs.Oracle.{Oracle}
+use Rattle.def_oracle.specs.declared.source_database.AssocItemsOwner.{AssocItemsOwner}
+use Rattle.def_oracle.specs.declared.source_database.AssocItemsOwner.TheVariants as owners
+use Rattle.def_database.specs.declared.database.AssocKey.{AssocKey}
+use Rattle.def_database.specs.declared.database.AssocKey.TheVariants.{Trait, Impl, Expansion}
 use Rattle.def_database.specs.declared.database.CfgFlag.{CfgFlag}
 use Rattle.def_database.specs.declared.database.Database.{Database}
-use Rattle.def_database.specs.Calls.{attr_call, call_answer, call_eq, call_key_eq, derive_call, derive_call_key_eq}
+use Rattle.def_database.specs.Calls.{attr_call, call_answer, call_eq, call_key_eq, derive_call, derive_call_key_eq, fn_like, no_call}
 
 -- whether two trees are one
 abbrev pub tree_eq : TreeId → TreeId → Bool
@@ -39,6 +43,23 @@ block_eq a b = a.0 == b.0
 -- whether two flags are one
 abbrev pub flag_eq : CfgFlag → CfgFlag → Bool
 flag_eq a b = (a.krate.0 == b.krate.0) && (a.name.0 == b.name.0)
+
+-- what the associated items of a trait, an impl or an expansion are found by
+abbrev pub assoc_key : AssocItemsOwner → AssocKey
+assoc_key (owners.Trait id) = Trait id
+assoc_key (owners.Impl id) = Impl id
+assoc_key (owners.Expansion call) = Expansion call
+
+-- whether two of these are one
+abbrev pub assoc_key_eq : AssocKey → AssocKey → Bool
+assoc_key_eq (Trait a) (Trait b) = a.0 == b.0
+assoc_key_eq (Impl a) (Impl b) = a.0 == b.0
+assoc_key_eq (Expansion a) (Expansion b) = a.0 == b.0
+assoc_key_eq _ _ = false
+
+-- whether two owners of associated items are one
+abbrev pub owner_eq : AssocItemsOwner → AssocItemsOwner → Bool
+owner_eq a b = assoc_key_eq (assoc_key a) (assoc_key b)
 
 -- whether definitions are collected by attributes of a name
 abbrev pub is_read_attr : Name → Bool
@@ -76,9 +97,9 @@ answers_of s =
       make_derive_call = derive_call (get derive_call_key_eq s.calls.derives);
       is_include = contains call_eq s.calls.includes;
       enum_variants = λ loc. option_map (λ v. v.items) (get position_eq s.types.variants loc.position);
-      assoc_items = λ owner. None;
-      rule_styles = λ position krate. unwrap_or (get position_eq s.calls.styles position) (record { 0 = 1 });
-      proc_macros = λ krate. [];
+      assoc_items = λ owner. get assoc_key_eq s.types.assoc_items (assoc_key owner);
+      rule_styles = λ position krate. unwrap_or (get position_eq s.calls.styles position) fn_like;
+      proc_macros = λ krate. option_map_or (λ v. v.items) (get crate_eq s.crates.proc_macros krate) [];
       find_builtin_macro = λ name. get is_name s.builtins.macros name;
       find_builtin_derive = λ name. get is_name s.builtins.derives name;
       find_builtin_attr = λ name. get is_name s.builtins.attrs name;
@@ -88,5 +109,38 @@ answers_of s =
       derive_traits = λ derive. option_map_or (λ v. v.items) (get nat_eq s.builtins.derive_traits derive) [];
       cfg_flag = λ krate name. contains flag_eq s.crates.flags (record { krate = krate; name = name });
       builtin_derive_fast_path = s.builtins.derive_fast_path;
+      expand_proc_attr_macros = s.calls.expand_proc_attr_macros;
+    }
+
+-- the answers of a database that knows nothing: a macro call that finds its macro gives nothing
+abbrev pub nothing_known : Oracle
+nothing_known =
+    record {
+      item_tree = λ id. None;
+      crate_data = λ krate. None;
+      crate_def_map = λ krate. None;
+      outer_map = λ block. None;
+      local_def_map = λ krate. None;
+      resolve_path = λ anchor path. None;
+      original_file = source_file;
+      expansion_depth = λ file. 0;
+      asked_paths = λ query. query.path ∷ [];
+      macro_call = call_answer (λ key. None);
+      make_attr_call = λ query. no_call;
+      make_derive_call = λ query. no_call;
+      is_include = λ call. false;
+      enum_variants = λ loc. None;
+      assoc_items = λ owner. None;
+      rule_styles = λ position krate. fn_like;
+      proc_macros = λ krate. [];
+      find_builtin_macro = λ name. None;
+      find_builtin_derive = λ name. None;
+      find_builtin_attr = λ name. None;
+      builtin_type = λ name. None;
+      is_builtin_attr = is_read_attr;
+      has_builtin_derive_impl = λ derive. false;
+      derive_traits = λ derive. [];
+      cfg_flag = λ krate name. false;
+      builtin_derive_fast_path = false;
       expand_proc_attr_macros = false;
     }

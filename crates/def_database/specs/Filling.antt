@@ -18,9 +18,11 @@ use Rattle.def_modules.specs.Locals.{local_view}
 use Rattle.def_modules.specs.MapState.{Position}
 use Rattle.def_modules.specs.Updates.{set_where}
 use Rattle.def_map.specs.Oracle.{Oracle}
+use Rattle.def_oracle.specs.declared.source_database.AssocItemsOwner.{AssocItemsOwner}
+use Rattle.def_oracle.specs.declared.source_database.AssocList.{AssocList}
 use Rattle.def_oracle.specs.declared.source_database.CrateData.{CrateData}
 use Rattle.def_oracle.specs.declared.source_database.EnumVariant.{EnumVariant}
-use Rattle.def_database.specs.Database.{block_eq, crate_eq, file_id_eq, tree_eq}
+use Rattle.def_database.specs.Database.{block_eq, crate_eq, file_id_eq, owner_eq, tree_eq}
 
 -- the items of a file or a block
 abbrev pub with_tree : Oracle → TreeId → ItemTree → Oracle
@@ -42,6 +44,14 @@ with_depth o file depth = record o { expansion_depth = set_where (file_eq file) 
 abbrev pub with_crate : Oracle → Crate → CrateData → Oracle
 with_crate o krate known = record o { crate_data = set_where (crate_eq krate) (Some known) o.crate_data }
 
+-- the procedural macros that were built for a crate
+abbrev pub with_proc_macros : Oracle → Crate → List (Name × ℕ × Bool) → Oracle
+with_proc_macros o krate macros = record o { proc_macros = set_where (crate_eq krate) macros o.proc_macros }
+
+-- whether attribute macros are expanded
+abbrev pub with_expand_proc_attr_macros : Oracle → Bool → Oracle
+with_expand_proc_attr_macros o on = record o { expand_proc_attr_macros = on }
+
 -- the finished maps of a crate
 abbrev pub with_maps : Oracle → Crate → DefMap → LocalDefMap → Oracle
 with_maps o krate m local =
@@ -57,6 +67,10 @@ with_outer_map o block m = record o { outer_map = set_where (block_eq block) (So
 -- the variants of the enum at a position
 abbrev pub with_variants : Oracle → Position → List EnumVariant → Oracle
 with_variants o position variants = record o { enum_variants = λ loc. cond (position_eq position loc.position) (Some variants) (o.enum_variants loc) }
+
+-- the items of a trait, an impl or an expansion
+abbrev pub with_assoc_items : Oracle → AssocItemsOwner → AssocList → Oracle
+with_assoc_items o owner items = record o { assoc_items = set_where (owner_eq owner) (Some items) o.assoc_items }
 
 -- the builtin macro of a name
 abbrev pub with_builtin_macro : Oracle → Name → Either ℕ ℕ → Oracle

@@ -1,8 +1,8 @@
 //! A database whose answers are data.
 ghost use Rattle.std.specs.Prelude.{◌≡◌, IfOk};
-ghost use Rattle.def_database.specs.Database.{answers_of, is_read_attr};
+ghost use Rattle.def_database.specs.Database.{answers_of, assoc_key, is_read_attr, nothing_known};
 
-use def_ids::MacroId;
+use def_ids::{ImplId, MacroId, TraitId};
 use def_locs::{BuiltinAttr, EnumLoc};
 use def_map::{
     AssocItemsOwner, AssocList, AttrCallQuery, CallAnswer, CallQuery, CrateData, DefMap,
@@ -34,9 +34,11 @@ impl Drop for Files {
     }
 }
 
-/// What is known of crates, and the maps that were collected earlier.
+/// What is known of crates, the procedural macros that were built for each, and the maps that were
+/// collected earlier.
 pub struct Crates {
     pub known: IndexMap<Crate, CrateData>,
+    pub proc_macros: IndexMap<Crate, Vec<(Name, u32, bool)>>,
     pub maps: IndexMap<Crate, DefMap>,
     pub local_maps: IndexMap<Crate, LocalDefMap>,
     pub outer_maps: IndexMap<BlockId, DefMap>,
@@ -47,6 +49,7 @@ impl Drop for Crates {
     fn drop(self) {
         let Crates {
             known: _,
+            proc_macros: _,
             maps: _,
             local_maps: _,
             outer_maps: _,
@@ -55,9 +58,18 @@ impl Drop for Crates {
     }
 }
 
-/// The variants of the enum at each position, and builtin types.
+/// What associated items are found by.
+#[derive(Clone, Copy, PartialEq, Eq, Hash)]
+pub enum AssocKey {
+    Trait(TraitId),
+    Impl(ImplId),
+    Expansion(MacroCallId),
+}
+
+/// The variants of the enum at each position, associated items, and builtin types.
 pub struct Types {
     pub variants: IndexMap<InFile<FileAstId>, Vec<EnumVariant>>,
+    pub assoc_items: IndexMap<AssocKey, AssocList>,
     pub builtin: IndexMap<Name, u32>,
 }
 
@@ -65,6 +77,7 @@ impl Drop for Types {
     fn drop(self) {
         let Types {
             variants: _,
+            assoc_items: _,
             builtin: _,
         } = self;
     }
@@ -113,11 +126,12 @@ pub struct DeriveCallKey {
     pub macro_id: MacroId,
 }
 
-/// What macro calls, attribute macros and derives give, which calls are calls of `include!`, and in
-/// which ways the macro at a position may be called.
+/// What macro calls, attribute macros and derives give, whether attribute macros are expanded, which
+/// calls are calls of `include!`, and in which ways the macro at a position may be called.
 pub struct Calls {
     pub answers: IndexMap<CallKey, CallAnswer>,
     pub attrs: IndexMap<CallKey, MacroCallId>,
+    pub expand_proc_attr_macros: bool,
     pub derives: IndexMap<DeriveCallKey, MacroCallId>,
     pub includes: IndexSet<MacroCallId>,
     pub styles: IndexMap<InFile<FileAstId>, MacroCallStyles>,
@@ -128,6 +142,7 @@ impl Drop for Calls {
         let Calls {
             answers: _,
             attrs: _,
+            expand_proc_attr_macros: _,
             derives: _,
             includes: _,
             styles: _,
@@ -167,8 +182,11 @@ impl Drop for Database {
 }
 
 impl Database {
-    /// A database that knows nothing.
-    pub fn new(alloc: Global) -> Database {
+    /// A database that knows nothing: what is asked of it has no answer, or the one that stands for
+    /// none, as a call without items.
+    pub fn new(alloc: Global) -> Database
+        ensures { answers_of result ≡ nothing_known }
+    {
         Database {
             files: Files {
                 trees: IndexMap::new(alloc),
@@ -177,6 +195,7 @@ impl Database {
             },
             crates: Crates {
                 known: IndexMap::new(alloc),
+                proc_macros: IndexMap::new(alloc),
                 maps: IndexMap::new(alloc),
                 local_maps: IndexMap::new(alloc),
                 outer_maps: IndexMap::new(alloc),
@@ -184,6 +203,7 @@ impl Database {
             },
             types: Types {
                 variants: IndexMap::new(alloc),
+                assoc_items: IndexMap::new(alloc),
                 builtin: IndexMap::new(alloc),
             },
             builtins: Builtins {
@@ -197,6 +217,7 @@ impl Database {
             calls: Calls {
                 answers: IndexMap::new(alloc),
                 attrs: IndexMap::new(alloc),
+                expand_proc_attr_macros: false,
                 derives: IndexMap::new(alloc),
                 includes: IndexSet::new(alloc),
                 styles: IndexMap::new(alloc),
@@ -210,6 +231,17 @@ fn is_read_attr(name: Name) -> bool
     ensures { result ≡ is_read_attr name }
 {
     matches!(name.0, 8..=18 | 20..=24)
+}
+
+/// What the associated items of a trait, an impl or an expansion are found by.
+pub(crate) fn assoc_key(owner: AssocItemsOwner) -> AssocKey
+    ensures { result ≡ assoc_key owner }
+{
+    match owner {
+        AssocItemsOwner::Trait(id) => AssocKey::Trait(id),
+        AssocItemsOwner::Impl(id) => AssocKey::Impl(id),
+        AssocItemsOwner::Expansion(call) => AssocKey::Expansion(call),
+    }
 }
 
 /// A copy of an answer.
@@ -327,8 +359,8 @@ impl SourceDatabase for Database {
         }
     }
 
-    fn assoc_items(&self, _owner: AssocItemsOwner) -> Option<&AssocList> {
-        None
+    fn assoc_items(&self, owner: AssocItemsOwner) -> Option<&AssocList> {
+        self.types.assoc_items.get(&assoc_key(owner))
     }
 
     fn rule_styles(&self, position: InFile<FileAstId>, _krate: Crate) -> MacroCallStyles {
@@ -338,8 +370,11 @@ impl SourceDatabase for Database {
         }
     }
 
-    fn proc_macros(&self, _krate: Crate) -> &[(Name, u32, bool)] {
-        &[]
+    fn proc_macros(&self, krate: Crate) -> &[(Name, u32, bool)] {
+        match self.crates.proc_macros.get(&krate) {
+            Some(macros) => macros.as_slice(),
+            None => &[],
+        }
     }
 
     fn find_builtin_macro(&self, name: Name) -> Option<Either<u32, u32>> {
@@ -382,6 +417,6 @@ impl SourceDatabase for Database {
     }
 
     fn expand_proc_attr_macros(&self) -> bool {
-        false
+        self.calls.expand_proc_attr_macros
     }
 }

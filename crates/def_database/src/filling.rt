@@ -4,12 +4,14 @@ ghost use Rattle.indexmap.specs.IndexMap.{get_by_text};
 ghost use Rattle.def_modules.specs.Updates.{set_where};
 ghost use Rattle.def_database.specs.Calls.{with_attr_call, with_call, with_derive_call, with_include, with_styles};
 ghost use Rattle.def_database.specs.Database.{answers_of, leads};
-ghost use Rattle.def_database.specs.Filling.{with_tree, with_path, with_crate, with_maps, with_outer_map, with_variants, with_builtin, with_builtin_attr, with_builtin_derive, with_builtin_macro, with_depth, with_derive_fast_path, with_derive_traits, with_flag, with_inert_attr, with_lead};
+ghost use Rattle.def_database.specs.Filling.{with_tree, with_path, with_crate, with_maps, with_outer_map, with_variants, with_assoc_items, with_builtin, with_builtin_attr, with_builtin_derive, with_builtin_macro, with_depth, with_derive_fast_path, with_derive_traits, with_expand_proc_attr_macros, with_flag, with_inert_attr, with_lead, with_proc_macros};
 
-use crate::database::{CallKey, CfgFlag, Database, DeriveCallKey};
+use crate::database::{CallKey, CfgFlag, Database, DeriveCallKey, assoc_key};
 use def_ids::MacroId;
 use def_locs::BuiltinAttr;
-use def_map::{CallAnswer, CrateData, DefMap, EnumVariant, LocalDefMap};
+use def_map::{
+    AssocItemsOwner, AssocList, CallAnswer, CrateData, DefMap, EnumVariant, LocalDefMap,
+};
 use either::Either;
 use indexmap::IndexMap;
 use item_tree::{
@@ -31,6 +33,7 @@ impl Database {
     /// Leads a path, seen from a file, to a file.
     pub fn add_path(&mut self, from: FileId, path: &str, to: FileId) -> Result<(), AllocError>
         ensures ok { OnOk result (answers_of self.new ≡ with_path (answers_of self.old) from path.now to) }
+        ensures err { OnErr result (answers_of self.new ≡ answers_of self.old) }
     {
         lead_from(&mut self.files.paths, from, path, to)?;
         Ok(())
@@ -54,8 +57,28 @@ impl Database {
         Ok(())
     }
 
-    /// Hands a crate's finished maps to the crates that depend on it. On `Err` the first of the two
-    /// may be there.
+    /// Says which procedural macros were built for a crate: the name and the number of each, and
+    /// whether it is switched off.
+    pub fn add_proc_macros(
+        &mut self,
+        krate: Crate,
+        macros: Vec<(Name, u32, bool)>,
+    ) -> Result<(), AllocError>
+        ensures ok { OnOk result (answers_of self.new ≡ with_proc_macros (answers_of self.old) krate macros.items) }
+        ensures err { OnErr result (answers_of self.new ≡ answers_of self.old) }
+    {
+        self.crates.proc_macros.insert(krate, macros)?;
+        Ok(())
+    }
+
+    /// Says whether attribute macros are expanded.
+    pub fn set_expand_proc_attr_macros(&mut self, on: bool)
+        ensures { answers_of self.new ≡ with_expand_proc_attr_macros (answers_of self.old) on }
+    {
+        self.calls.expand_proc_attr_macros = on;
+    }
+
+    /// Hands a crate's finished maps to the crates that depend on it: both, or on `Err` neither.
     pub fn add_map(
         &mut self,
         krate: Crate,
@@ -63,7 +86,9 @@ impl Database {
         local_def_map: LocalDefMap,
     ) -> Result<(), AllocError>
         ensures ok { OnOk result (answers_of self.new ≡ with_maps (answers_of self.old) krate def_map local_def_map) }
+        ensures err { OnErr result (answers_of self.new ≡ answers_of self.old) }
     {
+        self.crates.local_maps.reserve(1)?;
         self.crates.maps.insert(krate, def_map)?;
         self.crates.local_maps.insert(krate, local_def_map)?;
         Ok(())
@@ -88,6 +113,19 @@ impl Database {
         ensures err { OnErr result (answers_of self.new ≡ answers_of self.old) }
     {
         self.types.variants.insert(position, variants)?;
+        Ok(())
+    }
+
+    /// Gives a trait, an impl or the expansion of a call among associated items its items.
+    pub fn add_assoc_items(
+        &mut self,
+        owner: AssocItemsOwner,
+        items: AssocList,
+    ) -> Result<(), AllocError>
+        ensures ok { OnOk result (answers_of self.new ≡ with_assoc_items (answers_of self.old) owner items) }
+        ensures err { OnErr result (answers_of self.new ≡ answers_of self.old) }
+    {
+        self.types.assoc_items.insert(assoc_key(owner), items)?;
         Ok(())
     }
 
@@ -234,7 +272,8 @@ impl Database {
 
 /// Leads a path to a file.
 fn lead(paths: &mut IndexMap<String, FileId>, path: &str, to: FileId) -> Result<(), AllocError>
-    ensures { OnOk result (get_by_text paths.new ≡ set_where (bytes_eq path.now) (Some to) (get_by_text paths.old)) }
+    ensures ok { OnOk result (get_by_text paths.new ≡ set_where (bytes_eq path.now) (Some to) (get_by_text paths.old)) }
+    ensures err { OnErr result (get_by_text paths.new ≡ get_by_text paths.old) }
 {
     let alloc = *paths.allocator();
     let path = String::from_str(alloc, path)?;
@@ -249,7 +288,8 @@ fn lead_from(
     path: &str,
     to: FileId,
 ) -> Result<(), AllocError>
-    ensures { OnOk result (leads paths.new ≡ with_lead (leads paths.old) from path.now to) }
+    ensures ok { OnOk result (leads paths.new ≡ with_lead (leads paths.old) from path.now to) }
+    ensures err { OnErr result (leads paths.new ≡ leads paths.old) }
 {
     let alloc = *paths.allocator();
     let of_file = paths.entry(from)?.or_insert(IndexMap::new(alloc));

@@ -5,5 +5,5 @@ mod database;
 mod filling;
 
 pub use database::{
-    Builtins, CallKey, Calls, CfgFlag, Crates, Database, DeriveCallKey, Files, Types,
+    AssocKey, Builtins, CallKey, Calls, CfgFlag, Crates, Database, DeriveCallKey, Files, Types,
 };

@@ -41,7 +41,7 @@ pub use def_modules::{
 
 // The oracle: its trait, what it is asked and answers, and a database to fill.
 pub use def_database::{
-    Builtins, CallKey, Calls, CfgFlag, Crates, Database, DeriveCallKey, Files, Types,
+    AssocKey, Builtins, CallKey, Calls, CfgFlag, Crates, Database, DeriveCallKey, Files, Types,
 };
 pub use def_map::{
     AssocItem, AssocItemKind, AssocItemsOwner, AssocList, AttrCallQuery, CallAnswer, CallQuery,

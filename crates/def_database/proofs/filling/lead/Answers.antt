@@ -6,8 +6,8 @@ use Rattle.indexmap.specs.IndexMap.{get_by_text}
 use Rattle.def_modules.specs.Updates.{set_where}
 use Rattle.def_database.proofs.filling.lead.Goals as goal
 
-pub returns : goal.returns
-returns c =
+pub returns-clause-ok : goal.returns-clause-ok
+returns-clause-ok c =
     let old = c.args.paths.now in
     let new = c.insert.new.self in
     let e = hash_map_updates_text (string_bytes c.in_ok-path.path) old new (Some c.args.to) c.in_ok-insert.ensures.updates in
