@@ -54,6 +54,14 @@ pub struct BuiltinAttrText<'t> {
     pub attr: BuiltinAttr,
 }
 
+/// A builtin macro, with its number.
+#[derive(Drop)]
+pub struct BuiltinMacroText<'t> {
+    pub name: &'t str,
+    pub number: u32,
+    pub is_eager: bool,
+}
+
 /// A builtin derive, with its number.
 #[derive(Drop)]
 pub struct BuiltinDeriveText<'t> {
@@ -116,6 +124,18 @@ impl<'t> CallText<'t> {
             is_silent: false,
         }
     }
+}
+
+/// A call that was made for the arguments of another one.
+#[derive(Clone, Copy)]
+pub struct InnerText {
+    /// The number of the other one.
+    pub of: usize,
+    /// Where it stands: the file, and the item's number.
+    pub file: HirFileId,
+    pub ast_id: usize,
+    /// Its own number.
+    pub call: usize,
 }
 
 /// Macro calls in a row, all answered as the first one is.
@@ -185,6 +205,7 @@ pub struct Fixture<'t> {
     pub crates: Vec<CrateText<'t>>,
     pub builtin_types: Vec<BuiltinText<'t>>,
     pub builtin_attrs: Vec<BuiltinAttrText<'t>>,
+    pub builtin_macros: Vec<BuiltinMacroText<'t>>,
     pub builtin_derives: Vec<BuiltinDeriveText<'t>>,
     /// Whether builtin derives give impls with no expansion where they can.
     pub derive_fast_path: bool,
@@ -192,6 +213,8 @@ pub struct Fixture<'t> {
     pub flags: Vec<&'t str>,
     /// The macro calls that are answered, each with its place as its number.
     pub calls: Vec<CallText<'t>>,
+    /// The calls that were made for the arguments of those.
+    pub inner: Vec<InnerText>,
     /// Calls in a row, whose numbers go on from those of the calls.
     pub chain: Option<ChainText<'t>>,
     pub styles: Vec<StyleText>,
@@ -199,6 +222,8 @@ pub struct Fixture<'t> {
     pub block: Option<BlockText<'t>>,
     /// The lines that are wanted of what is recorded, if any are.
     pub records: Option<&'t str>,
+    /// The lines that are wanted of what is kept in an order, if any are.
+    pub orders: Option<&'t str>,
     pub shows: &'t str,
 }
 
@@ -215,14 +240,17 @@ impl<'t> Fixture<'t> {
             crates: Vec::new(alloc),
             builtin_types: Vec::new(alloc),
             builtin_attrs: Vec::new(alloc),
+            builtin_macros: Vec::new(alloc),
             builtin_derives: Vec::new(alloc),
             derive_fast_path: false,
             flags: Vec::new(alloc),
             calls: Vec::new(alloc),
+            inner: Vec::new(alloc),
             chain: None,
             styles: Vec::new(alloc),
             block: None,
             records: None,
+            orders: None,
             shows: "",
         }
     }

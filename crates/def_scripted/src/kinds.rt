@@ -286,6 +286,7 @@ fn item_of(reader: &mut Reader, keyword: Keyword, items: &mut Items) {
 pub fn add_kind(reader: &mut Reader, items: &mut Items) {
     match reader.peek(0) {
         Token::Colons
+        | Token::Mark('$')
         | Token::Name(_)
         | Token::Word(Keyword::Crate | Keyword::SelfWord | Keyword::Super) => {
             macro_call(reader, items);

@@ -2,7 +2,7 @@
 
 use crate::reader::Reader;
 use crate::tokens::{Keyword, Token};
-use item_tree::{ImportAlias, ModPath, Name, PathKind, RawVisibility, Seq};
+use item_tree::{Crate, ImportAlias, ModPath, Name, PathKind, RawVisibility, Seq};
 
 /// How many modules `self` or `super`, which comes, goes up, with each `super` behind it.
 fn levels(reader: &mut Reader, first: u8) -> u8 {
@@ -17,7 +17,21 @@ fn levels(reader: &mut Reader, first: u8) -> u8 {
     levels
 }
 
-/// Where a path begins.
+/// The root of the crate of the number that has to come.
+fn root_of(reader: &mut Reader) -> PathKind {
+    match reader.peek(0) {
+        Token::Number(krate) => {
+            reader.skip(1);
+            PathKind::DollarCrate(Crate(krate))
+        }
+        _ => {
+            reader.stop();
+            PathKind::Crate
+        }
+    }
+}
+
+/// Where a path begins. `$1` is `$crate` in a macro of crate 1.
 fn path_kind(reader: &mut Reader) -> PathKind {
     match reader.peek(0) {
         Token::Word(Keyword::Crate) => {
@@ -26,6 +40,10 @@ fn path_kind(reader: &mut Reader) -> PathKind {
         }
         Token::Word(Keyword::SelfWord) => PathKind::Super(levels(reader, 0)),
         Token::Word(Keyword::Super) => PathKind::Super(levels(reader, 1)),
+        Token::Mark('$') => {
+            reader.skip(1);
+            root_of(reader)
+        }
         Token::Colons => PathKind::Abs,
         _ => PathKind::Plain,
     }

@@ -14,9 +14,10 @@ use def_ids::VariantId;
 use def_interner::Interner;
 use def_map::{CallAnswer, CrateData, DefMap, Dependency, EnumVariant};
 use def_scripted::{
-    BuiltinDeriveText, CallText, CalledBy, ChainText, CrateText, DependencyText, FileText, Fixture,
-    ReadEnum, ReadFault, ReadFile, read,
+    BuiltinDeriveText, BuiltinMacroText, CallText, CalledBy, ChainText, CrateText, DependencyText,
+    FileText, Fixture, InnerText, ReadEnum, ReadFault, ReadFile, read,
 };
+use either::Either;
 use item_tree::{AttrId, Crate, FileAstId, FileId, HirFileId, InFile, MacroCallId, Seq, TreeId};
 use std::alloc::{AllocError, Global};
 
@@ -69,7 +70,7 @@ impl Workspace {
     /// Adds the macro calls of a row.
     fn add_calls(&mut self, row: &Fixture<'_>) -> Result<(), Fault> {
         for (number, text) in row.calls.iter().enumerate() {
-            self.add_call(MacroCallId(number), text)?;
+            self.add_call(MacroCallId(number), text, row.inner.as_slice())?;
         }
         if let Some(chain) = &row.chain {
             self.add_chain(row.calls.len(), chain)?;
@@ -101,8 +102,12 @@ impl Workspace {
         Ok(())
     }
 
-    /// Adds how the macros of a row are called, and its builtin attributes.
+    /// Adds how the macros of a row are called, and its builtin macros and attributes.
     fn add_macros(&mut self, row: &Fixture<'_>) -> Result<(), AllocError> {
+        for text in &row.builtin_macros {
+            let name = self.session.intern_name(text.name)?;
+            self.db.add_builtin_macro(name, expander(text))?;
+        }
         for text in &row.builtin_attrs {
             let name = self.session.intern_name(text.name)?;
             self.db.add_builtin_attr(name, text.attr)?;
@@ -198,7 +203,12 @@ impl Workspace {
     }
 
     /// Adds the answer of a macro call, or the call of an attribute macro or a derive.
-    fn add_answer(&mut self, call: MacroCallId, text: &CallText<'_>) -> Result<(), AllocError> {
+    fn add_answer(
+        &mut self,
+        call: MacroCallId,
+        text: &CallText<'_>,
+        inner: &[InnerText],
+    ) -> Result<(), AllocError> {
         let position = InFile {
             file: text.file,
             value: FileAstId(text.ast_id),
@@ -208,7 +218,7 @@ impl Workspace {
                 let answer = CallAnswer {
                     value: if text.is_silent { None } else { Some(call) },
                     err: text.err,
-                    inner: Seq::from_vec(Vec::new(self.alloc)),
+                    inner: made_for(self.alloc, call, inner)?,
                 };
                 self.db.add_call(position, text.of, answer)
             }
@@ -225,9 +235,15 @@ impl Workspace {
         }
     }
 
-    /// Adds a macro call, and the items of its expansion.
-    pub fn add_call(&mut self, call: MacroCallId, text: &CallText<'_>) -> Result<(), Fault> {
-        self.add_answer(call, text)?;
+    /// Adds a macro call, and the items of its expansion. Some calls were made for the arguments of
+    /// others.
+    pub fn add_call(
+        &mut self,
+        call: MacroCallId,
+        text: &CallText<'_>,
+        inner: &[InnerText],
+    ) -> Result<(), Fault> {
+        self.add_answer(call, text, inner)?;
         if text.is_include {
             self.db.add_include(call)?;
         }
@@ -242,7 +258,7 @@ impl Workspace {
     fn add_chain(&mut self, first: usize, chain: &ChainText<'_>) -> Result<(), Fault> {
         for place in 0..chain.length {
             let call = call_at(first, chain, place);
-            self.add_call(MacroCallId(first.saturating_add(place)), &call)?;
+            self.add_call(MacroCallId(first.saturating_add(place)), &call, &[])?;
         }
         Ok(())
     }
@@ -306,6 +322,34 @@ fn tree_id(file: FileId) -> TreeId
         file: HirFileId::File(file),
         block: None,
     }
+}
+
+/// What expands a builtin macro.
+fn expander(text: &BuiltinMacroText<'_>) -> Either<u32, u32> {
+    if text.is_eager {
+        Either::Right(text.number)
+    } else {
+        Either::Left(text.number)
+    }
+}
+
+/// The calls that were made for the arguments of a call, each with its position.
+fn made_for(
+    alloc: Global,
+    call: MacroCallId,
+    inner: &[InnerText],
+) -> Result<Seq<(InFile<FileAstId>, MacroCallId)>, AllocError> {
+    let mut made = Seq::from_vec(Vec::new(alloc));
+    for text in inner {
+        if text.of == call.0 {
+            let position = InFile {
+                file: text.file,
+                value: FileAstId(text.ast_id),
+            };
+            made.push((position, MacroCallId(text.call)))?;
+        }
+    }
+    Ok(made)
 }
 
 /// The text of a file, whose last line stands there so often.

@@ -1,8 +1,9 @@
 //! Runs the rows of the files that its words name: collects the workspace of each row, and compares
-//! the lines that are shown of it, and where the row says so those of what is recorded beside them,
-//! with those that are wanted.
+//! the lines that are shown of it, and where the row says so those of what is recorded beside them and
+//! of what is kept in an order, with those that are wanted.
 #![tactic(auto)]
 
+mod orders;
 mod program;
 mod records;
 mod run;

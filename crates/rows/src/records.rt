@@ -144,7 +144,7 @@ fn write_given(given: DeriveCall, out: &mut Vec<u8>) -> io::Result<()> {
 }
 
 /// Writes where an item stands, behind a space: its file and its number.
-fn write_position(position: Position, out: &mut Vec<u8>) -> io::Result<()> {
+pub fn write_position(position: Position, out: &mut Vec<u8>) -> io::Result<()> {
     let item = position.value.0;
     match position.file {
         HirFileId::File(file) => {

@@ -1,5 +1,6 @@
 //! Runs the rows of one text.
 
+use crate::orders::write_orders;
 use crate::program::write_run;
 use crate::records::write_records;
 use def_workspace::{
@@ -16,31 +17,37 @@ pub struct Counts {
     pub wrong: usize,
 }
 
-/// Writes the lines of what is collected of a row, and where that is asked those of what is recorded.
+/// Writes the lines of what is collected, and where a row asks for them those of what is recorded and
+/// of what is kept in an order.
 fn write_collected(
-    has_records: bool,
+    asked: &Fixture<'_>,
     workspace: &Workspace,
     collected: &Collected,
     lines: &mut Vec<u8>,
 ) -> Result<(), Fault> {
     print(workspace.alloc, &workspace.session, collected, lines)?;
-    if has_records {
+    if asked.records.is_some() {
         writeln!(lines, "recorded:")?;
         write_records(&workspace.session, collected, lines)?;
+    }
+    if asked.orders.is_some() {
+        writeln!(lines, "in order:")?;
+        write_orders(&workspace.session, collected, lines)?;
     }
     Ok(())
 }
 
-/// Collects the crates of a workspace, and writes the lines of the last one.
+/// Collects the crates of a workspace, and writes the lines of the last one, with those that another
+/// row may ask for.
 fn write_workspace(
     alloc: Global,
     row: &Fixture<'_>,
-    has_records: bool,
+    asked: &Fixture<'_>,
     lines: &mut Vec<u8>,
 ) -> Result<(), Fault> {
     let mut workspace = Workspace::new(alloc, row)?;
     match collect(&mut workspace, row)? {
-        Some(collected) => write_collected(has_records, &workspace, &collected, lines),
+        Some(collected) => write_collected(asked, &workspace, &collected, lines),
         None => Ok(writeln!(lines, "no block")?),
     }
 }
@@ -49,22 +56,22 @@ fn write_workspace(
 fn write_named(
     alloc: Global,
     name: &str,
-    has_records: bool,
+    asked: &Fixture<'_>,
     lines: &mut Vec<u8>,
 ) -> Result<(), Fault> {
     let Some(text) = find(name) else {
         return Ok(writeln!(lines, "no workspace")?);
     };
     let row = read_row(alloc, Part { text, line: 1 })?;
-    write_workspace(alloc, &row, has_records, lines)
+    write_workspace(alloc, &row, asked, lines)
 }
 
 /// Writes the lines of a row: of a run of the program, of a workspace that has a name, or of its own.
 fn write_row(alloc: Global, row: &Fixture<'_>, lines: &mut Vec<u8>) -> Result<(), Fault> {
     match (&row.program, row.vector) {
         (Some(program), _) => Ok(write_run(alloc, program, lines)?),
-        (None, Some(name)) => write_named(alloc, name, row.records.is_some(), lines),
-        (None, None) => write_workspace(alloc, row, row.records.is_some(), lines),
+        (None, Some(name)) => write_named(alloc, name, row, lines),
+        (None, None) => write_workspace(alloc, row, row, lines),
     }
 }
 
@@ -96,6 +103,10 @@ fn write_wanted(row: &Fixture<'_>, lines: &mut Vec<u8>) -> io::Result<()> {
     if let Some(records) = row.records {
         writeln!(lines, "recorded:")?;
         write_ended(records, lines)?;
+    }
+    if let Some(orders) = row.orders {
+        writeln!(lines, "in order:")?;
+        write_ended(orders, lines)?;
     }
     Ok(())
 }
