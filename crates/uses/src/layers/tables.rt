@@ -10,9 +10,10 @@ use answers::{Answers, ask};
 use calls::call;
 use def_bindings::{Binding, BindingTable, ModuleTree, Namespace, Visibility};
 use def_ids::{Def, FunctionId, GlobId, MapId, ModuleId, UseId};
+use def_map::Table;
 use def_parts::Globs;
 use item_tree::{Crate, Name, Seq};
-use numbered_table::{NumberedTable, VisNumber};
+use numbered_table::NumberedTable;
 use plain_table::PlainTable;
 use scope_table::ScopeTable;
 use scripts::{CHAIN, SCRIPTS, Script, Step};
@@ -158,7 +159,7 @@ fn in_short(
     order: &ModuleTree,
     script: &Script,
 ) -> Result<Vec<Answers>, AllocError> {
-    let table: NumberedTable<Visibility, VisNumber> = NumberedTable::of_map(alloc, MAP)?;
+    let table = Table::of_map(alloc, MAP)?;
     play(alloc, order, script, table)
 }
 
@@ -168,7 +169,7 @@ fn by_whole_places(
     order: &ModuleTree,
     script: &Script,
 ) -> Result<Vec<Answers>, AllocError> {
-    let mut table: NumberedTable<Visibility, VisNumber> = NumberedTable::of_map(alloc, MAP)?;
+    let mut table = Table::of_map(alloc, MAP)?;
     let root = ModuleId {
         map: ANOTHER,
         index: 0,
