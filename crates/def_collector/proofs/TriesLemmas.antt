@@ -1,5 +1,5 @@
 -- Turns of single imports, and what is known once none had one.
-use Rattle.std.proofs.Common.{◌≡◌, ◌<◌, ◌≤◌, ◌&&◌, ◌||◌, ℕ, nat_lt, not, Bool, false, true, List, ◌++◌, Option, Some, None, option_and_then, slice_get, length, refl, sym, ap, subst, arith, ◌∙◌, IsPermutation, sum_by, IfSome, inl, inr}
+use Rattle.std.proofs.Common.{◌≡◌, ◌<◌, ◌≤◌, ◌&&◌, ◌||◌, ℕ, nat_lt, not, Bool, false, true, List, [], ◌++◌, Option, Some, None, option_and_then, slice_get, length, refl, sym, ap, subst, arith, ◌∙◌, IsPermutation, sum_by, IfSome, inl, inr}
 use Rattle.std.proofs.lemmas.Bool.{cases_Bool, ltb-false}
 use Rattle.std.proofs.lemmas.List.Elements.{All-contains}
 use Rattle.std.proofs.lemmas.Option.{none-some, slice_get_past}
@@ -96,6 +96,7 @@ kept-some recorded answer (Some k) ready keeps = elim (cases_Bool (is_foreign an
 
 -- an import left its place, stays among the others if it may be recorded again, and was recorded
 pub moved : (oracle : Oracle) (session : Interner) (old new kept : DefCollector) (d : ImportDirective) (answer : ResolvePathResult) (ready : Bool) (stays : Option ImportDirective)
+    → (state_of old session).expansions ≡ []
     → answer ≡ answer_now oracle (state_of old session) (import_of d.import)
     → ready ≡ is_ready (ns_set d.recorded) answer → ready ≡ true
     → directives_kept stays ≡ kept_list (import_of d.import) (kept_after (ns_set d.recorded) answer)
@@ -104,8 +105,8 @@ pub moved : (oracle : Oracle) (session : Interner) (old new kept : DefCollector)
     → (let effect = record_effect oracle (state_of kept session) (import_of d.import) answer in Performs oracle effect.tasks effect.state (state_of new session))
     → turns_left (state_of new session) ≡ turns_left (state_of kept session)
     → Moves oracle (state_of old session) (state_of new session)
-moved oracle session old new kept d answer ready stays gives asks was keeps frame retired became turns =
-    moves_import oracle s (state_of new session) (directive_of d) retired.rest imports retired.stands left again after turns
+moved oracle session old new kept d answer ready stays expanded gives asks was keeps frame retired became turns =
+    moves_import oracle s (state_of new session) (directive_of d) retired.rest imports expanded retired.stands left again after turns
   where
     s : State
     s = state_of old session

@@ -30,6 +30,7 @@ pub fn resolve_imports<'a, D: SourceDatabase>(
     db: &D,
     session: &Interner,
 ) -> Result<bool, AllocError>
+    requires { (state_of collector.old session.now).expansions ≡ [] }
     ensures run { OnOk result (Leads (D.oracle db.now)
         [] (state_of collector.old session.now) [] (state_of collector.new session.now)) }
     ensures settled { IfOk result (λ moved. moved ≡ false →
@@ -51,6 +52,7 @@ fn try_imports<'a, D: SourceDatabase>(
     session: &Interner,
     list: ImportList,
 ) -> Result<bool, AllocError>
+    requires { (state_of collector.old session.now).expansions ≡ [] }
     ensures run { OnOk result (Leads (D.oracle db.now)
         [] (state_of collector.old session.now) [] (state_of collector.new session.now)) }
     ensures fewer { IfOk result (λ moved. moved ≡ true →
@@ -78,6 +80,7 @@ pub fn try_import<'a, D: SourceDatabase>(
     session: &Interner,
     at: ImportAt,
 ) -> Result<bool, AllocError>
+    requires { (state_of collector.old session.now).expansions ≡ [] }
     ensures moved { IfOk result (λ moved. moved ≡ true →
         Moves (D.oracle db.now) (state_of collector.old session.now) (state_of collector.new session.now)) }
     ensures unready { IfOk result (λ moved. moved ≡ false →
@@ -107,6 +110,7 @@ fn try_whole<'a, D: SourceDatabase>(
     session: &Interner,
     at: ImportAt,
 ) -> Result<bool, AllocError>
+    requires { (state_of collector.old session.now).expansions ≡ [] }
     ensures moved { IfOk result (λ moved. moved ≡ true →
         Moves (D.oracle db.now) (state_of collector.old session.now) (state_of collector.new session.now)) }
     ensures unready { IfOk result (λ moved. moved ≡ false →
@@ -129,7 +133,8 @@ fn record_ready<'a, D: SourceDatabase>(
     at: ImportAt,
     answer: &PathAnswer,
 ) -> Result<bool, AllocError>
-    requires { (d : ImportDirective) → import_at collector.old.imports at ≡ Some d →
+    requires bare { (state_of collector.old session.now).expansions ≡ [] }
+    requires answer { (d : ImportDirective) → import_at collector.old.imports at ≡ Some d →
         whole answer.now ≡ answer_now (D.oracle db.now) (state_of collector.old session.now) (import_of d.import) }
     ensures moved { IfOk result (λ moved. moved ≡ true →
         Moves (D.oracle db.now) (state_of collector.old session.now) (state_of collector.new session.now)) }

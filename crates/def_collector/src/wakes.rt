@@ -22,6 +22,7 @@ pub fn record_woken<'a, D: SourceDatabase>(
     db: &D,
     session: &Interner,
 ) -> Result<(), AllocError>
+    requires { (state_of collector.old session.now).expansions ≡ [] }
     ensures run { OnOk result (Leads (D.oracle db.now)
         [] (state_of collector.old session.now) [] (state_of collector.new session.now)) }
     ensures turns { OnOk result (turns_left (state_of collector.new session.now) ≤ turns_left (state_of collector.old session.now)) }
@@ -47,6 +48,7 @@ fn record_next<'a, D: SourceDatabase>(
     session: &Interner,
     waking: &mut Waking,
 ) -> Result<bool, AllocError>
+    requires { (state_of collector.old session.now).expansions ≡ [] }
     ensures moved { IfOk result (λ moved. moved ≡ true →
         Moves (D.oracle db.now) (state_of collector.old session.now) (state_of collector.new session.now)) }
     ensures same { IfOk result (λ moved. moved ≡ false → collector.new ≡ collector.old) }
@@ -76,6 +78,7 @@ fn try_woken<'a, D: SourceDatabase>(
     watchers: &mut Watchers,
     import: ImportAt,
 ) -> Result<bool, AllocError>
+    requires { (state_of collector.old session.now).expansions ≡ [] }
     ensures moved { IfOk result (λ moved. moved ≡ true →
         Moves (D.oracle db.now) (state_of collector.old session.now) (state_of collector.new session.now)) }
     ensures unready { IfOk result (λ moved. moved ≡ false →

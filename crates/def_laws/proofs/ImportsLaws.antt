@@ -61,12 +61,12 @@ and_right true b h = h
 and_right false b h = absurd cc
 
 -- an import that is ready was recorded, and its entries were put
-pub moves_import : (oracle : Oracle) (s t : State) (d : ImportDirective) (rest imports : List ImportDirective) → IsPermutation s.imports (d ∷ rest)
+pub moves_import : (oracle : Oracle) (s t : State) (d : ImportDirective) (rest imports : List ImportDirective) → s.expansions ≡ [] → IsPermutation s.imports (d ∷ rest)
     → IsPermutation (rest ++ kept_list d.import (kept_after d.recorded (answer_now oracle s d.import))) imports → is_ready d.recorded (answer_now oracle s d.import) ≡ true
     → (let effect = record_effect oracle (record s { imports = imports }) d.import (answer_now oracle s d.import) in Performs oracle effect.tasks effect.state t)
     → turns_left t ≡ turns_left (record s { imports = imports })
     → Moves oracle s t
-moves_import oracle s t d rest imports stands left ready performs same = record { leads = leads; fewer = fewer }
+moves_import oracle s t d rest imports expanded stands left ready performs same = record { leads = leads; fewer = fewer }
   where
     answer : ResolvePathResult
     answer = answer_now oracle s d.import
@@ -79,7 +79,7 @@ moves_import oracle s t d rest imports stands left ready performs same = record 
 
     leads : Leads oracle [] s [] t
     leads =
-        leads_trans (leads_import s (import_effect oracle s d rest answer) (record { directive = d; rest = rest; stands = stands; ready = ready; is = refl }))
+        leads_trans (leads_import s (import_effect oracle s d rest answer) (record { expanded = expanded; directive = d; rest = rest; stands = stands; ready = ready; is = refl }))
         (leads_trans (leads_rearranged _ _ (record_effect oracle v d.import answer).state (record { imports = left; rest = refl }))
         (leads_performed (record_effect oracle v d.import answer).tasks [] (record_effect oracle v d.import answer).state t (record_followed oracle v d.import answer d.import.written.kind) performs))
 

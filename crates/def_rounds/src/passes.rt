@@ -27,6 +27,7 @@ pub trait Passes {
     /// Records each import that is ready, in a pass over all of them. Answers whether another pass may
     /// record one.
     fn resolve_imports(&mut self, session: &Interner) -> Result<bool, AllocError>
+        requires { (state self.old session.now).expansions ≡ [] }
         ensures asks { OnOk result (oracle self.new ≡ oracle self.old) }
         ensures run { OnOk result (Leads (oracle self.old)
             [] (state self.old session.now) [] (state self.new session.now)) }
@@ -41,6 +42,7 @@ pub trait Passes {
     /// Records imports until none wakes: each is tried once, and again where a name changed that its
     /// path reads.
     fn record_woken(&mut self, session: &Interner) -> Result<(), AllocError>
+        requires { (state self.old session.now).expansions ≡ [] }
         ensures asks { OnOk result (oracle self.new ≡ oracle self.old) }
         ensures run { OnOk result (Leads (oracle self.old)
             [] (state self.old session.now) [] (state self.new session.now)) }

@@ -50,6 +50,7 @@ pub fn resolution_loop<P: Passes>(
 
 /// Records imports until none is ready. On `Err` nothing but safety is promised.
 fn import_passes<P: Passes>(passes: &mut P, session: &Interner) -> Result<(), AllocError>
+    requires { (P.state passes.old session.now).expansions ≡ [] }
     ensures asks { OnOk result (P.oracle passes.new ≡ P.oracle passes.old) }
     ensures run { OnOk result (Leads (P.oracle passes.old)
         [] (P.state passes.old session.now) [] (P.state passes.new session.now)) }
@@ -66,6 +67,7 @@ fn import_passes<P: Passes>(passes: &mut P, session: &Interner) -> Result<(), Al
 /// first, also those that become ready by what it recorded. Answers whether one was recorded. On `Err` nothing
 /// but safety is promised.
 fn import_pass<P: Passes>(passes: &mut P, session: &Interner, made: u32) -> Result<bool, AllocError>
+    requires { (P.state passes.old session.now).expansions ≡ [] }
     ensures asks { OnOk result (P.oracle passes.new ≡ P.oracle passes.old) }
     ensures run { OnOk result (Leads (P.oracle passes.old)
         [] (P.state passes.old session.now) [] (P.state passes.new session.now)) }

@@ -121,8 +121,9 @@ abbrev pub import_effect : Oracle → State → ImportDirective → List ImportD
 import_effect oracle s directive rest answer =
     noting (Recorded directive.import (is_foreign answer)) (record_effect oracle (after_import s directive rest answer) directive.import answer)
 
--- one import that is ready is recorded with what its path gives now
+-- where no expansion is left to be walked, one import that is ready is recorded with what its path gives now
 pub record ImportStep (oracle : Oracle) (s : State) (effect : Effect) : Type 0 where
+  pub expanded : s.expansions ≡ []
   pub directive : ImportDirective
   pub rest : List ImportDirective
   pub stands : IsPermutation s.imports (directive ∷ rest)

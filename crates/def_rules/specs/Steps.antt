@@ -65,7 +65,7 @@ pub data Step (oracle : Oracle) (a b : Moment) : Type 0 where
   reorders : (macros : List MacroDirective) → IsPermutation a.state.macros macros → b ≡ with_state a (record a.state { macros = macros }) → Step oracle a b
   -- so are the imports that are not resolved
   rearranges : (state : State) → Rearranges a.state state → b ≡ with_state a state → Step oracle a b
-  -- where nothing is left to do, an import that is ready is recorded
+  -- where nothing is left to do, and no expansion to be walked, an import that is ready is recorded
   records : (effect : Effect) → a.tasks ≡ [] → ImportStep oracle a.state effect → b ≡ after a [] effect → Step oracle a b
   -- a macro that waits is asked
   asks : (effect : Effect) → a.tasks ≡ [] → MacroStep oracle a.state effect → b ≡ after a [] effect → Step oracle a b

@@ -116,7 +116,7 @@ edge importer number = record { importer = module_at importer; vis = Public; glo
 abbrev first : (m : Moment) × Reaches setting.oracle walked_to m
 first = (
   _,
-  join (import_recorded setting.oracle walked_to (not_recorded (waiting 1 1 0 b)) (not_recorded (waiting 2 4 1 a) ∷ []) refl refl refl)
+  join (import_recorded setting.oracle walked_to (not_recorded (waiting 1 1 0 b)) (not_recorded (waiting 2 4 1 a) ∷ []) refl refl refl refl)
       (join (one (performs _ _ _ refl refl refl))
       (join (one (performs _ _ _ refl refl refl))
       (one (performs _ _ _ refl refl refl)))),
@@ -133,7 +133,7 @@ indeterminate at item number name = recorded_from (record { types = true; values
 abbrev second : (m : Moment) × Reaches setting.oracle first_to m
 second = (
   _,
-  join (import_recorded setting.oracle first_to (not_recorded (waiting 2 4 1 a)) (indeterminate 1 1 0 b ∷ []) refl refl refl)
+  join (import_recorded setting.oracle first_to (not_recorded (waiting 2 4 1 a)) (indeterminate 1 1 0 b ∷ []) refl refl refl refl)
       (join (one (performs _ _ _ refl refl refl))
       (join (one (performs _ _ _ refl refl refl))
       (join (one (performs _ _ _ refl refl refl))

@@ -100,7 +100,7 @@ it_waits = refl
 abbrev recorded : (a : Moment) × Reaches setting.oracle walked_to a
 recorded = (
   _,
-  join (import_recorded setting.oracle walked_to (not_recorded waiting) [] refl refl refl)
+  join (import_recorded setting.oracle walked_to (not_recorded waiting) [] refl refl refl refl)
       (one (performs _ _ _ refl refl refl)),
 )
 

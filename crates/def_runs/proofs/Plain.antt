@@ -94,7 +94,7 @@ both_wait = refl
 abbrev pub recorded : (m : Moment) × Reaches setting.oracle walked_to m
 recorded = (
   _,
-  join (import_recorded setting.oracle walked_to (not_recorded (waiting 2 0 S)) (not_recorded (waiting 3 1 T) ∷ []) refl refl refl)
+  join (import_recorded setting.oracle walked_to (not_recorded (waiting 2 0 S)) (not_recorded (waiting 3 1 T) ∷ []) refl refl refl refl)
       (join (one (performs _ _ _ refl refl refl))
       (one (performs _ _ _ refl refl refl))),
 )

@@ -97,7 +97,7 @@ edge = record { importer = module_at 0; vis = In (module_at 0); glob = glob }
 abbrev recorded : (m : Moment) × Reaches setting.oracle walked_to m
 recorded = (
   _,
-  join (import_recorded setting.oracle walked_to (not_recorded waiting) [] refl refl refl)
+  join (import_recorded setting.oracle walked_to (not_recorded waiting) [] refl refl refl refl)
       (join (one (performs _ _ _ refl refl refl))
       (one (performs _ _ _ refl refl refl))),
 )

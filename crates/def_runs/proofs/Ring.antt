@@ -120,7 +120,7 @@ edge importer number = record { importer = module_at importer; vis = Public; glo
 abbrev first : (m : Moment) × Reaches setting.oracle walked_to m
 first = (
   _,
-  join (import_recorded setting.oracle walked_to (not_recorded (waiting 1 1 0 b)) (not_recorded (waiting 2 4 1 c) ∷ not_recorded (waiting 3 6 2 a) ∷ []) refl refl refl)
+  join (import_recorded setting.oracle walked_to (not_recorded (waiting 1 1 0 b)) (not_recorded (waiting 2 4 1 c) ∷ not_recorded (waiting 3 6 2 a) ∷ []) refl refl refl refl)
       (one (performs _ _ _ refl refl refl)),
 )
 
@@ -130,7 +130,7 @@ first_to = first.0
 abbrev second : (m : Moment) × Reaches setting.oracle first_to m
 second = (
   _,
-  join (import_recorded setting.oracle first_to (not_recorded (waiting 2 4 1 c)) (not_recorded (waiting 3 6 2 a) ∷ indeterminate 1 1 0 b ∷ []) refl refl refl)
+  join (import_recorded setting.oracle first_to (not_recorded (waiting 2 4 1 c)) (not_recorded (waiting 3 6 2 a) ∷ indeterminate 1 1 0 b ∷ []) refl refl refl refl)
       (one (performs _ _ _ refl refl refl)),
 )
 
@@ -144,7 +144,7 @@ nothing_in_b_and_c x n = (refl, refl)
 abbrev third : (m : Moment) × Reaches setting.oracle second_to m
 third = (
   _,
-  join (import_recorded setting.oracle second_to (not_recorded (waiting 3 6 2 a)) (indeterminate 1 1 0 b ∷ indeterminate 2 4 1 c ∷ []) refl refl refl)
+  join (import_recorded setting.oracle second_to (not_recorded (waiting 3 6 2 a)) (indeterminate 1 1 0 b ∷ indeterminate 2 4 1 c ∷ []) refl refl refl refl)
       (join (one (performs _ _ _ refl refl refl))
       (join (one (performs _ _ _ refl refl refl))
       (one (performs _ _ _ refl refl refl)))),

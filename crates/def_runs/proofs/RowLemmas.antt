@@ -44,12 +44,12 @@ abbrev pub moment_after : Oracle → Moment → ImportDirective → List ImportD
 moment_after oracle a directive rest = after a [] (import_effect oracle a.state directive rest (answer_now oracle a.state directive.import))
 
 -- the first import that waits is recorded
-pub import_recorded : (oracle : Oracle) (a : Moment) (directive : ImportDirective) (rest : List ImportDirective) → a.tasks ≡ [] → a.state.imports ≡ directive ∷ rest
+pub import_recorded : (oracle : Oracle) (a : Moment) (directive : ImportDirective) (rest : List ImportDirective) → a.tasks ≡ [] → a.state.expansions ≡ [] → a.state.imports ≡ directive ∷ rest
     → is_ready directive.recorded (answer_now oracle a.state directive.import) ≡ true
     → Reaches oracle a (moment_after oracle a directive rest)
-import_recorded oracle a directive rest idle first ready =
+import_recorded oracle a directive rest idle expanded first ready =
     let stands = subst (λ ds. IsPermutation a.state.imports ds) first (same_order a.state.imports) in
-    one (records _ idle (record { directive = directive; rest = rest; stands = stands; ready = ready; is = refl }) refl)
+    one (records _ idle (record { expanded = expanded; directive = directive; rest = rest; stands = stands; ready = ready; is = refl }) refl)
 
 -- the moment after the first macro that waits had its turn, with what it is told
 abbrev pub moment_asked : Oracle → Moment → MacroDirective → List MacroDirective → Moment

@@ -110,7 +110,7 @@ nothing_happened = (refl, refl)
 abbrev pub recorded : (m : Moment) × Reaches setting.oracle walked_to m
 recorded = (
   _,
-  join (import_recorded setting.oracle walked_to (not_recorded waiting) [] refl refl refl)
+  join (import_recorded setting.oracle walked_to (not_recorded waiting) [] refl refl refl refl)
       (one (performs _ _ _ refl refl refl)),
 )
 

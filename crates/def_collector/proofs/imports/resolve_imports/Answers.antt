@@ -43,3 +43,6 @@ returns-else-unresolved-clause-settled g c = λ none.
     settled (g.D.SourceDatabase.oracle c.args.db.now) c.args.session.now c.args.collector.now c.try_imports.new.collector c.try_imports-2.new.collector first c.in_ok-indeterminate.indeterminate waiting
     c.places-waiting.ensures (ap (λ second. second || (first && nat_lt 0 waiting)) c.if-indeterminate.false ∙ ap (λ first. first && nat_lt 0 waiting) c.if-unresolved.false)
     c.in_ok-unresolved.ensures.unready c.in_ok-unresolved.ensures.same c.in_ok-indeterminate.ensures.unready c.in_ok-indeterminate.ensures.same
+
+pub try_imports-2-requires : goal.try_imports-2-requires
+try_imports-2-requires g c = c.in_ok-unresolved.ensures.run.expansions ∙ c.requires

@@ -24,8 +24,8 @@ returns-in-Unready-clause-unready g c = λ _.
     (sym (subst (Shows (ns_set directive.recorded) (resolve w for_import import.module_id import.written.now.path)) c.in-Unready.is c.glance_at.ensures))
     refl
 
-pub record_ready-requires : goal.record_ready-requires
-record_ready-requires g c = λ d here.
+pub record_ready-requires-clause-answer : goal.record_ready-requires-clause-answer
+record_ready-requires-clause-answer g c = λ d here.
     let directive = c.in-Some.directive.now in
     let import = directive.import in
     let w = world_lent g.D.SourceDatabase.oracle bound_by c.world.result in

@@ -22,3 +22,6 @@ tried-preserved g c =
           (tried_unready oracle session list c.args.collector.now c.tried.collector next c.tried.moved c.tried.index c.tried.invariant
           (c.in_ok-try_import.ensures.same w.if-branch.false) (c.in_ok-try_import.ensures.unready w.if-branch.false))
     ]
+
+pub try_import-requires : goal.try_import-requires
+try_import-requires g c = c.tried.invariant.leads.expansions ∙ c.requires

@@ -7,8 +7,8 @@ use Rattle.def_collector.specs.Collector.{state_of}
 use Rattle.def_collector.proofs.TriesLemmas.{same_import}
 use Rattle.def_collector.proofs.imports.try_whole.Goals as goal
 
-pub record_ready-requires : goal.record_ready-requires
-record_ready-requires g c = λ d here.
+pub record_ready-requires-clause-answer : goal.record_ready-requires-clause-answer
+record_ready-requires-clause-answer g c = λ d here.
     let directive = c.in-Some.directive.now in
     let same : directive ≡ d = same_import _ directive d (sym c.in-Some.ensures) here in
     c.resolve_import-answer.ensures

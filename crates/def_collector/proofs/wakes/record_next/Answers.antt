@@ -1,4 +1,5 @@
-use Rattle.std.proofs.Common.{◌∙◌}
+use Rattle.std.proofs.Common.{ap, ◌∙◌}
+use Rattle.def_collector.specs.Collector.{state_of}
 use Rattle.def_collector.proofs.WakeLemmas.{moved_unwatched}
 use Rattle.def_collector.proofs.wakes.record_next.Goals as goal
 
@@ -17,3 +18,6 @@ returns-else-ne-clause-moved g c = λ _.
 
 pub returns-clause-same : goal.returns-clause-same
 returns-clause-same g c = λ _. c.turns.invariant
+
+pub try_woken-requires : goal.try_woken-requires
+try_woken-requires g c = ap (λ k. (state_of k c.args.session.now).expansions) c.turns.invariant ∙ c.requires

@@ -39,3 +39,6 @@ returns-clause-turns g c =
     let same = with_imports c.args.session.now c.record_next.new.collector c.unwatch.new.self c.drop_left-2.new.self c.unwatch.ensures (c.drop_left-2.ensures ∙ c.drop_left.ensures) in
     subst (λ s. turns_left s ≤ turns_left (state_of c.args.collector.now c.args.session.now)) (sym same)
     (subst (λ k. turns_left (state_of k c.args.session.now) ≤ turns_left (state_of c.args.collector.now c.args.session.now)) (sym last) c.woken.invariant.turns)
+
+pub record_next-requires : goal.record_next-requires
+record_next-requires g c = c.woken.invariant.run.expansions ∙ c.requires

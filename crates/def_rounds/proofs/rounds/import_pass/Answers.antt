@@ -22,3 +22,6 @@ returns-clause-fewer g c = λ _.
     let less = c.in_ok-resolve_imports.ensures.fewer c.if-not-branch.false in
     let most = c.in_ok-record_woken.ensures.turns in
     omega (arith, less, most)
+
+pub record_woken-requires : goal.record_woken-requires
+record_woken-requires g c = c.in_ok-resolve_imports.ensures.run.expansions ∙ c.requires

@@ -27,3 +27,6 @@ returns-clause-run g c =
 pub returns-clause-settled : goal.returns-clause-settled
 returns-clause-settled g c =
     subst (λ o. NoneReady o (g.P.Passes.state c.import_pass.new.passes c.args.session.now)) c.passes.invariant.asks (c.in_ok-import_pass.ensures.settled c.if-branch.false)
+
+pub import_pass-requires : goal.import_pass-requires
+import_pass-requires g c = c.passes.invariant.run.expansions ∙ c.requires
