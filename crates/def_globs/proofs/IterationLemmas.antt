@@ -1,6 +1,7 @@
 -- One iteration of a wave, by the equations that the code gives.
 use Rattle.std.proofs.Common.{◌≡◌, ℕ, suc, ◌+◌, ◌<◌, Some, List, [], ◌∷◌, ◌++◌, length, refl, sym, ap, ◌∙◌, subst, inl, inr, arith}
-use Rattle.std.specs.Prelude.{slice_get, Contains}
+use Rattle.std.specs.Prelude.{slice_get, take, drop, Contains}
+use Rattle.std.proofs.lemmas.List.{take-append-drop, take_all}
 use Rattle.std.proofs.lemmas.List.Elements.{Contains-append_left, Contains-append_right, Contains-push, Contains-push_cases}
 use Rattle.def_ids.specs.declared.ids.ModuleId.{ModuleId}
 use Rattle.def_bindings.specs.declared.bindings.EdgeTo.{EdgeTo}
@@ -9,7 +10,9 @@ use Rattle.def_globs.specs.declared.globs.wave.Frame.{Frame}
 use Rattle.def_bindings.specs.Order.{Order, IsLawful}
 use Rattle.def_bindings.specs.Content.{Content, AreSources}
 use Rattle.def_globs.proofs.MeasureLemmas.{measure, measure_goes_on, measure_reaches, at_index}
-use Rattle.def_globs.specs.Pending.{copied_all, reached}
+use Rattle.def_globs.specs.Pending.{CopiesFirst, copied_all, reached}
+use Rattle.def_globs.specs.Waves.{Copies, def_at}
+use Rattle.def_globs.proofs.AlongLemmas.{copies_all}
 use Rattle.def_globs.proofs.ListLaws.{first_in}
 use Rattle.def_globs.proofs.SumsLemmas.{all_vis, in_edge_vises}
 use Rattle.def_globs.proofs.WavingLemmas.{Wave, FramesAfter, wave_step, empty_in}
@@ -62,6 +65,21 @@ pub wave_reaches : {V : Type 0} (o : Order V) (height : ℕ) (lawful : IsLawful 
     → Wave o home slots vs c0 c (rest ++ f ∷ []) → Wave o home slots vs c0 (copied_all o f.source e f.slots.items c) ((rest ++ next ∷ []) ++ got ∷ [])
 wave_reaches o height lawful home slots vs c0 c rest f next got e edge_vis a b d a' b' d' at wave =
     wave_step o height lawful home slots vs c0 c rest ((rest ++ next ∷ []) ++ got ∷ []) f e edge_vis at (frames_reached rest f next got e.importer _ a b d a' b' d') wave
+
+-- the first slots of a frame that were copied along its edge are copies of the wave
+pub wave_copies : {V : Type 0} (o : Order V) (home : ModuleId) (slots : List Slot) (vs : List V) (c0 c c1 : Content V) (rest frames : List Frame) (f : Frame) (e : EdgeTo V) (ys : List Slot)
+    → Some e ≡ slice_get (c.edges f.source) f.next → ys ≡ f.slots.items → frames ≡ rest ++ f ∷ []
+    → CopiesFirst o f.source e ys c c1 → Wave o home slots vs c0 c frames → Copies o slots (def_at c0 home) c0 c1
+wave_copies o home slots vs c0 c c1 rest frames f e ys at all popped (n, is) wave =
+    let here : Contains frames f = subst (λ fs. Contains fs f) (sym popped) (Contains-push rest f) in
+    let among : (y : Slot) → Contains (take n ys) y → Contains f.slots.items y =
+    λ y h. subst (λ zs. Contains zs y) (take-append-drop n ys ∙ all) (Contains-append_left (take n ys) (drop n ys) y h) in
+    subst (Copies o slots (def_at c0 home) c0) (sym is)
+    (copies_all o f.source f.next e slots (def_at c0 home) c0 (take n ys) c (sym at) (λ y h. wave.defs f here y (among y h)) (λ y h. wave.within f here y (among y h)) wave.copies)
+
+-- so are all
+pub copies_whole : {V : Type 0} (o : Order V) (source : ModuleId) (edge : EdgeTo V) (ys : List Slot) (c c1 : Content V) → c1 ≡ copied_all o source edge ys c → CopiesFirst o source edge ys c c1
+copies_whole o source edge ys c c1 is = (length ys, is ∙ ap (λ l. copied_all o source edge l c) (sym (take_all (length ys) ys (omega arith))))
 
 -- one iteration, by the equations that the code gives
 module _ {V : Type 0} (o : Order V) (height : ℕ) (lawful : IsLawful o height) (home : ModuleId) (slots : List Slot) (sources : List ModuleId) (c0 c c1 : Content V)

@@ -1,6 +1,7 @@
 -- What an update keeps, by what its two parts ensure.
 use Rattle.std.proofs.Common.{◌≡◌, ℕ, Bool, true, false, cond, Option, Some, None, List, [], ◌∷◌, refl, sym, ap, ◌∙◌, subst, inl, inr, arith}
-use Rattle.std.specs.Prelude.{is_some, ◌&&◌, slice_get, Contains, option_to_list}
+use Rattle.std.specs.Prelude.{is_some, ◌&&◌, length, take, slice_get, Contains, option_to_list}
+use Rattle.std.proofs.lemmas.List.{take_all}
 use Rattle.std.proofs.lemmas.List.Elements.{Contains-append_left, Contains-append_right, Contains-append_cases}
 use Rattle.def_ids.specs.declared.ids.ModuleId.{ModuleId}
 use Rattle.def_ids.specs.declared.ids.GlobId.{GlobId}
@@ -21,7 +22,8 @@ use Rattle.def_bindings.specs.Puts.{held, put_entry, puts, slot_of, offered}
 use Rattle.def_bindings.specs.Closure.{IsClosed, IsCoherent}
 use Rattle.def_globs.specs.Waves.{Copies, none, more, def_at, def_or, slots_of, BeginsAt, LedOrHome, EntriesFollow, ListsAll, IsClosedTo, KeepsGlobs}
 use Rattle.def_globs.proofs.RecordingLaws.{bound_copies, edges_updated, recorded_closed, globs_updated}
-use Rattle.def_globs.specs.Pending.{changed_at, changed_by, carried_by, AllAt, ClosedBut, CoherentBut}
+use Rattle.def_globs.specs.Globs.{BeginsUpdate, Updates}
+use Rattle.def_globs.specs.Pending.{changed_at, changed_by, carried_by, AllAt, ClosedBut, CoherentBut, PutsFirst}
 use Rattle.def_globs.proofs.ListLaws.{none_in}
 use Rattle.def_globs.proofs.PuttingLaws.{edges_puts}
 use Rattle.def_globs.specs.Raised.{IsRaisedAt, KeepsDef, KeepsDefs, KeepsRaised, RaisedBut, RaisesPending, RaisesTo}
@@ -50,6 +52,16 @@ within_list o m (e ∷ es) c y h =
 pub copies_mono : {V : Type 0} (o : Order V) (xs ys : List Slot) (def_of : Slot → Def) {c d : Content V} → ((y : Slot) → Contains xs y → Contains ys y) → Copies o xs def_of c d → Copies o ys def_of c d
 copies_mono o xs ys def_of f none = none
 copies_mono o xs ys def_of f (more s e x k before at within def) = more s e x k (copies_mono o xs ys def_of f before) at (f x within) def
+
+-- where the first entries were put, an update has begun
+pub update_begun : {V : Type 0} (o : Order V) (m : ModuleId) (list : List (Entry V)) (c d : Content V) → PutsFirst o m list c d → BeginsUpdate o m list c d
+update_begun o m list c d (n, is) =
+    let placed : Content _ = puts o m (take n list) c in
+    (n, subst (λ e. Copies o (slots_of (take n list)) (def_at placed m) placed e) (sym is) none)
+
+-- and where all were, whatever is copied
+pub update_whole : {V : Type 0} (o : Order V) (m : ModuleId) (list : List (Entry V)) (c d : Content V) → Updates o m list c d → BeginsUpdate o m list c d
+update_whole o m list c d updates = (length list, subst (λ l. Updates o m l c d) (sym (take_all (length list) list (omega arith))) updates)
 
 carried_in : {V : Type 0} (first : Option (EdgeTo V)) (xs : List Slot) (y : Slot) → Contains (cond (is_some first) xs []) y → Contains xs y
 carried_in None xs y h = absurd (none_in y h)

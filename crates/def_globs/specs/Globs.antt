@@ -1,5 +1,5 @@
 -- What updates and added edges leave of a table.
-use Rattle.std.specs.Prelude.{◌≡◌, Bool, false, Option, Some, List}
+use Rattle.std.specs.Prelude.{◌≡◌, ℕ, Bool, false, Option, Some, List, take}
 use Rattle.tree_ids.specs.declared.name.Name.{Name}
 use Rattle.def_ids.specs.declared.ids.ModuleId.{ModuleId}
 use Rattle.def_ids.specs.declared.ids.GlobId.{GlobId}
@@ -17,6 +17,10 @@ use Rattle.def_globs.specs.Waves.{Copies, def_at, slots_of, IsClosedTo, ListsAll
 -- a list is put in a module, and then copies of its slots follow, for each slot of the definition that the module has
 abbrev pub Updates : {V : Type 0} → Order V → ModuleId → List (Entry V) → Content V → Content V → Type 0
 Updates o at list old new = let placed = puts o at list old in Copies o (slots_of list) (def_at placed at) placed new
+
+-- a beginning of that: the first entries of the list are put, and then some copies are made
+abbrev pub BeginsUpdate : {V : Type 0} → Order V → ModuleId → List (Entry V) → Content V → Content V → Type 0
+BeginsUpdate o at list old new = (n : ℕ) × Updates o at (take n list) old new
 
 -- what stands whatever is put and copied, to the end or not: the edges, each explicit binding, and that what is bound is bound
 pub record Stays {V : Type 0} (old new : Content V) : Type 0 where

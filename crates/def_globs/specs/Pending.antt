@@ -1,5 +1,5 @@
 -- What is left to do of a wave, and what a wave's parts change.
-use Rattle.std.specs.Prelude.{◌≡◌, ℕ, Bool, true, false, cond, is_some, Option, Some, None, List, [], ◌∷◌, ◌++◌, slice_get, Contains, ◌⊎◌}
+use Rattle.std.specs.Prelude.{◌≡◌, ℕ, Bool, true, false, cond, is_some, Option, Some, None, List, [], ◌∷◌, ◌++◌, take, slice_get, Contains, ◌⊎◌}
 use Rattle.tree_ids.specs.declared.name.Name.{Name}
 use Rattle.def_ids.specs.declared.ids.ModuleId.{ModuleId}
 use Rattle.def_ids.specs.declared.ids.GlobId.{GlobId}
@@ -12,7 +12,7 @@ use Rattle.def_bindings.specs.declared.bindings.Slot.{Slot}
 use Rattle.def_bindings.specs.declared.bindings.Slot.TheVariants.{Named}
 use Rattle.def_bindings.specs.Order.{Order}
 use Rattle.def_bindings.specs.Content.{Content}
-use Rattle.def_bindings.specs.Puts.{held, fitted, settled, answer, copied, slot_of, offered, put_entry}
+use Rattle.def_bindings.specs.Puts.{held, fitted, settled, answer, copied, slot_of, offered, put_entry, puts}
 use Rattle.def_bindings.specs.Closure.{IsBound, Follows, IsClosed, IsCoherent}
 use Rattle.def_globs.specs.Waves.{BeginsAt, Leads, LedOrHome}
 
@@ -20,6 +20,14 @@ use Rattle.def_globs.specs.Waves.{BeginsAt, Leads, LedOrHome}
 abbrev pub copied_all : {V : Type 0} → Order V → ModuleId → EdgeTo V → List Slot → Content V → Content V
 copied_all o source edge [] c = c
 copied_all o source edge (slot ∷ slots) c = copied_all o source edge slots (copied o source edge slot c)
+
+-- the first of these slots were copied along an edge
+abbrev pub CopiesFirst : {V : Type 0} → Order V → ModuleId → EdgeTo V → List Slot → Content V → Content V → Type 0
+CopiesFirst o source edge slots old new = (n : ℕ) × (new ≡ copied_all o source edge (take n slots) old)
+
+-- the first entries of a list were put
+abbrev pub PutsFirst : {V : Type 0} → Order V → ModuleId → List (Entry V) → Content V → Content V → Type 0
+PutsFirst o m list old new = (n : ℕ) × (new ≡ puts o m (take n list) old)
 
 -- whether a copy changes its importer
 abbrev pub is_changed : {V : Type 0} → Order V → ModuleId → EdgeTo V → Slot → Content V → Bool

@@ -3,7 +3,7 @@ ghost use Rattle.std.specs.Prelude.{◌≡◌, OnOk, OnErr};
 ghost use Rattle.def_bindings.specs.Content.{without_binding};
 ghost use Rattle.def_bindings.specs.Puts.{joined};
 ghost use Rattle.def_globs.specs.Waves.{KeepsGlobs, AddsEdge};
-ghost use Rattle.def_globs.specs.Globs.{Updates, ClosesTo, KeepsClosed, KeepsCoherent, with_recorded, KeepsClosedWith, KeepsBegins, StaysCoherent, Stays};
+ghost use Rattle.def_globs.specs.Globs.{BeginsUpdate, Updates, ClosesTo, KeepsClosed, KeepsCoherent, with_recorded, KeepsClosedWith, KeepsBegins, StaysCoherent, Stays};
 ghost use Rattle.def_globs.specs.Raised.{KeepsRaised, KeepsRaisedWith, RaisesTo};
 
 mod changes;
@@ -126,7 +126,7 @@ impl<T: BindingTable> Globs<T> {
     }
 
     /// Puts a list in a module, and lets what changes travel along the edges to the end. On `Err`
-    /// a beginning of that was done: edges, explicit bindings and what was bound stand.
+    /// a beginning of that was done: the first entries are put, and some of what changed was copied.
     pub fn update<O: VisOrder<Vis = T::Vis>>(
         &mut self,
         order: &O,
@@ -159,6 +159,9 @@ impl<T: BindingTable> Globs<T> {
 
         // What stays, refused or not.
         ensures stays { Stays (T.content self.old) (T.content self.new) }
+        ensures refused { OnErr result
+            (BeginsUpdate (O.order order.now) «module» list.now (T.content self.old)
+            (T.content self.new)) }
     {
         let changed = put_list(&mut self.table, &mut self.changes, order, module, list)?;
         spread(&mut self.table, &mut self.changes, order, module, changed)?;

@@ -2,7 +2,7 @@
 ghost use Rattle.std.specs.Prelude.{◌≡◌, [], ◌∷◌, ◌++◌, IfOk, OnErr, OnOk, cond, option_to_list};
 ghost use Rattle.def_bindings.specs.Puts.{copied, offered, put_entry, puts, slot_of};
 ghost use Rattle.def_globs.specs.Waves.{Copies, def_at};
-ghost use Rattle.def_globs.specs.Pending.{changed_at, copied_all, is_changed, reached, carried_by, ClosesPending, MendsPending};
+ghost use Rattle.def_globs.specs.Pending.{changed_at, copied_all, is_changed, reached, carried_by, ClosesPending, CopiesFirst, MendsPending, PutsFirst};
 ghost use Rattle.def_globs.specs.Raised.{RaisesPending};
 ghost use Rattle.def_globs.specs.Globs.{Stays};
 
@@ -76,6 +76,8 @@ pub fn put_list<T: BindingTable, O: VisOrder<Vis = T::Vis>>(
         let o = O.order order.now in
         (changed.items ≡ carried_by o «module» list.now c)
         × (T.content table.new ≡ puts o «module» list.now c)) }
+    ensures refused { OnErr result
+        (PutsFirst (O.order order.now) «module» list.now (T.content table.old) (T.content table.new)) }
     ensures stays { Stays (T.content table.old) (T.content table.new) }
 {
     // Most modules have no edge, and then the changed slots need no memory.
@@ -126,6 +128,8 @@ fn copy_all<T: BindingTable, O: VisOrder<Vis = T::Vis>>(
         let o = O.order order.now in
         (changed.items ≡ reached o source edge slots.now c)
         × (T.content table.new ≡ copied_all o source edge slots.now c)) }
+    ensures refused { OnErr result
+        (CopiesFirst (O.order order.now) source edge slots.now (T.content table.old) (T.content table.new)) }
     ensures stays { Stays (T.content table.old) (T.content table.new) }
 {
     let mut changed = Vec::new(changes.alloc);
@@ -147,8 +151,8 @@ pub fn spread<T: BindingTable, O: VisOrder<Vis = T::Vis>>(
     module: ModuleId,
     slots: Vec<Slot>,
 ) -> Result<(), AllocError>
-    ensures copies { OnOk result (let c = T.content table.old in
-        Copies (O.order order.now) slots.items (def_at c «module») c (T.content table.new)) }
+    ensures copies { let c = T.content table.old in
+        Copies (O.order order.now) slots.items (def_at c «module») c (T.content table.new) }
     ensures closed { OnOk result
         (ClosesPending (O.order order.now) «module» slots.items (T.content table.old)
         (T.content table.new)) }

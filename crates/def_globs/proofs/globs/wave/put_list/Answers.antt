@@ -1,6 +1,7 @@
-use Rattle.std.proofs.Common.{ap, Vec}
+use Rattle.std.proofs.Common.{ap, ◌∙◌, Vec}
 use Rattle.std.specs.Prelude.{option_to_list}
-use Rattle.def_globs.proofs.TurnsLemmas.{stays_entry, put_begins, put_ends, put_noted, put_unnoted}
+use Rattle.def_globs.specs.Pending.{PutsFirst}
+use Rattle.def_globs.proofs.TurnsLemmas.{on_err_from, stays_entry, put_begins, put_ends, put_noted, put_first, put_unnoted}
 use Rattle.def_globs.proofs.globs.wave.put_list.Goals as goal
 use Rattle.def_globs.proofs.globs.wave.put_list.Goals.{then-has_edge+in_ok-note, else-has_edge}
 
@@ -46,3 +47,22 @@ returns-clause-done g c =
 
 pub returns-clause-stays : goal.returns-clause-stays
 returns-clause-stays g c = c.loop-entry.invariant.stays
+
+pub returns-in_err-slot-clause-refused : goal.returns-in_err-slot-clause-refused
+returns-in_err-slot-clause-refused g c =
+    let content = g.T.BindingTable.content in
+    let first : PutsFirst (g.O.VisOrder.order c.args.order.now) c.args.module c.args.list.now (content c.args.table.now) (content c.put_entry.new.table) =
+    (c.loop-entry.entry-index, c.in_err-slot.ensures.refused ∙ c.loop-entry.invariant.begun) in
+    on_err_from _ first
+
+pub returns-in_err-add-clause-refused : goal.returns-in_err-add-clause-refused
+returns-in_err-add-clause-refused g c =
+    let content = g.T.BindingTable.content in
+    on_err_from _ (put_first (g.O.VisOrder.order c.args.order.now) c.args.module c.args.list.now (content c.args.table.now) c.loop-entry.entry-index c.entry-item.result (content c.loop-entry.table) (content c.put_entry.new.table)
+    c.loop-entry-test.true c.entry-item.is c.in_ok-slot.ensures.done.1 c.loop-entry.invariant.begun)
+
+pub returns-in_err-note-clause-refused : goal.returns-in_err-note-clause-refused
+returns-in_err-note-clause-refused g c =
+    let content = g.T.BindingTable.content in
+    on_err_from _ (put_first (g.O.VisOrder.order c.args.order.now) c.args.module c.args.list.now (content c.args.table.now) c.loop-entry.entry-index c.entry-item.result (content c.loop-entry.table) (content c.put_entry.new.table)
+    c.loop-entry-test.true c.entry-item.is c.in_ok-slot.ensures.done.1 c.loop-entry.invariant.begun)

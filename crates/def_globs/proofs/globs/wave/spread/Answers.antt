@@ -4,7 +4,7 @@ use Rattle.std.specs.Prelude.{vec_len}
 use Rattle.std.proofs.lemmas.Bool.{eqb-true, eq-eqb, false≢true}
 use Rattle.def_bindings.specs.declared.bindings.EdgeTo.{EdgeTo}
 use Rattle.def_globs.proofs.WavingLemmas.{wave_start, wave_closed, wave_coherent, wave_raised, wave_without, wave_still}
-use Rattle.def_globs.proofs.IterationLemmas.{iterate_on, iterate_reached, measure_on, measure_reached, some_slot}
+use Rattle.def_globs.proofs.IterationLemmas.{copies_whole, iterate_on, iterate_reached, measure_on, measure_reached, some_slot, wave_copies}
 use Rattle.def_globs.proofs.MeasureLemmas.{measure_ends}
 use Rattle.def_globs.specs.Waves.{none}
 use Rattle.def_globs.proofs.StaysLemmas.{stays_then, stays_copies}
@@ -97,3 +97,32 @@ returns-in_err-push-3-clause-stays g c = stays_then _ _ _ (stays_copies _ _ _ c.
 
 pub returns-clause-stays : goal.returns-clause-stays
 returns-clause-stays g c = stays_copies _ _ _ c.frames.invariant.copies
+
+pub returns-in_err-push-clause-copies : goal.returns-in_err-push-clause-copies
+returns-in_err-push-clause-copies g c = none
+
+pub returns-in_err-changed-clause-copies : goal.returns-in_err-changed-clause-copies
+returns-in_err-changed-clause-copies g c =
+    let content = g.T.BindingTable.content in
+    wave_copies (g.O.VisOrder.order c.args.order.now) c.args.module c.args.slots.items _ (content c.args.table.now) (content c.frames.table) (content c.copy_all.new.table)
+    c.pop.new.self.items c.frames.frames.items c.in-Some.frame c.in-Some-edge_at.edge c.as_slice.result.now
+    c.in-Some-edge_at.ensures.edge c.as_slice.ensures.value c.in-Some.ensures.items c.in_err-changed.ensures.refused c.frames.invariant
+
+pub returns-in_err-push-2-clause-copies : goal.returns-in_err-push-2-clause-copies
+returns-in_err-push-2-clause-copies g c =
+    let content = g.T.BindingTable.content in
+    wave_copies (g.O.VisOrder.order c.args.order.now) c.args.module c.args.slots.items _ (content c.args.table.now) (content c.frames.table) (content c.copy_all.new.table)
+    c.pop.new.self.items c.frames.frames.items c.in-Some.frame c.in-Some-edge_at.edge c.as_slice.result.now
+    c.in-Some-edge_at.ensures.edge c.as_slice.ensures.value c.in-Some.ensures.items (copies_whole (g.O.VisOrder.order c.args.order.now) c.in-Some.frame.source c.in-Some-edge_at.edge c.as_slice.result.now (content c.frames.table) (content c.copy_all.new.table)
+    c.in_ok-changed.ensures.done.1) c.frames.invariant
+
+pub returns-in_err-push-3-clause-copies : goal.returns-in_err-push-3-clause-copies
+returns-in_err-push-3-clause-copies g c =
+    let content = g.T.BindingTable.content in
+    wave_copies (g.O.VisOrder.order c.args.order.now) c.args.module c.args.slots.items _ (content c.args.table.now) (content c.frames.table) (content c.copy_all.new.table)
+    c.pop.new.self.items c.frames.frames.items c.in-Some.frame c.in-Some-edge_at.edge c.as_slice.result.now
+    c.in-Some-edge_at.ensures.edge c.as_slice.ensures.value c.in-Some.ensures.items (copies_whole (g.O.VisOrder.order c.args.order.now) c.in-Some.frame.source c.in-Some-edge_at.edge c.as_slice.result.now (content c.frames.table) (content c.copy_all.new.table)
+    c.in_ok-changed.ensures.done.1) c.frames.invariant
+
+pub returns-clause-copies : goal.returns-clause-copies
+returns-clause-copies g c = c.frames.invariant.copies
