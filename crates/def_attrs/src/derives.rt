@@ -1,6 +1,6 @@
 //! Derives: the list of a derive attribute, which macro one of its paths names, and what is recorded
 //! of it.
-ghost use Rattle.std.specs.Prelude.{◌≡◌, [], None, Ok, Err, map, IfErr, IfOk, OnOk};
+ghost use Rattle.std.specs.Prelude.{◌≡◌, [], None, Ok, Err, map, unwrap_or, IfErr, IfOk, OnOk};
 ghost use Rattle.std.specs.Option.{option_copied};
 ghost use Rattle.def_attrs.specs.Shown.{derives_in};
 ghost use Rattle.def_calls.specs.Shown.{macro_directive_of, written_attr_of, written_derive_of};
@@ -201,7 +201,7 @@ fn helper_names<'a, D: SourceDatabase>(db: &'a D, krate: Crate, found: MacroDefI
 
 /// The helpers that a map shows of a macro.
 fn shown_helpers(shown: &DefMap, id: MacroId) -> &[Name]
-    ensures { result.now ≡ (view_of shown.now).facts.exported_helpers id }
+    ensures { result.now ≡ unwrap_or ((view_of shown.now).facts.exported_helpers id) [] }
 {
     match shown.exported_derives().get(&id) {
         Some(names) => names.as_slice(),

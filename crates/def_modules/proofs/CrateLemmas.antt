@@ -25,15 +25,8 @@ module _ {K X S : Type 0} (eq shown : K → K → Bool) (same : eq ≡ shown) (o
 -- the helpers of one derive macro set
 pub exported-set : {S : Type 0} (eq : MacroId → MacroId → Bool) → eq ≡ macro_eq → (old new : IndexMap MacroId (List Name) S) (id : MacroId) (helpers : List Name)
     → ((q : MacroId) → get eq new q ≡ cond (eq id q) (Some helpers) (get eq old q))
-    → exported_of new ≡ set_where (macro_eq id) helpers (exported_of old)
-exported-set eq same old new id helpers written = λ i q. at q i
-  where
-    by : (b : Bool) (o : Option (List Name)) → option_map_or (λ names. names) (cond b (Some helpers) o) [] ≡ cond b helpers (option_map_or (λ names. names) o [])
-    by true o = refl
-    by false o = refl
-
-    at : (q : MacroId) → exported_of new q ≡ set_where (macro_eq id) helpers (exported_of old) q
-    at q = ap (λ f. option_map_or (λ names. names) (f q) []) (rekeyed eq macro_eq same old new id (Some helpers) written) ∙ by (macro_eq id q) (get macro_eq old q)
+    → exported_of new ≡ set_where (macro_eq id) (Some helpers) (exported_of old)
+exported-set eq same old new id helpers written = rekeyed eq macro_eq same old new id (Some helpers) written
 
 -- one helper of a position more
 pub helpers-added : {S : Type 0} (eq : Position → Position → Bool) → eq ≡ position_eq → (old new : IndexMap Position (List DeriveHelper) S) (position : Position) (helper : DeriveHelper)

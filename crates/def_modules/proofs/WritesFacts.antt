@@ -28,7 +28,7 @@ item n = record { file = File (record { 0 = 1 }); value = record { 0 = n } }
 -- a crate of which nothing is known
 abbrev unknown : CrateState
 unknown = record {
-  exported_helpers = λ id. [];
+  exported_helpers = λ id. None;
   macro_of_function = λ function. None;
   function_of_macro = λ id. None;
   tools = [];
@@ -65,11 +65,14 @@ feature = (refl, refl)
 tools : (with_tool (with_tool unknown (name 6)) (name 5)).tools ≡ name 6 ∷ name 5 ∷ []
 tools = refl
 
--- a derive macro's helpers take the place of the earlier ones, and a macro of another kind has none
-exported : (with_exported (with_exported unknown (rules 1) (name 5 ∷ [])) (rules 1) (name 6 ∷ name 7 ∷ [])).exported_helpers (rules 1) ≡ name 6 ∷ name 7 ∷ []
+-- a derive macro's helpers take the place of the earlier ones, one may have none, and a macro of another kind is not exported
+exported : (with_exported (with_exported unknown (rules 1) (name 5 ∷ [])) (rules 1) (name 6 ∷ name 7 ∷ [])).exported_helpers (rules 1) ≡ Some (name 6 ∷ name 7 ∷ [])
 exported = refl
 
-not_exported : (with_exported unknown (rules 1) (name 5 ∷ [])).exported_helpers (Macro2 (record { 0 = 1 })) ≡ []
+without_helpers : (with_exported unknown (rules 1) []).exported_helpers (rules 1) ≡ Some []
+without_helpers = refl
+
+not_exported : (with_exported unknown (rules 1) (name 5 ∷ [])).exported_helpers (Macro2 (record { 0 = 1 })) ≡ None
 not_exported = refl
 
 -- a function leads to its macro, and the macro back

@@ -57,7 +57,7 @@ pub record ModuleState : Type 0 where
 
 -- what is known of a crate, which its map and those of its blocks share
 pub record CrateState : Type 0 where
-  pub exported_helpers : MacroId → List Name
+  pub exported_helpers : MacroId → Option (List Name)
   pub macro_of_function : FunctionId → Option ProcMacroId
   pub function_of_macro : ProcMacroId → Option FunctionId
   pub tools : List Name

@@ -22,8 +22,8 @@ pub record MapFacts : Type 0 where
   pub textual_macro : ModuleId → Name → Option MacroId
   -- the macros that extern crates brought
   pub macro_use : Name → Option MacroId
-  -- the helper attributes of an exported derive macro
-  pub exported_helpers : MacroId → List Name
+  -- the helper attributes of a macro, where it is an exported derive macro
+  pub exported_helpers : MacroId → Option (List Name)
 
 -- a map as paths see it
 pub record MapView : Type 0 where

@@ -37,8 +37,8 @@ abbrev pub with_last_helper : (Position → List ShownHelper) → Position → S
 with_last_helper helpers position helper = set_where (position_eq position) (helpers position ++ helper ∷ []) helpers
 
 -- the helpers that other crates see of each derive macro
-abbrev pub exported_of : {S : Type 0} → IndexMap MacroId (List Name) S → MacroId → List Name
-exported_of exported id = option_map_or (λ names. names) (get macro_eq exported id) []
+abbrev pub exported_of : {S : Type 0} → IndexMap MacroId (List Name) S → MacroId → Option (List Name)
+exported_of = get macro_eq
 
 -- which features are enabled
 abbrev pub features_of : UnstableFeatures → Name → Bool
@@ -123,7 +123,7 @@ with_tool c tool = record c { tools = c.tools ++ tool ∷ [] }
 
 -- the helpers that other crates see of a derive macro
 abbrev pub with_exported : CrateState → MacroId → List Name → CrateState
-with_exported c id helpers = record c { exported_helpers = set_where (macro_eq id) helpers c.exported_helpers }
+with_exported c id helpers = record c { exported_helpers = set_where (macro_eq id) (Some helpers) c.exported_helpers }
 
 -- a procedural macro and its function lead to each other
 abbrev pub paired : CrateState → FunctionId → ProcMacroId → CrateState

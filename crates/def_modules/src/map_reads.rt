@@ -1,5 +1,5 @@
 //! What paths and the collector read of a map's data.
-ghost use Rattle.std.specs.Prelude.{◌≡◌};
+ghost use Rattle.std.specs.Prelude.{◌≡◌, [], unwrap_or};
 ghost use Rattle.def_modules.specs.Maps.{map_state, facts_of, first_of_list, limit_of, features_of};
 ghost use Rattle.def_modules.specs.ScopeMaps.{textual_of};
 ghost use Rattle.def_modules.specs.Scopes.{module_state};
@@ -51,9 +51,9 @@ impl MapData {
         self.macro_use_prelude.get(&name).copied()
     }
 
-    /// The helper attributes that other crates see of a derive macro.
+    /// The helper attributes that other crates see of a derive macro; none of one that is not exported.
     pub fn exported_helpers(&self, id: MacroId) -> &[Name]
-        ensures { result.now ≡ (facts_of self.now).exported_helpers id }
+        ensures { result.now ≡ unwrap_or ((facts_of self.now).exported_helpers id) [] }
     {
         match self.krate.exported_derives.get(&id) {
             Some(names) => names.as_slice(),

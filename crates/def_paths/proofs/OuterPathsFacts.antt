@@ -62,7 +62,7 @@ map_within id containing entries = record {
     prelude = None;
     textual_macro = λ _ _. None;
     macro_use = λ _. None;
-    exported_helpers = λ _. [];
+    exported_helpers = λ _. None;
   };
   content = record { binding = bound_by entries; names = λ _. []; unnamed = λ _. []; edges = λ _. [] };
 }

@@ -1,5 +1,5 @@
 -- Derives: which macro the path of a derive's list names, what it is asked, and what is recorded of it.
-use Rattle.std.specs.Prelude.{ℕ, suc, Bool, true, false, ◌==◌, cond, List, [], ◌∷◌, map, Option, None, Some, Result, Ok, Err}
+use Rattle.std.specs.Prelude.{ℕ, suc, Bool, true, false, ◌==◌, cond, List, [], ◌∷◌, map, Option, None, Some, unwrap_or, Result, Ok, Err}
 use Rattle.either.specs.declared.Either.TheVariants.{Left}
 use Rattle.tree_ids.specs.declared.ids.AttrId.{AttrId}
 use Rattle.tree_ids.specs.declared.ids.Crate.{Crate}
@@ -98,7 +98,7 @@ derive_query krate directive written found =
 -- the helpers that the map of a crate shows of a macro
 abbrev pub shown_in : Option MapView → MacroId → List Name
 shown_in None id = []
-shown_in (Some shown) id = shown.facts.exported_helpers id
+shown_in (Some shown) id = unwrap_or (shown.facts.exported_helpers id) []
 
 -- those of a macro that another crate defines; a crate's own count nowhere in it
 abbrev pub helper_names : Oracle → Crate → MacroDefId → List Name

@@ -6,11 +6,10 @@ use Rattle.std.proofs.lemmas.Bool.{eq-eqb}
 use Rattle.indexmap.specs.IndexMap.{get}
 use Rattle.tree_ids.specs.declared.ids.BlockId.{BlockId}
 use Rattle.def_ids.specs.declared.ids.FunctionId.{FunctionId}
-use Rattle.def_ids.specs.declared.ids.MacroId.{MacroId}
 use Rattle.def_ids.specs.declared.ids.ProcMacroId.{ProcMacroId}
 use Rattle.def_ids.specs.Equality.{macro_eq}
-use Rattle.def_ids.specs.contracts.ids.MacroIdPartialEq.TheImpl as macros
 use Rattle.def_bindings.specs.Content.{is_name}
+use Rattle.def_bindings.specs.DefLaws.{macro-refl}
 use Rattle.def_bindings.specs.IdLaws.{name-refl}
 use Rattle.def_bindings.specs.declared.visibility.Visibility.TheVariants.{Public}
 use Rattle.def_modules.specs.declared.crate_data.DefMapCrateData.{DefMapCrateData}
@@ -19,10 +18,10 @@ use Rattle.def_modules.specs.declared.map.MapData.{MapData}
 use Rattle.def_modules.specs.Equality.{position_eq, function_eq, proc_macro_eq}
 use Rattle.def_seed.specs.Fresh.{root_origin, known_tools, fresh_crate, fresh_state, emptied, fresh_by, IsOfFreshCrate}
 use Rattle.def_modules.specs.MapState.{MapState, Position}
-use Rattle.def_modules.specs.Maps.{map_state, crate_state, helper_state, exported_of}
+use Rattle.def_modules.specs.Maps.{map_state, crate_state, helper_state}
 use Rattle.def_modules.specs.Scopes.{module_state, empty_module}
 use Rattle.def_seed.proofs.BareLemmas.{position-refl}
-use Rattle.def_modules.specs.EqualityLaws.{derived_position_eq, positions_same, macros_same}
+use Rattle.def_modules.specs.EqualityLaws.{derived_position_eq, positions_same}
 use Rattle.def_seed.proofs.FreshLemmas.{no_keys, keys_none, no_members, members_none}
 
 -- a map holds nothing but what a block's takes over
@@ -69,7 +68,7 @@ module _ (d : MapData) where
 
 -- nothing is known of a crate
 pub record KnowsNothing (k : DefMapCrateData) : Type 0 where
-  pub exported : (id : MacroId) → unwrap_or (get macros.ghosts.eq k.exported_derives id) [] ≡ []
+  pub exported : k.exported_derives.entries ≡ []
   pub macro_of_function : k.fn_proc_macro_mapping.entries ≡ []
   pub function_of_macro : k.fn_proc_macro_mapping_back.entries ≡ []
   pub tools : k.registered_tools ≡ known_tools
@@ -85,17 +84,10 @@ function-refl f = eq-eqb f.0 f.0 refl
 proc_macro-refl : (p : ProcMacroId) → proc_macro_eq p p ≡ true
 proc_macro-refl p = eq-eqb p.0 p.0 refl
 
-default_same : {X : Type 0} (o : Option (List X)) → option_map_or (λ names. names) o [] ≡ unwrap_or o []
-default_same None = refl
-default_same (Some xs) = refl
-
 module _ (k : DefMapCrateData) where
-  same_exported : (id : MacroId) → exported_of k.exported_derives id ≡ unwrap_or (get macros.ghosts.eq k.exported_derives id) []
-  same_exported id = default_same (get macro_eq k.exported_derives id) ∙ ap (λ e. unwrap_or (get e k.exported_derives id) []) (sym macros_same)
-
   pub state_of_unknown : KnowsNothing k → crate_state k ≡ fresh_crate k.edition
   state_of_unknown n = λ i. record {
-    exported_helpers = λ id. (same_exported id ∙ n.exported id) i;
+    exported_helpers = keys_none macro_eq macro-refl k.exported_derives n.exported i;
     macro_of_function = keys_none function_eq function-refl k.fn_proc_macro_mapping n.macro_of_function i;
     function_of_macro = keys_none proc_macro_eq proc_macro-refl k.fn_proc_macro_mapping_back n.function_of_macro i;
     tools = n.tools i;
@@ -109,7 +101,7 @@ module _ (k : DefMapCrateData) where
 
   pub unknown_from_state : crate_state k ≡ fresh_crate k.edition → KnowsNothing k
   unknown_from_state h = record {
-    exported = λ id. sym (same_exported id) ∙ (λ i. (h i).exported_helpers id);
+    exported = no_keys macro_eq macro-refl k.exported_derives (λ i. (h i).exported_helpers);
     macro_of_function = no_keys function_eq function-refl k.fn_proc_macro_mapping (λ i. (h i).macro_of_function);
     function_of_macro = no_keys proc_macro_eq proc_macro-refl k.fn_proc_macro_mapping_back (λ i. (h i).function_of_macro);
     tools = λ i. (h i).tools;

@@ -25,7 +25,7 @@ known_tools = name_of 27 ∷ name_of 28 ∷ name_of 29 ∷ name_of 30 ∷ name_o
 abbrev pub fresh_crate : Edition → CrateState
 fresh_crate edition =
     record {
-      exported_helpers = λ id. [];
+      exported_helpers = λ id. None;
       macro_of_function = λ function. None;
       function_of_macro = λ id. None;
       tools = known_tools;

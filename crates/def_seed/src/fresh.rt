@@ -155,7 +155,7 @@ fn is_new_crate(krate: &DefMapCrateData) -> bool
     ensures { IsTrue result ↔ (crate_state krate.now ≡ fresh_crate krate.now.edition) }
 {
     let tests = [
-        are_lists_empty(&krate.exported_derives),
+        krate.exported_derives.is_empty(),
         krate.fn_proc_macro_mapping.is_empty(),
         krate.fn_proc_macro_mapping_back.is_empty(),
         are_known_tools(&krate.registered_tools),
