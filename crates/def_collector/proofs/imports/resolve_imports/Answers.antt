@@ -44,5 +44,5 @@ returns-else-unresolved-clause-settled g c = λ none.
     c.places-waiting.ensures (ap (λ second. second || (first && nat_lt 0 waiting)) c.if-indeterminate.false ∙ ap (λ first. first && nat_lt 0 waiting) c.if-unresolved.false)
     c.in_ok-unresolved.ensures.unready c.in_ok-unresolved.ensures.same c.in_ok-indeterminate.ensures.unready c.in_ok-indeterminate.ensures.same
 
-pub try_imports-2-requires : goal.try_imports-2-requires
-try_imports-2-requires g c = c.in_ok-unresolved.ensures.run.expansions ∙ c.requires
+pub try_imports-requires-2 : goal.try_imports-requires-2
+try_imports-requires-2 g c = c.in_ok-unresolved.ensures.run.expansions ∙ c.requires
