@@ -13,9 +13,8 @@ ghost use Rattle.def_rules.specs.State.{State};
 
 use crate::item_attrs::ItemAttrs;
 use def_calls::{MacroDirective, PathResolver, WrittenAttr};
-use def_ids::ModuleId;
+use def_ids::{BuiltinAttr, ModuleId};
 use def_interner::{MacroDefId, MacroDefKind};
-use def_locs::BuiltinAttr;
 use def_map::{
     AttrCallQuery, DeriveHelper, MacroResolver, MacroSubNs, MapData, SourceDatabase, Table, World,
 };

@@ -5,9 +5,8 @@ ghost use Rattle.def_interner.specs.Session.{AddsLocations, session_of};
 ghost use Rattle.def_modules.specs.Maps.{map_state};
 ghost use Rattle.def_rules.specs.Deferred.{AreGiven, AreImpls, giving_impls};
 
-use def_ids::{Adt, ModuleId};
+use def_ids::{Adt, BuiltinDeriveImplLoc, ModuleId};
 use def_interner::{Interner, Location};
-use def_locs::BuiltinDeriveImplLoc;
 use def_map::{MapData, SourceDatabase};
 use def_rules::DeferredDerive;
 use either::Either;

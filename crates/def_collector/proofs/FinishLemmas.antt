@@ -11,13 +11,13 @@ use Rattle.def_ids.specs.declared.ids.GlobId.{GlobId}
 use Rattle.def_ids.specs.declared.ids.ModuleId.{ModuleId}
 use Rattle.def_ids.specs.Equality.{glob_eq}
 use Rattle.def_ids.specs.Ids.{is_same_module}
-use Rattle.numbered_table.specs.declared.link.Link.{Link}
-use Rattle.numbered_table.specs.declared.place.Placed.{Placed}
+use Rattle.def_tables.specs.declared.link.Link.{Link}
+use Rattle.def_tables.specs.declared.place.Placed.{Placed}
 use Rattle.def_bindings.specs.declared.visibility.Visibility.{Visibility}
 use Rattle.def_bindings.specs.IdLaws.{same_module_equal}
-use Rattle.numbered_table.specs.Link.{edge_of}
-use Rattle.numbered_table.specs.NumberedTable.{all_edges, content_of}
-use Rattle.numbered_table.specs.Numbers.{own_entries}
+use Rattle.def_tables.specs.Link.{edge_of}
+use Rattle.def_tables.specs.NumberedTable.{all_edges, content_of}
+use Rattle.def_tables.specs.Numbers.{own_entries}
 use Rattle.def_sources.specs.Tables.{Table, bound_by}
 use Rattle.def_rules.specs.declared.outcome.Edge.{Edge}
 use Rattle.def_modules.specs.MapState.{MapState, ModuleState}

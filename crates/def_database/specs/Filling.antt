@@ -8,7 +8,7 @@ use Rattle.tree_ids.specs.declared.ids.HirFileId.{HirFileId}
 use Rattle.tree_ids.specs.declared.ids.TreeId.{TreeId}
 use Rattle.tree_ids.specs.declared.name.Name.{Name}
 use Rattle.item_tree.specs.declared.tree.ItemTree.{ItemTree}
-use Rattle.def_locs.specs.declared.expander.BuiltinAttr.{BuiltinAttr}
+use Rattle.def_ids.specs.declared.expander.BuiltinAttr.{BuiltinAttr}
 use Rattle.def_bindings.specs.Content.{is_name}
 use Rattle.def_map.specs.DefMaps.{view_of}
 use Rattle.def_map.specs.declared.def_map.DefMap.{DefMap}

@@ -2,8 +2,7 @@
 ghost use Rattle.std.specs.Prelude.{◌≡◌, IfOk};
 ghost use Rattle.def_database.specs.Database.{answers_of, assoc_key, is_read_attr, nothing_known};
 
-use def_ids::{ImplId, MacroId, TraitId};
-use def_locs::{BuiltinAttr, EnumLoc};
+use def_ids::{BuiltinAttr, EnumLoc, ImplId, MacroId, TraitId};
 use def_map::{
     AssocItemsOwner, AssocList, AttrCallQuery, CallAnswer, CallQuery, CrateData, DefMap,
     DeriveCallQuery, EnumVariant, LocalDefMap, MacroResolver, SourceDatabase, UnresolvedMacro,

@@ -7,8 +7,7 @@ ghost use Rattle.def_database.specs.Database.{answers_of, leads};
 ghost use Rattle.def_database.specs.Filling.{with_tree, with_path, with_crate, with_maps, with_outer_map, with_variants, with_assoc_items, with_builtin, with_builtin_attr, with_builtin_derive, with_builtin_macro, with_depth, with_derive_fast_path, with_derive_traits, with_expand_proc_attr_macros, with_flag, with_inert_attr, with_lead, with_proc_macros};
 
 use crate::database::{CallKey, CfgFlag, Database, DeriveCallKey, assoc_key};
-use def_ids::MacroId;
-use def_locs::BuiltinAttr;
+use def_ids::{BuiltinAttr, MacroId};
 use def_map::{
     AssocItemsOwner, AssocList, CallAnswer, CrateData, DefMap, EnumVariant, LocalDefMap,
 };

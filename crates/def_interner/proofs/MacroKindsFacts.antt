@@ -1,12 +1,12 @@
 -- Worked rows of the ways in which a macro may be called.
 use Rattle.std.specs.Prelude.{◌≡◌, ℕ, true, false, refl}
 use Rattle.def_interner.specs.MacroKinds.{is_fn_like, is_attribute, is_derive, kind_of_expander}
-use Rattle.def_locs.specs.declared.expander.BuiltinAttr.TheVariants.{Test}
-use Rattle.def_locs.specs.declared.expander.CustomProcMacroExpander.TheVariants.{Missing}
+use Rattle.def_ids.specs.declared.expander.BuiltinAttr.TheVariants.{Test}
+use Rattle.def_ids.specs.declared.expander.CustomProcMacroExpander.TheVariants.{Missing}
 use Rattle.def_interner.specs.declared.macro_def.MacroDefKind.{MacroDefKind}
 use Rattle.def_interner.specs.declared.macro_def.MacroDefKind.TheVariants.{Declarative, BuiltIn, BuiltInEager, BuiltInAttr, BuiltInDerive, UnimplementedBuiltIn, ProcMacro}
-use Rattle.def_locs.specs.declared.expander.MacroExpander.TheVariants as expander
-use Rattle.def_locs.specs.declared.expander.ProcMacroUse.TheVariants.{CustomDerive, Bang, Attr}
+use Rattle.def_ids.specs.declared.expander.MacroExpander.TheVariants as expander
+use Rattle.def_ids.specs.declared.expander.ProcMacroUse.TheVariants.{CustomDerive, Bang, Attr}
 
 -- a macro by rules that may be called in the ways of these bits
 abbrev rules : ℕ → MacroDefKind

@@ -7,12 +7,12 @@ use Rattle.def_interner.specs.Session.{session_of, shown_item, shown_macro, macr
 use Rattle.def_ids.specs.declared.ids.ItemContainerId.TheVariants.{Module, ExternBlock}
 use Rattle.def_ids.specs.declared.ids.MacroId.TheVariants.{MacroRules, Macro2, ProcMacro}
 use Rattle.def_interner.specs.declared.interner.Interner.{Interner}
-use Rattle.def_locs.specs.declared.locs.MacroRulesLoc.{MacroRulesLoc}
-use Rattle.def_locs.specs.declared.expander.CustomProcMacroExpander.TheVariants.{Id}
+use Rattle.def_ids.specs.declared.locs.MacroRulesLoc.{MacroRulesLoc}
+use Rattle.def_ids.specs.declared.expander.CustomProcMacroExpander.TheVariants.{Id}
 use Rattle.def_ids.specs.declared.edition.Edition.TheVariants.{Edition2021, Edition2024}
 use Rattle.def_interner.specs.declared.macro_def.MacroDefKind.TheVariants as kind
-use Rattle.def_locs.specs.declared.expander.MacroExpander.TheVariants as expander
-use Rattle.def_locs.specs.declared.expander.ProcMacroUse.TheVariants.{Attr}
+use Rattle.def_ids.specs.declared.expander.MacroExpander.TheVariants as expander
+use Rattle.def_ids.specs.declared.expander.ProcMacroUse.TheVariants.{Attr}
 use Rattle.tree_ids.specs.declared.ids.FileAstId.{FileAstId}
 use Rattle.tree_ids.specs.declared.ids.InFile.{InFile}
 

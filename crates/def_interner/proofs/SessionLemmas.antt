@@ -11,11 +11,11 @@ use Rattle.def_ids.specs.declared.ids.MacroId.TheVariants.{MacroRules, Macro2, P
 use Rattle.def_ids.specs.declared.ids.MacroRulesId.{MacroRulesId}
 use Rattle.def_ids.specs.declared.ids.ProcMacroId.{ProcMacroId}
 use Rattle.def_interner.specs.declared.interner.Interner.{Interner}
-use Rattle.def_locs.specs.declared.locs.Macro2Loc.{Macro2Loc}
-use Rattle.def_locs.specs.declared.locs.MacroRulesLoc.{MacroRulesLoc}
-use Rattle.def_locs.specs.declared.locs.ProcMacroLoc.{ProcMacroLoc}
-use Rattle.def_locs.specs.declared.expander.MacroExpander.{MacroExpander}
-use Rattle.def_locs.specs.declared.expander.MacroExpander.TheVariants as expander
+use Rattle.def_ids.specs.declared.locs.Macro2Loc.{Macro2Loc}
+use Rattle.def_ids.specs.declared.locs.MacroRulesLoc.{MacroRulesLoc}
+use Rattle.def_ids.specs.declared.locs.ProcMacroLoc.{ProcMacroLoc}
+use Rattle.def_ids.specs.declared.expander.MacroExpander.{MacroExpander}
+use Rattle.def_ids.specs.declared.expander.MacroExpander.TheVariants as expander
 
 -- each table has each location once
 pub record AreInjective (s : Interner) : Type 0 where

@@ -8,22 +8,22 @@ use Rattle.def_interner.specs.Session.{TraitItem, TypeAliasItem, ImplItem, UseIt
 use Rattle.def_ids.specs.declared.ids.MacroId.{MacroId}
 use Rattle.def_ids.specs.declared.ids.MacroId.TheVariants.{MacroRules, Macro2, ProcMacro}
 use Rattle.def_interner.specs.declared.interner.Interner.{Interner}
-use Rattle.def_locs.specs.declared.locs.BuiltinDeriveImplLoc.{BuiltinDeriveImplLoc}
-use Rattle.def_locs.specs.declared.locs.ConstLoc.{ConstLoc}
-use Rattle.def_locs.specs.declared.locs.EnumLoc.{EnumLoc}
-use Rattle.def_locs.specs.declared.locs.ExternBlockLoc.{ExternBlockLoc}
-use Rattle.def_locs.specs.declared.locs.ExternCrateLoc.{ExternCrateLoc}
-use Rattle.def_locs.specs.declared.locs.FunctionLoc.{FunctionLoc}
-use Rattle.def_locs.specs.declared.locs.ImplLoc.{ImplLoc}
-use Rattle.def_locs.specs.declared.locs.Macro2Loc.{Macro2Loc}
-use Rattle.def_locs.specs.declared.locs.MacroRulesLoc.{MacroRulesLoc}
-use Rattle.def_locs.specs.declared.locs.ProcMacroLoc.{ProcMacroLoc}
-use Rattle.def_locs.specs.declared.locs.StaticLoc.{StaticLoc}
-use Rattle.def_locs.specs.declared.locs.StructLoc.{StructLoc}
-use Rattle.def_locs.specs.declared.locs.TraitLoc.{TraitLoc}
-use Rattle.def_locs.specs.declared.locs.TypeAliasLoc.{TypeAliasLoc}
-use Rattle.def_locs.specs.declared.locs.UnionLoc.{UnionLoc}
-use Rattle.def_locs.specs.declared.locs.UseLoc.{UseLoc}
+use Rattle.def_ids.specs.declared.locs.BuiltinDeriveImplLoc.{BuiltinDeriveImplLoc}
+use Rattle.def_ids.specs.declared.locs.ConstLoc.{ConstLoc}
+use Rattle.def_ids.specs.declared.locs.EnumLoc.{EnumLoc}
+use Rattle.def_ids.specs.declared.locs.ExternBlockLoc.{ExternBlockLoc}
+use Rattle.def_ids.specs.declared.locs.ExternCrateLoc.{ExternCrateLoc}
+use Rattle.def_ids.specs.declared.locs.FunctionLoc.{FunctionLoc}
+use Rattle.def_ids.specs.declared.locs.ImplLoc.{ImplLoc}
+use Rattle.def_ids.specs.declared.locs.Macro2Loc.{Macro2Loc}
+use Rattle.def_ids.specs.declared.locs.MacroRulesLoc.{MacroRulesLoc}
+use Rattle.def_ids.specs.declared.locs.ProcMacroLoc.{ProcMacroLoc}
+use Rattle.def_ids.specs.declared.locs.StaticLoc.{StaticLoc}
+use Rattle.def_ids.specs.declared.locs.StructLoc.{StructLoc}
+use Rattle.def_ids.specs.declared.locs.TraitLoc.{TraitLoc}
+use Rattle.def_ids.specs.declared.locs.TypeAliasLoc.{TypeAliasLoc}
+use Rattle.def_ids.specs.declared.locs.UnionLoc.{UnionLoc}
+use Rattle.def_ids.specs.declared.locs.UseLoc.{UseLoc}
 
 -- an append keeps the places
 keeps_append : {A : Type 0} (xs ys : List A) → Keeps xs (xs ++ ys)

@@ -4,10 +4,10 @@ use Rattle.std.specs.Int.RustNames.{bit_and}
 use Rattle.tree_ids.specs.declared.macro_flags.MacroCallStyles.{MacroCallStyles}
 use Rattle.def_interner.specs.declared.macro_def.MacroDefKind.{MacroDefKind}
 use Rattle.def_interner.specs.declared.macro_def.MacroDefKind.TheVariants as kind
-use Rattle.def_locs.specs.declared.expander.MacroExpander.{MacroExpander}
-use Rattle.def_locs.specs.declared.expander.MacroExpander.TheVariants as expander
-use Rattle.def_locs.specs.declared.expander.ProcMacroUse.{ProcMacroUse}
-use Rattle.def_locs.specs.declared.expander.ProcMacroUse.TheVariants.{CustomDerive, Bang, Attr}
+use Rattle.def_ids.specs.declared.expander.MacroExpander.{MacroExpander}
+use Rattle.def_ids.specs.declared.expander.MacroExpander.TheVariants as expander
+use Rattle.def_ids.specs.declared.expander.ProcMacroUse.{ProcMacroUse}
+use Rattle.def_ids.specs.declared.expander.ProcMacroUse.TheVariants.{CustomDerive, Bang, Attr}
 
 -- whether a macro's own rules allow this way of calling it
 abbrev pub has_style : MacroCallStyles → ℕ → Bool

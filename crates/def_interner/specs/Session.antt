@@ -14,10 +14,10 @@ use Rattle.def_ids.specs.declared.ids.MacroRulesId.{MacroRulesId}
 use Rattle.def_ids.specs.declared.ids.ModuleId.{ModuleId}
 use Rattle.def_ids.specs.declared.ids.ProcMacroId.{ProcMacroId}
 use Rattle.def_interner.specs.declared.interner.Interner.{Interner}
-use Rattle.def_locs.specs.declared.locs.BuiltinDeriveImplLoc.{BuiltinDeriveImplLoc}
-use Rattle.def_locs.specs.declared.locs.Macro2Loc.{Macro2Loc}
-use Rattle.def_locs.specs.declared.locs.MacroRulesLoc.{MacroRulesLoc}
-use Rattle.def_locs.specs.declared.locs.ProcMacroLoc.{ProcMacroLoc}
+use Rattle.def_ids.specs.declared.locs.BuiltinDeriveImplLoc.{BuiltinDeriveImplLoc}
+use Rattle.def_ids.specs.declared.locs.Macro2Loc.{Macro2Loc}
+use Rattle.def_ids.specs.declared.locs.MacroRulesLoc.{MacroRulesLoc}
+use Rattle.def_ids.specs.declared.locs.ProcMacroLoc.{ProcMacroLoc}
 use Rattle.def_ids.specs.declared.edition.Edition.{Edition}
 use Rattle.def_interner.specs.declared.macro_def.MacroDefId.{MacroDefId}
 use Rattle.def_interner.specs.declared.macro_def.MacroDefKind.{MacroDefKind}

@@ -4,11 +4,10 @@ ghost use Rattle.std.proofs.Common.{rules};
 
 mod macro_locs;
 
-use def_ids::{Edition, ModuleId};
-use def_locs::{
-    BuiltinDeriveImplLoc, ConstLoc, CustomProcMacroExpander, EnumLoc, ExternBlockLoc,
-    ExternCrateLoc, FunctionLoc, ImplLoc, MacroExpander, ProcMacroUse, StaticLoc, StructLoc,
-    TraitLoc, TypeAliasLoc, UnionLoc, UseLoc,
+use def_ids::{
+    BuiltinDeriveImplLoc, ConstLoc, CustomProcMacroExpander, Edition, EnumLoc, ExternBlockLoc,
+    ExternCrateLoc, FunctionLoc, ImplLoc, MacroExpander, ModuleId, ProcMacroUse, StaticLoc,
+    StructLoc, TraitLoc, TypeAliasLoc, UnionLoc, UseLoc,
 };
 use item_tree::{FileAstId, InFile, MacroRulesLocFlags};
 

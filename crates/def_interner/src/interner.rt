@@ -2,7 +2,7 @@
 ghost use Rattle.std.specs.Prelude.{◌≡◌, Some, IfOk, OnErr, option_map};
 
 use crate::numbering::Numbering;
-use def_locs::{
+use def_ids::{
     BuiltinDeriveImplLoc, ConstLoc, EnumLoc, ExternBlockLoc, ExternCrateLoc, FunctionLoc, ImplLoc,
     Macro2Loc, MacroRulesLoc, ProcMacroLoc, StaticLoc, StructLoc, TraitLoc, TypeAliasLoc, UnionLoc,
     UseLoc,

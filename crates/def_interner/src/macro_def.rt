@@ -2,8 +2,7 @@
 ghost use Rattle.std.specs.Prelude.{◌≡◌};
 
 use bitflags::Flags;
-use def_ids::MacroId;
-use def_locs::{BuiltinAttr, CustomProcMacroExpander, MacroExpander, ProcMacroUse};
+use def_ids::{BuiltinAttr, CustomProcMacroExpander, MacroExpander, MacroId, ProcMacroUse};
 use item_tree::{Crate, MacroCallStyles};
 
 /// What expands a macro. The numbers are the oracle's.

@@ -8,8 +8,8 @@ ghost use Rattle.def_parts.specs.Sites.{site_of};
 ghost use Rattle.def_laws.specs.Performs.{Handled};
 ghost use Rattle.def_rules.specs.State.{State};
 
+use def_ids::ImplLoc;
 use def_interner::{Interner, Location};
-use def_locs::ImplLoc;
 use def_map::MapData;
 use def_parts::Site;
 use item_tree::ItemNode;

@@ -8,11 +8,11 @@ ghost use Rattle.def_rules.specs.Derives.{derives_kind};
 ghost use Rattle.def_rules.specs.State.{State};
 
 use def_bindings::Namespace;
-use def_ids::{Adt, ConstId, Def};
-use def_interner::{Interner, Location};
-use def_locs::{
-    ConstLoc, EnumLoc, FunctionLoc, StaticLoc, StructLoc, TraitLoc, TypeAliasLoc, UnionLoc,
+use def_ids::{
+    Adt, ConstId, ConstLoc, Def, EnumLoc, FunctionLoc, StaticLoc, StructLoc, TraitLoc,
+    TypeAliasLoc, UnionLoc,
 };
+use def_interner::{Interner, Location};
 use def_parts::Site;
 use item_tree::{ItemNode, ModItemKind, Name, RawVisibility};
 use std::alloc::AllocError;

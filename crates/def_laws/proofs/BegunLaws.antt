@@ -12,7 +12,7 @@ use Rattle.def_bindings.specs.declared.visibility.Visibility.{Visibility}
 use Rattle.def_bindings.specs.Content.{Content, empty}
 use Rattle.def_bindings.specs.Puts.{held}
 use Rattle.def_bindings.specs.Tree.{AreParentsLower}
-use Rattle.def_seed.specs.Fresh.{IsFresh, fresh_by}
+use Rattle.def_modules.specs.Fresh.{IsFresh, fresh_by}
 use Rattle.def_modules.specs.MapState.{MapState}
 use Rattle.def_globs.proofs.ListLaws.{none_in}
 use Rattle.def_oracle.specs.Oracle.{Oracle}

@@ -26,8 +26,8 @@ use Rattle.def_ids.specs.declared.ids.MacroId.{MacroId}
 use Rattle.def_ids.specs.declared.ids.MacroId.TheVariants as macro_of
 use Rattle.def_ids.specs.declared.ids.ModuleId.{ModuleId}
 use Rattle.def_ids.specs.declared.ids.UseId.{UseId}
-use Rattle.def_locs.specs.declared.expander.MacroExpander.{MacroExpander}
-use Rattle.def_locs.specs.declared.expander.MacroExpander.TheVariants.{Declarative, BuiltIn, BuiltInEager, BuiltInAttr, BuiltInDerive, UnimplementedBuiltIn}
+use Rattle.def_ids.specs.declared.expander.MacroExpander.{MacroExpander}
+use Rattle.def_ids.specs.declared.expander.MacroExpander.TheVariants.{Declarative, BuiltIn, BuiltInEager, BuiltInAttr, BuiltInDerive, UnimplementedBuiltIn}
 use Rattle.def_bindings.specs.declared.bindings.ImportOrExternCrate.TheVariants.{Glob, ExternCrate as ByCrate}
 use Rattle.def_bindings.specs.declared.bindings.Namespace.TheVariants.{Types, Macros}
 use Rattle.def_bindings.specs.declared.visibility.Visibility.{Visibility}

@@ -42,3 +42,4 @@ pub mod RoundsLaws
 pub mod HeadlineLaws
 pub mod GlobsLaws
 pub mod ResultLaws
+pub mod ReadsLaws

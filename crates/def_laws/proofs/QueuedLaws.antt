@@ -23,8 +23,8 @@ use Rattle.def_bindings.specs.declared.bindings.EdgeTo.{EdgeTo}
 use Rattle.def_bindings.specs.declared.bindings.Entry.{Entry}
 use Rattle.def_bindings.specs.declared.visibility.Visibility.{Visibility}
 use Rattle.def_bindings.specs.Visibility.{order_over}
-use Rattle.def_locs.specs.declared.expander.MacroExpander.{MacroExpander}
-use Rattle.def_locs.specs.declared.expander.MacroExpander.TheVariants.{Declarative, BuiltIn, BuiltInEager, BuiltInAttr, BuiltInDerive, UnimplementedBuiltIn}
+use Rattle.def_ids.specs.declared.expander.MacroExpander.{MacroExpander}
+use Rattle.def_ids.specs.declared.expander.MacroExpander.TheVariants.{Declarative, BuiltIn, BuiltInEager, BuiltInAttr, BuiltInDerive, UnimplementedBuiltIn}
 use Rattle.def_modules.specs.Maps.{limit_of}
 use Rattle.def_oracle.specs.declared.source_database.CallAnswer.{CallAnswer}
 use Rattle.def_oracle.specs.declared.source_database.UnresolvedMacro.{UnresolvedMacro}

@@ -9,3 +9,4 @@ pub mod Performs
 pub mod Work
 pub mod Depths
 pub mod Turns
+pub mod Reads

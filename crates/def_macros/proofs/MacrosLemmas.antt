@@ -17,7 +17,7 @@ use Rattle.def_ids.specs.declared.ids.MacroId.TheVariants as macro_of
 use Rattle.def_ids.specs.declared.ids.ModuleId.{ModuleId}
 use Rattle.def_ids.specs.Ids.{is_same_map}
 use Rattle.def_ids.specs.declared.edition.Edition.{Edition}
-use Rattle.def_locs.specs.declared.expander.MacroExpander.{MacroExpander}
+use Rattle.def_ids.specs.declared.expander.MacroExpander.{MacroExpander}
 use Rattle.def_interner.specs.MacroKinds.{kind_of_expander}
 use Rattle.def_interner.specs.Session.{AddsLocations, MacroLoc, Session}
 use Rattle.def_bindings.specs.declared.visibility.Visibility.{Visibility}

@@ -5,8 +5,8 @@ ghost use Rattle.def_interner.specs.Session.{session_of};
 ghost use Rattle.def_parts.specs.Sites.{site_of};
 ghost use Rattle.def_rules.specs.Macros as macros;
 
+use def_ids::MacroExpander;
 use def_interner::Interner;
-use def_locs::MacroExpander;
 use def_map::SourceDatabase;
 use def_parts::Site;
 use either::Either;

@@ -7,9 +7,8 @@ ghost use Rattle.def_macros.specs.Numbered.{IsItem, IsRules};
 
 use crate::expanders::{builtin_name, item_expander, rules_expander};
 use crate::flags::{item_flags, rules_flags};
-use def_ids::MacroId;
+use def_ids::{Macro2Loc, MacroExpander, MacroId, MacroRulesLoc};
 use def_interner::{Interner, Location};
-use def_locs::{Macro2Loc, MacroExpander, MacroRulesLoc};
 use def_map::{MapData, SourceDatabase};
 use def_parts::Site;
 use item_tree::{ItemNode, Name};

@@ -9,7 +9,7 @@ use Rattle.def_bindings.specs.declared.visibility.Visibility.{Visibility}
 use Rattle.def_bindings.specs.declared.visibility.Visibility.TheVariants.{Public, PubCrate}
 use Rattle.def_map.specs.declared.block.BlockInfo.{BlockInfo}
 use Rattle.def_map.specs.DefMaps.{seeded}
-use Rattle.def_seed.specs.Fresh.{known_tools}
+use Rattle.def_modules.specs.Fresh.{known_tools}
 use Rattle.def_sources.specs.Items.{public_item}
 use Rattle.def_map.specs.ItemScopes.{resolutions_from, unnamed_from}
 use Rattle.def_sources.specs.PerNs.{Item, in_types}

@@ -7,8 +7,8 @@ use Rattle.def_bindings.specs.declared.visibility.Visibility.{Visibility}
 use Rattle.def_bindings.specs.Content.{Content}
 use Rattle.def_map.specs.declared.block.BlockInfo.{BlockInfo}
 use Rattle.def_map.specs.declared.def_map.DefMap.{DefMap}
-use Rattle.def_seed.specs.Fresh.{fresh_crate, fresh_state}
-use Rattle.def_seed.specs.Seeds.{block_id, block_state, crate_map_id}
+use Rattle.def_modules.specs.Fresh.{fresh_crate, fresh_state}
+use Rattle.def_modules.specs.Seeds.{block_id, block_state, crate_map_id}
 use Rattle.def_modules.specs.MapState.{MapState}
 use Rattle.def_modules.specs.MapView.{MapView}
 use Rattle.def_modules.specs.Maps.{map_state, facts_of}

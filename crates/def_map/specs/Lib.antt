@@ -10,8 +10,8 @@ pub use Rattle.def_modules.specs.Scopes
 pub use Rattle.def_modules.specs.Maps
 pub use Rattle.def_sources.specs.Tables
 pub use Rattle.def_modules.specs.Locals
-pub use Rattle.def_seed.specs.Fresh
-pub use Rattle.def_seed.specs.Seeds
+pub use Rattle.def_modules.specs.Fresh
+pub use Rattle.def_modules.specs.Seeds
 pub use Rattle.def_oracle.specs.Queries
 pub use Rattle.def_oracle.specs.Oracle
 pub use Rattle.def_sources.specs.PerNs

@@ -3,12 +3,12 @@ ghost use Rattle.std.specs.Prelude.{◌≡◌, false, IfOk, MatchOption};
 ghost use Rattle.def_bindings.specs.Tree.{are_apart};
 ghost use Rattle.def_ids.specs.declared.edition.Edition.{Edition};
 ghost use Rattle.def_map.specs.DefMaps.{state_of, info_state};
-ghost use Rattle.def_seed.specs.Fresh.{fresh_state, block_crate};
-ghost use Rattle.def_seed.specs.Seeds.{block_map_id};
+ghost use Rattle.def_modules.specs.Fresh.{fresh_state, block_crate};
+ghost use Rattle.def_modules.specs.Seeds.{block_map_id};
 
 use crate::def_map::DefMap;
 use def_ids::ModuleId;
-use def_seed::BlockData;
+use def_modules::BlockData;
 use item_tree::BlockId;
 use std::alloc::{AllocError, Global};
 

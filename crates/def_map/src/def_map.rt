@@ -4,13 +4,12 @@ ghost use Rattle.def_bindings.specs.Content.{empty as none_bound};
 ghost use Rattle.def_modules.specs.Maps.{map_state};
 ghost use Rattle.def_sources.specs.Tables.{bound_by};
 ghost use Rattle.def_map.specs.DefMaps.{state_of, content_of};
-ghost use Rattle.def_seed.specs.Fresh.{IsFresh};
+ghost use Rattle.def_modules.specs.Fresh.{IsFresh};
 
 use crate::block::BlockInfo;
 use def_ids::Edition;
-use def_modules::MapData;
+use def_modules::{MapData, block_data, crate_data, is_fresh_data};
 use def_paths::Table;
-use def_seed::{block_data, crate_data, is_fresh_data};
 use item_tree::Crate;
 use std::alloc::{AllocError, Global};
 

@@ -40,15 +40,13 @@ pub use def_bindings::{
     Slot, VisOrder, Visibility,
 };
 pub use def_ids::{
-    Adt, BuiltinDeriveImplId, ConstId, Def, Edition, EnumId, ExternBlockId, ExternCrateId,
-    FunctionId, GlobId, ImplId, ImportId, ItemContainerId, Macro2Id, MacroId, MacroRulesId, MapId,
-    ModuleId, ProcMacroId, StaticId, StructId, TraitId, TypeAliasId, UnionId, UseId, VariantId,
+    Adt, BuiltinAttr, BuiltinDeriveImplId, BuiltinDeriveImplLoc, ConstId, ConstLoc,
+    CustomProcMacroExpander, Def, Edition, EnumId, EnumLoc, ExternBlockId, ExternBlockLoc,
+    ExternCrateId, ExternCrateLoc, FunctionId, FunctionLoc, GlobId, ImplId, ImplLoc, ImportId,
+    ItemContainerId, Macro2Id, Macro2Loc, MacroExpander, MacroId, MacroRulesId, MacroRulesLoc,
+    MapId, ModuleId, ProcMacroId, ProcMacroLoc, ProcMacroUse, StaticId, StaticLoc, StructId,
+    StructLoc, TraitId, TraitLoc, TypeAliasId, TypeAliasLoc, UnionId, UnionLoc, UseId, UseLoc,
+    VariantId,
 };
 pub use def_interner::{Interner, Location, LocationId, MacroDefId, MacroDefKind};
-pub use def_locs::{
-    BuiltinAttr, BuiltinDeriveImplLoc, ConstLoc, CustomProcMacroExpander, EnumLoc, ExternBlockLoc,
-    ExternCrateLoc, FunctionLoc, ImplLoc, Macro2Loc, MacroExpander, MacroRulesLoc, ProcMacroLoc,
-    ProcMacroUse, StaticLoc, StructLoc, TraitLoc, TypeAliasLoc, UnionLoc, UseLoc,
-};
-pub use numbered_table::{Found, Kept, NumberedTable, VisNumber};
-pub use scope_table::ScopeTable;
+pub use def_tables::{Found, Kept, NumberedTable, ScopeTable, VisNumber};

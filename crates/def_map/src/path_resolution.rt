@@ -14,9 +14,8 @@ ghost use Rattle.def_sources.specs.Sources.{world_of, finished_map as finished_m
 use crate::def_map::DefMap;
 use crate::source_database::SourceDatabase;
 use def_bindings::{BindingTable, Visibility};
-use def_ids::{MapId, ModuleId};
+use def_ids::{EnumLoc, MapId, ModuleId};
 use def_interner::Interner;
-use def_locs::EnumLoc;
 use def_modules::{LocalDefMap, MapData};
 use def_oracle::EnumVariant;
 use def_paths::{

@@ -4,7 +4,7 @@ ghost use Rattle.std.specs.Option.{option_copied};
 
 use crate::def_map::DefMap;
 use crate::macro_resolver::MacroResolver;
-use def_locs::{BuiltinAttr, EnumLoc};
+use def_ids::{BuiltinAttr, EnumLoc};
 use def_modules::LocalDefMap;
 use def_oracle::{
     AssocItemsOwner, AssocList, AttrCallQuery, CallAnswer, CallQuery, CrateData, DeriveCallQuery,

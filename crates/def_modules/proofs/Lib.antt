@@ -6,3 +6,8 @@ pub mod LegacyLemmas
 pub mod HelpersLemmas
 mod WritesFacts
 pub mod TextualLemmas
+pub mod FreshLemmas
+pub mod BareLemmas
+pub mod EmptiedLemmas
+mod MapsFacts
+mod SeedsFacts

@@ -10,3 +10,5 @@ pub mod Scopes
 pub mod Maps
 pub mod Locals
 pub mod EqualityLaws
+pub mod Fresh
+pub mod Seeds

@@ -14,8 +14,8 @@ use Rattle.def_ids.specs.Equality.{macro_eq}
 use Rattle.def_ids.specs.Ids.{is_same_map}
 use Rattle.def_bindings.specs.Content.{is_name}
 use Rattle.def_bindings.specs.Tree.{chain_of}
-use Rattle.def_modules.specs.declared.crate_data.DefMapCrateData.{DefMapCrateData}
-use Rattle.def_modules.specs.declared.crate_data.UnstableFeatures.{UnstableFeatures}
+use Rattle.def_modules.specs.declared.def_map_crate_data.DefMapCrateData.{DefMapCrateData}
+use Rattle.def_modules.specs.declared.def_map_crate_data.UnstableFeatures.{UnstableFeatures}
 use Rattle.def_modules.specs.declared.map.DeriveHelper.{DeriveHelper}
 use Rattle.def_modules.specs.declared.map.MapData.{MapData}
 use Rattle.def_modules.specs.Equality.{position_eq, function_eq, proc_macro_eq}

@@ -3,7 +3,7 @@
 ghost use Rattle.std.specs.Prelude.{◌≡◌, map, OnOk};
 ghost use Rattle.def_modules.specs.Maps.{crate_state, map_state, helper_state, with_feature, with_tool, with_exported, paired, with_macro_at, with_macro_use, with_helper, renamed_helper, with_renamed_helpers};
 
-use crate::crate_data::DefMapCrateData;
+use crate::def_map_crate_data::DefMapCrateData;
 use crate::keyed_lists::{no_items, push_under};
 use crate::map::{DeriveHelper, MapData};
 use crate::module_data::Position;

@@ -3,7 +3,7 @@ ghost use Rattle.std.specs.Prelude.{◌≡◌, ◌++◌, ◌∷◌, [], length, 
 ghost use Rattle.def_modules.specs.Scopes.{module_state, declared_in};
 ghost use Rattle.def_modules.specs.Maps.{map_state, with_module, pushed, known_parent};
 
-use crate::crate_data::DefMapCrateData;
+use crate::def_map_crate_data::DefMapCrateData;
 use crate::module_data::{DeriveCall, ModuleData, Position};
 use def_bindings::ModuleTree;
 use def_ids::{MacroId, ModuleId};

@@ -4,7 +4,7 @@ ghost use Rattle.def_modules.specs.Maps.{map_state, facts_of, first_of_list, lim
 ghost use Rattle.def_modules.specs.ScopeMaps.{textual_of};
 ghost use Rattle.def_modules.specs.Scopes.{module_state};
 
-use crate::crate_data::UnstableFeatures;
+use crate::def_map_crate_data::UnstableFeatures;
 use crate::map::MapData;
 use crate::module_data::ModuleData;
 use def_ids::{MacroId, ModuleId};

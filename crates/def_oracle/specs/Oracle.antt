@@ -11,7 +11,7 @@ use Rattle.tree_ids.specs.declared.macro_flags.MacroCallStyles.{MacroCallStyles}
 use Rattle.item_tree.specs.declared.mod_path.ModPath.{ModPath}
 use Rattle.tree_ids.specs.declared.name.Name.{Name}
 use Rattle.item_tree.specs.declared.tree.ItemTree.{ItemTree}
-use Rattle.def_locs.specs.declared.expander.BuiltinAttr.{BuiltinAttr}
+use Rattle.def_ids.specs.declared.expander.BuiltinAttr.{BuiltinAttr}
 use Rattle.def_interner.specs.declared.macro_def.MacroDefId.{MacroDefId}
 use Rattle.def_interner.specs.Session.{ItemLoc}
 use Rattle.def_oracle.specs.declared.source_database.AssocItemsOwner.{AssocItemsOwner}

@@ -10,7 +10,7 @@ use Rattle.def_ids.specs.declared.ids.MacroId.{MacroId}
 use Rattle.def_ids.specs.declared.ids.MacroId.TheVariants.{MacroRules, Macro2, ProcMacro}
 use Rattle.def_ids.specs.declared.ids.MapId.{MapId}
 use Rattle.def_ids.specs.declared.ids.ModuleId.{ModuleId}
-use Rattle.def_locs.specs.declared.expander.BuiltinAttr.TheVariants.{Test}
+use Rattle.def_ids.specs.declared.expander.BuiltinAttr.TheVariants.{Test}
 use Rattle.def_ids.specs.declared.edition.Edition.TheVariants.{Edition2021}
 use Rattle.def_interner.specs.declared.macro_def.MacroDefKind.{MacroDefKind}
 use Rattle.def_interner.specs.declared.macro_def.MacroDefKind.TheVariants.{BuiltIn, BuiltInAttr, BuiltInDerive}

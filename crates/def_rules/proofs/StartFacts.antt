@@ -10,7 +10,7 @@ use Rattle.item_tree.specs.KnownNames as known
 use Rattle.item_tree.specs.TokenTrees.{TokenTrees, no_trees, leaf}
 use Rattle.def_oracle.specs.declared.source_database.LangCrate.TheVariants.{Core, Std}
 use Rattle.def_ids.specs.declared.edition.Edition.TheVariants.{Edition2021}
-use Rattle.def_seed.specs.Fresh.{fresh_crate, known_tools}
+use Rattle.def_modules.specs.Fresh.{fresh_crate, known_tools}
 use Rattle.def_modules.specs.Maps.{limit_of}
 use Rattle.def_rules.specs.Crates.{after_attrs, is_left_out, read_u32, says_proc_macro}
 

@@ -14,8 +14,8 @@ use Rattle.item_tree.specs.Attrs.{attrs_of, iter_after}
 use Rattle.item_tree.specs.KnownNames.{test_name}
 use Rattle.item_tree.specs.Paths.{as_ident}
 use Rattle.def_ids.specs.declared.ids.ModuleId.{ModuleId}
-use Rattle.def_locs.specs.declared.expander.BuiltinAttr.{BuiltinAttr}
-use Rattle.def_locs.specs.declared.expander.BuiltinAttr.TheVariants.{Test, Bench, TestCase, Derive, Other}
+use Rattle.def_ids.specs.declared.expander.BuiltinAttr.{BuiltinAttr}
+use Rattle.def_ids.specs.declared.expander.BuiltinAttr.TheVariants.{Test, Bench, TestCase, Derive, Other}
 use Rattle.def_interner.specs.declared.macro_def.MacroDefId.{MacroDefId}
 use Rattle.def_interner.specs.declared.macro_def.MacroDefKind.{MacroDefKind}
 use Rattle.def_interner.specs.declared.macro_def.MacroDefKind.TheVariants.{BuiltInAttr}

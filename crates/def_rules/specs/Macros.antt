@@ -20,8 +20,8 @@ use Rattle.item_tree.specs.TokenTrees.{TokenTrees, elements, element_ident}
 use Rattle.def_ids.specs.declared.ids.Def.TheVariants as def
 use Rattle.def_ids.specs.declared.ids.MacroId.{MacroId}
 use Rattle.def_ids.specs.declared.ids.ModuleId.{ModuleId}
-use Rattle.def_locs.specs.declared.expander.MacroExpander.{MacroExpander}
-use Rattle.def_locs.specs.declared.expander.MacroExpander.TheVariants.{Declarative, BuiltIn, BuiltInEager, BuiltInAttr, BuiltInDerive, UnimplementedBuiltIn}
+use Rattle.def_ids.specs.declared.expander.MacroExpander.{MacroExpander}
+use Rattle.def_ids.specs.declared.expander.MacroExpander.TheVariants.{Declarative, BuiltIn, BuiltInEager, BuiltInAttr, BuiltInDerive, UnimplementedBuiltIn}
 use Rattle.def_interner.specs.MacroKinds.{kind_of_expander}
 use Rattle.def_ids.specs.declared.edition.Edition.{Edition}
 use Rattle.def_interner.specs.Session.{MacroLoc}

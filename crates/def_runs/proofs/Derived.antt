@@ -15,7 +15,7 @@ use Rattle.item_tree.specs.KnownNames.{rustc_builtin_macro_name}
 use Rattle.def_ids.specs.declared.ids.ItemContainerId.TheVariants.{Module}
 use Rattle.def_ids.specs.declared.ids.MacroId.{MacroId}
 use Rattle.def_ids.specs.declared.ids.MacroId.TheVariants.{MacroRules, Macro2, ProcMacro}
-use Rattle.def_locs.specs.declared.expander.BuiltinAttr.TheVariants.{Derive as BuiltinDerive}
+use Rattle.def_ids.specs.declared.expander.BuiltinAttr.TheVariants.{Derive as BuiltinDerive}
 use Rattle.def_interner.specs.declared.macro_def.MacroDefKind.TheVariants.{Declarative, BuiltInAttr}
 use Rattle.def_interner.specs.Session.{Session, AddsLocations, ItemKind, ItemLoc, MacroLoc, StructItem}
 use Rattle.def_rules.specs.Directives.{Stays, told}

@@ -11,7 +11,7 @@ use Rattle.item_tree.specs.KnownNames.{macro_export_name, rustc_builtin_macro_na
 use Rattle.def_ids.specs.declared.ids.Def.TheVariants.{Macro, Module as ModuleDef}
 use Rattle.def_ids.specs.declared.ids.MacroId.{MacroId}
 use Rattle.def_ids.specs.declared.ids.MacroId.TheVariants.{MacroRules, Macro2, ProcMacro}
-use Rattle.def_locs.specs.declared.expander.MacroExpander.TheVariants.{UnimplementedBuiltIn}
+use Rattle.def_ids.specs.declared.expander.MacroExpander.TheVariants.{UnimplementedBuiltIn}
 use Rattle.def_interner.specs.MacroKinds.{kind_of_expander}
 use Rattle.def_interner.specs.Session.{Session, AddsLocations, MacroLoc}
 use Rattle.def_bindings.specs.declared.bindings.Binding.{Binding}

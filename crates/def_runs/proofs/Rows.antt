@@ -17,7 +17,7 @@ use Rattle.def_bindings.specs.declared.bindings.Namespace.{Namespace}
 use Rattle.def_bindings.specs.declared.visibility.Visibility.{Visibility}
 use Rattle.def_bindings.specs.declared.visibility.Visibility.TheVariants.{Module as In}
 use Rattle.def_modules.specs.MapState.{Position}
-use Rattle.def_seed.specs.Fresh.{fresh_crate, fresh_state}
+use Rattle.def_modules.specs.Fresh.{fresh_crate, fresh_state}
 use Rattle.def_oracle.specs.Oracle.{Oracle}
 use Rattle.def_rules.specs.Imports.{no_namespaces}
 use Rattle.def_rules.specs.State.{Setting, Import, ImportDirective, NsSet}

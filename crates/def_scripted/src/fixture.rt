@@ -1,7 +1,6 @@
 //! What is read of a row: a scripted workspace, and the lines that are wanted of it.
 
-use def_ids::{Edition, MacroId, MacroRulesId};
-use def_locs::BuiltinAttr;
+use def_ids::{BuiltinAttr, Edition, MacroId, MacroRulesId};
 use def_oracle::LangCrate;
 use item_tree::{FileId, HirFileId, MacroCallStyles};
 use std::alloc::{AllocError, Global};

@@ -4,8 +4,7 @@ use crate::fault::{Stop, push};
 use crate::fixture::{CalledBy, Unknown};
 use crate::parts::Words;
 use bitflags::Flags;
-use def_ids::{Edition, Macro2Id, MacroId, MacroRulesId, ProcMacroId};
-use def_locs::BuiltinAttr;
+use def_ids::{BuiltinAttr, Edition, Macro2Id, MacroId, MacroRulesId, ProcMacroId};
 use def_oracle::LangCrate;
 use item_tree::{FileId, HirFileId, MacroCallId, MacroCallStyles};
 

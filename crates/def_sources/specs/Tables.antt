@@ -1,15 +1,15 @@
 -- What the table of a map contains.
 use Rattle.std.specs.Prelude.{Option}
-use Rattle.numbered_table.specs.declared.found.Found.{Found}
-use Rattle.numbered_table.specs.declared.numbered_table.NumberedTable.{NumberedTable}
+use Rattle.def_tables.specs.declared.found.Found.{Found}
+use Rattle.def_tables.specs.declared.numbered_table.NumberedTable.{NumberedTable}
 use Rattle.def_bindings.specs.declared.bindings.Binding.{Binding}
 use Rattle.def_bindings.specs.declared.bindings.Namespace.{Namespace}
 use Rattle.def_bindings.specs.declared.visibility.Visibility.{Visibility}
-use Rattle.numbered_table.specs.declared.kept.VisNumber.{VisNumber}
+use Rattle.def_tables.specs.declared.kept.VisNumber.{VisNumber}
 use Rattle.def_bindings.specs.Content.{Content}
-use Rattle.numbered_table.specs.Found.{meant_by}
-use Rattle.numbered_table.specs.Kept.{numbered_vis}
-use Rattle.numbered_table.specs.NumberedTable as table
+use Rattle.def_tables.specs.Found.{meant_by}
+use Rattle.def_tables.specs.Kept.{numbered_vis}
+use Rattle.def_tables.specs.NumberedTable as table
 
 -- the table of a map
 abbrev pub Table : Type 0

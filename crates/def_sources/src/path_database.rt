@@ -3,8 +3,7 @@ ghost use Rattle.std.specs.Prelude.{◌≡◌, option_map};
 ghost use Rattle.std.specs.Option.{option_copied};
 
 use crate::table::Table;
-use def_ids::MapId;
-use def_locs::EnumLoc;
+use def_ids::{EnumLoc, MapId};
 use def_modules::MapData;
 use def_oracle::EnumVariant;
 use item_tree::Name;

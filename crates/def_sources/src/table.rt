@@ -2,14 +2,14 @@
 ghost use Rattle.std.specs.Prelude.{◌≡◌, ◌<◌, ◌^◌, ◌↔◌, IsTrue, OnErr, OnOk, IfOk, length, slice_get};
 ghost use Rattle.def_bindings.specs.Content.{empty, with_binding, with_edge, with_unnamed};
 ghost use Rattle.def_sources.specs.Tables.{bound_by};
-ghost use Rattle.numbered_table.specs.Found.{found_as};
-ghost use Rattle.numbered_table.specs.Kept.{numbered_vis};
-ghost use Rattle.numbered_table.specs.NumberedTable.{all_edges};
+ghost use Rattle.def_tables.specs.Found.{found_as};
+ghost use Rattle.def_tables.specs.Kept.{numbered_vis};
+ghost use Rattle.def_tables.specs.NumberedTable.{all_edges};
 
 use def_bindings::{Binding, BindingTable, EdgeTo, NameBindings, Namespace, Slot, Visibility};
 use def_ids::{MapId, ModuleId, TraitId};
+use def_tables::{Found, NumberedTable, VisNumber};
 use item_tree::Name;
-use numbered_table::{Found, NumberedTable, VisNumber};
 use std::alloc::{AllocError, Global};
 use std::marker::Model;
 
@@ -32,11 +32,11 @@ impl Drop for Table {
 
 impl Model for Table {
     ghost use Rattle.def_bindings.specs.declared.visibility.Visibility.{Visibility};
-    ghost use Rattle.numbered_table.specs.declared.kept.VisNumber.{VisNumber};
-    ghost use Rattle.numbered_table.specs.declared.numbered_table.NumberedTable.{NumberedTable};
+    ghost use Rattle.def_tables.specs.declared.kept.VisNumber.{VisNumber};
+    ghost use Rattle.def_tables.specs.declared.numbered_table.NumberedTable.{NumberedTable};
     ghost use Rattle.def_bindings.specs.contracts.visibility.Visibility as vis;
-    ghost use Rattle.numbered_table.specs.contracts.kept.VisNumber as number;
-    ghost use Rattle.numbered_table.specs.contracts.numbered_table.NumberedTable as numbered;
+    ghost use Rattle.def_tables.specs.contracts.kept.VisNumber as number;
+    ghost use Rattle.def_tables.specs.contracts.numbered_table.NumberedTable as numbered;
 
     ghost Value = { NumberedTable Visibility VisNumber };
 
@@ -117,7 +117,7 @@ impl Table {
 }
 
 impl BindingTable for Table {
-    ghost use Rattle.numbered_table.specs.NumberedTableLaws.{are_sources, are_tied, modules_of};
+    ghost use Rattle.def_tables.specs.NumberedTableLaws.{are_sources, are_tied, modules_of};
 
     type Vis = Visibility;
 

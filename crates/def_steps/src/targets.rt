@@ -2,7 +2,7 @@
 ghost use Rattle.std.specs.Prelude.{◌≡◌, [], unwrap_or, IfOk, OnOk, map};
 ghost use Rattle.indexmap.specs.IndexMap.{get, IsUnique};
 ghost use Rattle.def_ids.specs.Equality.{glob_eq};
-ghost use Rattle.numbered_table.specs.NumberedTable.{all_edges};
+ghost use Rattle.def_tables.specs.NumberedTable.{all_edges};
 ghost use Rattle.def_modules.specs.KeyedLists.{PushesUnder};
 ghost use Rattle.def_rules.specs.Globs.{is_among, with_target};
 ghost use Rattle.def_rules.specs.Report.{shown_targets};

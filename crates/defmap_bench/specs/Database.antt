@@ -4,7 +4,7 @@ use Rattle.tree_ids.specs.declared.ids.HirFileId.{HirFileId}
 use Rattle.tree_ids.specs.declared.ids.HirFileId.TheVariants.{File, Macro}
 use Rattle.item_tree.specs.declared.tree.ItemTree.{ItemTree}
 use Rattle.item_tree.specs.KnownNames.{rustc_builtin_macro_name}
-use Rattle.def_locs.specs.declared.expander.BuiltinAttr.TheVariants.{Derive}
+use Rattle.def_ids.specs.declared.expander.BuiltinAttr.TheVariants.{Derive}
 use Rattle.def_interner.specs.declared.macro_def.MacroDefId.{MacroDefId}
 use Rattle.def_bindings.specs.Content.{is_name}
 use Rattle.def_map.specs.Oracle.{Oracle}

@@ -3,7 +3,7 @@ ghost use Rattle.std.specs.Prelude.{◌≡◌};
 ghost use Rattle.defmap_bench.specs.Database.{answers_of, number_at};
 
 use bitflags::Flags;
-use def_locs::{BuiltinAttr, EnumLoc};
+use def_ids::{BuiltinAttr, EnumLoc};
 use def_map::{
     AssocItemsOwner, AssocList, AttrCallQuery, CallAnswer, CallQuery, CrateData, DefMap,
     DeriveCallQuery, EnumVariant, LocalDefMap, MacroResolver, SourceDatabase, UnresolvedMacro,

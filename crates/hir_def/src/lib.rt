@@ -14,16 +14,15 @@ pub use item_tree::{
 
 // The session, and the ids that it gives out, with the locations that they stand for.
 pub use def_ids::{
-    Adt, BuiltinDeriveImplId, ConstId, Def, Edition, EnumId, ExternBlockId, ExternCrateId,
-    FunctionId, GlobId, ImplId, ImportId, ItemContainerId, Macro2Id, MacroId, MacroRulesId, MapId,
-    ModuleId, ProcMacroId, StaticId, StructId, TraitId, TypeAliasId, UnionId, UseId, VariantId,
+    Adt, BuiltinAttr, BuiltinDeriveImplId, BuiltinDeriveImplLoc, ConstId, ConstLoc,
+    CustomProcMacroExpander, Def, Edition, EnumId, EnumLoc, ExternBlockId, ExternBlockLoc,
+    ExternCrateId, ExternCrateLoc, FunctionId, FunctionLoc, GlobId, ImplId, ImplLoc, ImportId,
+    ItemContainerId, Macro2Id, Macro2Loc, MacroExpander, MacroId, MacroRulesId, MacroRulesLoc,
+    MapId, ModuleId, ProcMacroId, ProcMacroLoc, ProcMacroUse, StaticId, StaticLoc, StructId,
+    StructLoc, TraitId, TraitLoc, TypeAliasId, TypeAliasLoc, UnionId, UnionLoc, UseId, UseLoc,
+    VariantId,
 };
 pub use def_interner::{Interner, Location, LocationId, MacroDefId, MacroDefKind};
-pub use def_locs::{
-    BuiltinAttr, BuiltinDeriveImplLoc, ConstLoc, CustomProcMacroExpander, EnumLoc, ExternBlockLoc,
-    ExternCrateLoc, FunctionLoc, ImplLoc, Macro2Loc, MacroExpander, MacroRulesLoc, ProcMacroLoc,
-    ProcMacroUse, StaticLoc, StructLoc, TraitLoc, TypeAliasLoc, UnionLoc, UseLoc,
-};
 
 // Maps: what is seeded, what they hold, and what names and paths mean in them.
 pub use def_bindings::{

@@ -10,10 +10,9 @@ ghost use Rattle.def_rules.specs.Items.{declared_effect, written_vis};
 
 use super::DefCollector;
 use super::visibility::constructor_visibility;
-use def_ids::{Def, ModuleId};
+use def_ids::{Def, ModuleId, StructLoc};
 use def_interner::{Interner, Location};
 use def_items::{Declaration, Declared, Definition, define, define_struct, number_item};
-use def_locs::StructLoc;
 use def_map::SourceDatabase;
 use def_parts::Site;
 use item_tree::{CtorVisibility, ItemNode, Name, RawVisibility};

@@ -8,8 +8,8 @@ ghost use Rattle.def_collector.specs.Collector.{state_of};
 ghost use Rattle.def_laws.specs.Performs.{Handled};
 
 use super::DefCollector;
+use def_ids::UseLoc;
 use def_interner::{Interner, Location};
-use def_locs::UseLoc;
 use def_parts::Site;
 use def_steps::{WrittenUse, is_prelude_import};
 use item_tree::{ItemNode, RawVisibility, Seq, UseImport};

@@ -9,7 +9,7 @@ ghost use Rattle.def_interner.specs.contracts.exact.ProcMacroUseExact.TheImpl.La
 ghost use Rattle.def_interner.specs.contracts.exact.EditionExact.TheImpl.Laws as edition;
 
 use crate::exact::Exact;
-use def_locs::{Macro2Loc, MacroRulesLoc, ProcMacroLoc};
+use def_ids::{Macro2Loc, MacroRulesLoc, ProcMacroLoc};
 
 impl Exact for MacroRulesLoc {
     ghost exact = { λ a b same.

@@ -10,12 +10,9 @@ ghost use Rattle.def_interner.specs.Session.{ImplItem, UseItem, ExternCrateItem,
 use crate::interner::Interner;
 use crate::location::{Location, LocationId};
 use def_ids::{
-    ConstId, EnumId, ExternBlockId, ExternCrateId, FunctionId, ImplId, StaticId, StructId, TraitId,
-    TypeAliasId, UnionId, UseId,
-};
-use def_locs::{
-    ConstLoc, EnumLoc, ExternBlockLoc, ExternCrateLoc, FunctionLoc, ImplLoc, StaticLoc, StructLoc,
-    TraitLoc, TypeAliasLoc, UnionLoc, UseLoc,
+    ConstId, ConstLoc, EnumId, EnumLoc, ExternBlockId, ExternBlockLoc, ExternCrateId,
+    ExternCrateLoc, FunctionId, FunctionLoc, ImplId, ImplLoc, StaticId, StaticLoc, StructId,
+    StructLoc, TraitId, TraitLoc, TypeAliasId, TypeAliasLoc, UnionId, UnionLoc, UseId, UseLoc,
 };
 use std::alloc::AllocError;
 

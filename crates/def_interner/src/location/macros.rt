@@ -4,13 +4,15 @@
 ghost use Rattle.std.specs.Prelude.{◌≡◌};
 ghost use Rattle.def_interner.specs.Session.{MacroLoc, rules_loc, macro2_loc, proc_macro_loc};
 ghost use Rattle.def_ids.specs.declared.ids.MacroId.TheVariants as variant;
-ghost use Rattle.def_locs.specs.declared.locs.BuiltinDeriveImplLoc.{BuiltinDeriveImplLoc};
+ghost use Rattle.def_ids.specs.declared.locs.BuiltinDeriveImplLoc.{BuiltinDeriveImplLoc};
 
 use crate::interner::Interner;
 use crate::location::{Location, LocationId};
 use crate::macro_def::{MacroDefId, MacroDefKind};
-use def_ids::{BuiltinDeriveImplId, Macro2Id, MacroId, MacroRulesId, ProcMacroId};
-use def_locs::{BuiltinDeriveImplLoc, Macro2Loc, MacroRulesLoc, ProcMacroLoc};
+use def_ids::{
+    BuiltinDeriveImplId, BuiltinDeriveImplLoc, Macro2Id, Macro2Loc, MacroId, MacroRulesId,
+    MacroRulesLoc, ProcMacroId, ProcMacroLoc,
+};
 use std::alloc::AllocError;
 
 impl LocationId for MacroRulesId {

@@ -1,5 +1,5 @@
 use Rattle.std.proofs.Common.{◌≡◌, ◌++◌, ◌-◌, drop, length, map}
-use Rattle.numbered_table.specs.NumberedTable.{all_edges}
+use Rattle.def_tables.specs.NumberedTable.{all_edges}
 use Rattle.def_steps.specs.Shown.{shown_edge}
 use Rattle.def_steps.proofs.targets.edges_of.Given as goal
 

@@ -3,12 +3,12 @@
 
 ghost use Rattle.std.specs.Prelude.{◌≡◌, OnErr, OnOk};
 ghost use Rattle.def_bindings.specs.Content.{with_binding, with_edge, with_unnamed};
-ghost use Rattle.scope_table.specs.ScopeTable.{content_of};
+ghost use Rattle.def_tables.specs.ScopeTable.{content_of};
 
 use def_bindings::{Binding, BindingTable, EdgeTo, Namespace, Visibility};
 use def_ids::{ModuleId, TraitId};
+use def_tables::ScopeTable;
 use item_tree::Name;
-use scope_table::ScopeTable;
 use std::alloc::AllocError;
 
 /// A table whose `bindings`, `unnamed_vis` and `edge_to` are those that every table has.
@@ -19,8 +19,8 @@ pub struct PlainTable {
 
 impl BindingTable for PlainTable {
     ghost use Rattle.indexmap.specs.IndexMap.{keys};
-    ghost use Rattle.scope_table.specs.ScopeTable.{content_of};
-    ghost use Rattle.scope_table.specs.ScopeTableLaws.{are_sources, are_tied};
+    ghost use Rattle.def_tables.specs.ScopeTable.{content_of};
+    ghost use Rattle.def_tables.specs.ScopeTableLaws.{are_sources, are_tied};
 
     type Vis = Visibility;
 

@@ -1,5 +1,0 @@
-pub mod FreshLemmas
-pub mod BareLemmas
-pub mod EmptiedLemmas
-mod MapsFacts
-mod SeedsFacts

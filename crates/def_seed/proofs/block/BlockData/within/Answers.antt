@@ -1,5 +1,0 @@
-use Rattle.std.proofs.Common.{rules}
-use Rattle.def_seed.proofs.block.BlockData.within.Goals as goal
-
-pub returns : goal.returns
-returns c = search rules

@@ -1,5 +1,0 @@
-use Rattle.std.proofs.Common.{rules}
-use Rattle.def_seed.proofs.seed.block_root.Goals as goal
-
-pub returns : goal.returns
-returns c = (search rules, c.in_ok-modules.ensures)

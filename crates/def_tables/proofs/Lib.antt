@@ -1,0 +1,16 @@
+pub mod PartsLemmas
+pub mod IndexedVecLemmas
+pub mod BoundNameLemmas
+pub mod ByModuleLemmas
+pub mod ResultLemmas
+pub mod LinkLemmas
+pub mod ListsLemmas
+pub mod NumbersLemmas
+pub mod NumberedTableLemmas
+pub mod EmptyLemmas
+pub mod BoundNameFacts
+pub mod NumbersFacts
+pub mod ContentLemmas
+pub mod RowEntriesLemmas
+pub mod ScopeTableLemmas
+pub mod RowEntriesFacts

@@ -1,0 +1,32 @@
+use Rattle.std.specs.List.{zip}
+use Rattle.def_tables.specs.Lists.{lists_of}
+use Rattle.def_tables.specs.NumberedTable.{content_of, other_rows, own_rows}
+use Rattle.def_tables.proofs.NumberedTableLemmas.{put-own}
+use Rattle.def_tables.proofs.numbered_table.NumberedTable.put_own.Goals as goal
+
+pub invariant_of-self : goal.invariant_of-self
+unfolding content_of
+invariant_of-self g c =
+    let t = c.args.self.now in
+    let p = c.args.put in
+    let e = c.put_at.ensures in
+    record {
+      apart = t.apart;
+      listed = (put-own g.K.Kept.meaning t.map (own_rows t) (zip c.put_at.new.bound.keys.keys c.put_at.new.bound.values.items) (other_rows t) p.at p.name p.ns (lists_of t.names) (lists_of c.put_at.new.names) t.listed c.requires e.others (content_of g.K.Kept.meaning t) c.args.binding.now p.over c.put_at.result e.wrote e.done e.names e.refused).2;
+    }
+
+pub returns-clause-done : goal.returns-clause-done
+unfolding content_of
+returns-clause-done g c =
+    let t = c.args.self.now in
+    let p = c.args.put in
+    let e = c.put_at.ensures in
+    (put-own g.K.Kept.meaning t.map (own_rows t) (zip c.put_at.new.bound.keys.keys c.put_at.new.bound.values.items) (other_rows t) p.at p.name p.ns (lists_of t.names) (lists_of c.put_at.new.names) t.listed c.requires e.others (content_of g.K.Kept.meaning t) c.args.binding.now p.over c.put_at.result e.wrote e.done e.names e.refused).0
+
+pub returns-clause-refused : goal.returns-clause-refused
+unfolding content_of
+returns-clause-refused g c =
+    let t = c.args.self.now in
+    let p = c.args.put in
+    let e = c.put_at.ensures in
+    (put-own g.K.Kept.meaning t.map (own_rows t) (zip c.put_at.new.bound.keys.keys c.put_at.new.bound.values.items) (other_rows t) p.at p.name p.ns (lists_of t.names) (lists_of c.put_at.new.names) t.listed c.requires e.others (content_of g.K.Kept.meaning t) c.args.binding.now p.over c.put_at.result e.wrote e.done e.names e.refused).1

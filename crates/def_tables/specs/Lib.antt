@@ -1,0 +1,17 @@
+pub mod Kept
+pub mod IndexedVec
+pub mod Short
+pub mod Parts
+pub mod BoundName
+pub mod Link
+pub mod Lists
+pub mod Numbers
+pub mod Places
+pub mod Found
+pub mod BoundNameLaws
+pub mod NumberedTable
+pub mod NumberedTableLaws
+pub mod RowEntries
+pub mod Row
+pub mod ScopeTable
+pub mod ScopeTableLaws

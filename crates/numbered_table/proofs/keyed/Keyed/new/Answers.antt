@@ -1,8 +1,0 @@
-use Rattle.std.proofs.Common.{ap, sym, ◌∙◌}
-use Rattle.std.specs.Map.{keys_of}
-use Rattle.numbered_table.specs.Numbers.{numbers_from}
-use Rattle.numbered_table.proofs.keyed.Keyed.new.Goals as goal
-
-pub invariant_of-result : goal.invariant_of-result
-invariant_of-result g c =
-    record { numbered = λ m. ap (λ l. l m) c.new-2.ensures ∙ sym (ap (λ es. numbers_from m 0 (keys_of es)) c.new.ensures.empty) }

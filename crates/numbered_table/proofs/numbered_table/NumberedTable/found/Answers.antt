@@ -1,8 +1,0 @@
-use Rattle.std.proofs.Common.{ap}
-use Rattle.numbered_table.specs.BoundName.{meaning_of}
-use Rattle.numbered_table.specs.NumberedTable.{content_of}
-use Rattle.numbered_table.proofs.numbered_table.NumberedTable.found.Goals as goal
-
-pub returns-in-Some : goal.returns-in-Some
-unfolding content_of
-returns-in-Some g c = ap (meaning_of g.K.Kept.meaning c.args.self.now.map) c.in-Some.ensures

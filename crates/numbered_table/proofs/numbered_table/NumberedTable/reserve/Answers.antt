@@ -1,7 +1,0 @@
-use Rattle.std.proofs.Common.{refl}
-use Rattle.numbered_table.specs.NumberedTable.{content_of}
-use Rattle.numbered_table.proofs.numbered_table.NumberedTable.reserve.Goals as goal
-
-pub returns : goal.returns
-unfolding content_of
-returns g c = rw (c.reserve.ensures, c.reserve-2.ensures) refl

@@ -1,4 +1,0 @@
-pub mod ContentLemmas
-pub mod RowEntriesLemmas
-pub mod ScopeTableLemmas
-pub mod RowEntriesFacts

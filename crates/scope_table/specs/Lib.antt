@@ -1,4 +1,0 @@
-pub mod RowEntries
-pub mod Row
-pub mod ScopeTable
-pub mod ScopeTableLaws
