@@ -2,7 +2,7 @@
 use Rattle.std.specs.Prelude.{◌≡◌, ◌∷◌, ◌++◌, List, map}
 use Rattle.def_attrs.specs.ItemAttrs.{active_of, skipped_of}
 use Rattle.def_attrs.specs.declared.attrs.AttrUse.{AttrUse}
-use Rattle.def_attrs.specs.declared.attrs.AttrUse.TheVariants.{PassesOver, ReadsDerives, ReplacesItem}
+use Rattle.def_attrs.specs.declared.attrs.AttrUse.TheVariants.{PassesOver, ReadsDerives, ReplacesItem, HasNoExpander}
 use Rattle.def_attrs.specs.declared.deferred.DeferredDerives.{DeferredDerives}
 use Rattle.def_attrs.specs.declared.derives.DeriveList.{DeriveList}
 use Rattle.def_attrs.specs.declared.item_attrs.ItemAttrs.{ItemAttrs}
@@ -32,6 +32,7 @@ abbrev pub attr_use_of : AttrUse → attributes.AttrUse
 attr_use_of PassesOver = attributes.PassesOver
 attr_use_of ReadsDerives = attributes.ReadsDerives
 attr_use_of ReplacesItem = attributes.ReplacesItem
+attr_use_of (HasNoExpander err) = attributes.HasNoExpander err
 
 -- the state with this map, and in which these derives are deferred and these expansions are to be walked
 abbrev pub with_derives : rules.State → MapData → DeferredDerives → List Expansion → rules.State

@@ -13,12 +13,13 @@ ghost use Rattle.def_rules.specs.State.{State};
 
 use crate::item_attrs::ItemAttrs;
 use def_calls::{MacroDirective, PathResolver, WrittenAttr};
-use def_ids::{BuiltinAttr, ModuleId};
+use def_ids::{BuiltinAttr, CustomProcMacroExpander, ModuleId};
 use def_interner::{MacroDefId, MacroDefKind};
 use def_map::{
     AttrCallQuery, DeriveHelper, MacroResolver, MacroSubNs, MapData, SourceDatabase, Table, World,
 };
 use def_parts::Site;
+use def_rules::ExpandErrorKind;
 use item_tree::{
     Attr, AttrId, AttrsAfter, Crate, FileAstId, InFile, ItemNode, MacroCallId, ModItemId, ModPath,
     Name, PathKind,
@@ -33,6 +34,8 @@ pub enum AttrUse {
     ReadsDerives,
     /// It is called, and its expansion stands in the place of the item.
     ReplacesItem,
+    /// Nothing expands it: that is reported, and the item is walked without the attribute.
+    HasNoExpander(ExpandErrorKind),
 }
 
 /// The attribute whose macro an item waits for, with its number: the first that is neither builtin
@@ -153,9 +156,17 @@ pub fn attr_macro<D: SourceDatabase>(
 pub fn attr_use<D: SourceDatabase>(db: &D, krate: Crate, found: MacroDefId) -> AttrUse
     ensures { attr_use_of result ≡ rules.attr_use (D.oracle db.now) krate found.kind }
 {
-    let MacroDefKind::BuiltInAttr(builtin) = found.kind else {
-        return AttrUse::ReplacesItem;
-    };
+    match found.kind {
+        MacroDefKind::BuiltInAttr(builtin) => builtin_use(db, krate, builtin),
+        MacroDefKind::ProcMacro(expander, _) => expander_use(expander),
+        _ => AttrUse::ReplacesItem,
+    }
+}
+
+/// What a builtin macro does with the item of its attribute.
+fn builtin_use<D: SourceDatabase>(db: &D, krate: Crate, builtin: BuiltinAttr) -> AttrUse
+    ensures { attr_use_of result ≡ rules.builtin_use (D.oracle db.now) krate builtin }
+{
     match builtin {
         BuiltinAttr::Derive => AttrUse::ReadsDerives,
         BuiltinAttr::Other(_) => AttrUse::ReplacesItem,
@@ -165,6 +176,22 @@ pub fn attr_use<D: SourceDatabase>(db: &D, krate: Crate, found: MacroDefId) -> A
             } else {
                 AttrUse::ReplacesItem
             }
+        }
+    }
+}
+
+/// What a procedural macro does with the item of its attribute, by what expands it.
+fn expander_use(expander: CustomProcMacroExpander) -> AttrUse
+    ensures { attr_use_of result ≡ rules.expander_use expander }
+{
+    match expander {
+        CustomProcMacroExpander::Id(_) => AttrUse::ReplacesItem,
+        CustomProcMacroExpander::Missing => {
+            AttrUse::HasNoExpander(ExpandErrorKind::MissingProcMacroExpander)
+        }
+        CustomProcMacroExpander::Disabled => AttrUse::HasNoExpander(ExpandErrorKind::MacroDisabled),
+        CustomProcMacroExpander::DisabledAttr => {
+            AttrUse::HasNoExpander(ExpandErrorKind::ProcMacroAttrExpansionDisabled)
         }
     }
 }

@@ -2,6 +2,8 @@
 ghost use Rattle.std.specs.Prelude.{◌≡◌, ◌++◌, ◌∷◌, [], Ok, Some, slice_get, IfOk, OnOk};
 ghost use Rattle.def_attrs.specs.Shown.{IsGivenUp, derives_in, with_attrs, with_derives, with_items};
 ghost use Rattle.def_calls.specs.Shown.{IsTurned, macro_directive_of, macros_in, with_waiting, written_attr_of, written_derive_of};
+ghost use Rattle.def_rules.specs.Attributes.{directive_reported};
+ghost use Rattle.def_rules.specs.declared.diagnostics.DefDiagnosticKind.TheVariants.{MacroError};
 ghost use Rattle.def_rules.specs.Derives.{derive_directive};
 ghost use Rattle.def_rules.specs.Directives.{WalksItem, derive_told, list_told, tried_effect};
 ghost use Rattle.def_rules.specs.State.{State};
@@ -16,7 +18,7 @@ use def_calls::{
 };
 use def_interner::MacroDefId;
 use def_map::{MapData, SourceDatabase};
-use def_rules::{DefDiagnostic, DefDiagnosticKind};
+use def_rules::{DefDiagnostic, DefDiagnosticKind, ExpandErrorKind};
 use item_tree::{ModPath, SyntaxContext};
 use std::alloc::AllocError;
 use std::collections::VecDeque;
@@ -151,6 +153,30 @@ pub fn refuse_list<'a>(
         kind,
     })?;
     Ok(DeriveList::empty(written))
+}
+
+/// Reports that nothing expands the macro of an attribute, and why. On `Err` nothing but safety is
+/// promised.
+pub fn report_no_expander(
+    diagnostics: &mut Vec<DefDiagnostic>,
+    directive: &MacroDirective<'_>,
+    written: WrittenAttr<'_>,
+    err: ExpandErrorKind,
+) -> Result<(), AllocError>
+    ensures { OnOk result ((s : State) →
+        record s { diagnostics = diagnostics.new.items }
+        ≡ directive_reported (record s { diagnostics = diagnostics.old.items })
+        (macro_directive_of directive.now) (MacroError (written_attr_of written.entry).attr.path err)) }
+{
+    diagnostics.push(DefDiagnostic {
+        module: directive.module_id,
+        ast_id: directive.position,
+        kind: DefDiagnosticKind::MacroError {
+            path: written.attr.path.clone()?,
+            err,
+        },
+    })?;
+    Ok(())
 }
 
 /// Gives up an item that waits for the macro of an attribute: the attribute is reported and passed over,

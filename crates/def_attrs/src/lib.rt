@@ -17,7 +17,8 @@ pub use attrs::{
 pub use deferred::{DeferredDerives, expand_deferred};
 pub use derives::{DeriveList, derive_macro, derive_paths, hand_on};
 pub use given::{
-    FoundAttr, FoundDerive, call_list, call_tried, call_waiting, give_up, queue_derive, refuse_list,
+    FoundAttr, FoundDerive, call_list, call_tried, call_waiting, give_up, queue_derive,
+    refuse_list, report_no_expander,
 };
 pub use impls::{DerivedItem, give_impls};
 pub use item_attrs::ItemAttrs;

@@ -36,6 +36,8 @@ use Rattle.def_collector.specs.Collector.{state_of}
 use Rattle.def_collector.specs.declared.collector.DefCollector.{DefCollector}
 use Rattle.def_laws.specs.Runs.{Leads}
 use Rattle.def_laws.specs.Sound.{IsSoundWith}
+use Rattle.def_collector.proofs.DistinctLemmas.{distinct_along}
+use Rattle.def_macros.specs.Censored.{ListsOnce}
 use Rattle.def_laws.proofs.BegunLaws.{begins_sound}
 use Rattle.def_laws.proofs.HeadlineLaws.{answers}
 use Rattle.def_steps.proofs.ImportListsLaws.{present-nil}
@@ -65,6 +67,10 @@ module _ (w : Setting) (before : Session) (s : State) (same : s ≡ seeded_state
   -- what a run begins with is sound
   pub begun_sound : IsSoundWith (first_tasks w.oracle s.map w.tree) (started w.oracle w.tree s)
   begun_sound = subst (λ x. IsSoundWith (first_tasks w.oracle x.map w.tree) (started w.oracle w.tree x)) (sym same) (begins_sound w before given fresh)
+
+  -- where the run ended, each unnamed trait stands once
+  pub ended_distinct : (t : State) (limit_met : Bool) → Ends w.oracle (first_tasks w.oracle s.map w.tree) (started w.oracle w.tree s) limit_met t → (m : ModuleId) → ListsOnce t.content m
+  ended_distinct t limit_met ended = distinct_along {oracle = w.oracle} (ended.run.runs []).1 (ap (λ (x : State). x.content) same)
 
   -- what was collected and finished answers, once its macros were reported
   pub collected_answers : (after : Session) (t u : State) (answer : Answer) (limit_met : Bool) → Ends w.oracle (first_tasks w.oracle s.map w.tree) (started w.oracle w.tree s) limit_met t → IsSoundWith [] t → t.expansions ≡ [] → t.session ≡ after

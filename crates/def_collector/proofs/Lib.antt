@@ -1,4 +1,5 @@
 mod CallLemmas
+mod CensorLemmas
 mod CollectLemmas
 mod DeriveLemmas
 mod FallbackLemmas
@@ -12,3 +13,4 @@ mod VisibilityLemmas
 mod VisitLemmas
 mod WakeLemmas
 mod WalkLemmas
+mod DistinctLemmas

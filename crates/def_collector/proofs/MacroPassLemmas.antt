@@ -14,7 +14,7 @@ use Rattle.def_calls.specs.Shown.{expansion_shown, macro_directive_of, macros_in
 use Rattle.def_interner.specs.declared.interner.Interner.{Interner}
 use Rattle.def_map.specs.Oracle.{Oracle}
 use Rattle.def_collector.specs.declared.collector.DefCollector.{DefCollector}
-use Rattle.def_collector.specs.Collector.{state_of}
+use Rattle.def_collector.specs.Collector.{state_of, with_reported}
 use Rattle.def_collector.specs.Passes.{HadTurn, HadTurns, HasLeft, HasStayed, OnlyAsked}
 use Rattle.def_rounds.specs.Rounds.{GetsStuck, MakesRound}
 use Rattle.def_rules.specs.Directives.{Stays, answer_in, told}
@@ -34,7 +34,7 @@ use Rattle.def_calls.proofs.WaitingLemmas.{macros_all, macros_more}
 use Rattle.def_oracle.specs.declared.source_database.CallAnswer.{CallAnswer}
 use Rattle.def_oracle.specs.declared.source_database.UnresolvedMacro.{UnresolvedMacro}
 use Rattle.def_sources.specs.Sources.{World}
-use Rattle.def_rules.specs.Report.{answer_report, kind_report, macro_report, with_macro_reports}
+use Rattle.def_rules.specs.Report.{answer_report, kind_report, macro_report}
 
 -- Results and lists
 
@@ -235,7 +235,7 @@ module _ (oracle : Oracle) (session : Interner) (start c next : DefCollector) (i
       }
 
 -- all of them
-pub reported_all : (oracle : Oracle) (session : Interner) (start c : DefCollector) (i : ℕ) → ReportedSoFar oracle session start c i → length start.unresolved_macros.items ≤ i → state_of c session ≡ with_macro_reports oracle (state_of start session)
+pub reported_all : (oracle : Oracle) (session : Interner) (start c : DefCollector) (i : ℕ) → ReportedSoFar oracle session start c i → length start.unresolved_macros.items ≤ i → state_of c session ≡ with_reported oracle (state_of start session)
 reported_all oracle session start c i so_far all =
     ap (λ (x : DefCollector). state_of x session) so_far.frame
     ∙ ap (λ ds. record (state_of start session) { diagnostics = ds })

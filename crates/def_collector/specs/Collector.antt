@@ -1,6 +1,7 @@
 -- What the collector's parts stand for.
-use Rattle.std.specs.Prelude.{Vec, map, option_map}
+use Rattle.std.specs.Prelude.{◌++◌, Vec, map, option_map}
 use Rattle.std.specs.declared.alloc.Global.{Global}
+use Rattle.std.specs.List.{flat_map}
 use Rattle.def_interner.specs.declared.interner.Interner.{Interner}
 use Rattle.def_ids.specs.Equality.{glob_eq}
 use Rattle.def_interner.specs.Session.{session_of}
@@ -21,6 +22,8 @@ use Rattle.def_rules.specs.declared.diagnostics.DefDiagnostic.{DefDiagnostic}
 use Rattle.def_modules.specs.declared.map.MapData.{MapData}
 use Rattle.def_steps.specs.ImportLists.{pending}
 use Rattle.indexmap.specs.IndexMap.{get}
+use Rattle.def_map.specs.Oracle.{Oracle}
+use Rattle.def_rules.specs.Report.{macro_report}
 use Rattle.def_rules.specs.State.{State}
 
 -- the state that the collector is in
@@ -57,3 +60,7 @@ with_names s local def_map table = record (with_parts s def_map table) { local =
 -- a state whose missing crates and reports are these
 abbrev pub with_missed : State → MissingCrates → Vec DefDiagnostic Global → State
 with_missed s missing diagnostics = record s { missing_crates = missing_in missing; diagnostics = diagnostics.items }
+
+-- a state in which the macros left over are reported
+abbrev pub with_reported : Oracle → State → State
+with_reported oracle s = record s { diagnostics = s.diagnostics ++ flat_map (macro_report oracle s) s.macros }

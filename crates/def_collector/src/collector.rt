@@ -2,9 +2,11 @@
 ghost use Rattle.std.specs.Prelude.{◌≡◌, option_map, unwrap_or};
 ghost use Rattle.def_modules.specs.Locals.{local_view};
 
+mod censor;
 mod crates;
 mod declarations;
 mod finish;
+mod functions;
 mod items;
 mod visibility;
 
@@ -18,6 +20,7 @@ use def_map::{LocalDefMap, MapData, Table};
 use def_parts::{Globs, ModDirs};
 use def_rules::DefDiagnostic;
 use def_steps::PendingImports;
+pub use functions::WrittenFunction;
 use indexmap::IndexMap;
 use item_tree::Seq;
 use std::alloc::Global;

@@ -10,7 +10,7 @@ ghost use Rattle.def_laws.specs.Performs.{GaveImpls, Handled};
 ghost use Rattle.def_rules.specs.State.{State};
 
 use crate::calls::collect_macro_call;
-use crate::collector::{DefCollector, WrittenCrate, WrittenStruct};
+use crate::collector::{DefCollector, WrittenCrate, WrittenFunction, WrittenStruct};
 use crate::macros::{WrittenMacro, collect_macro, collect_macro_rules};
 use crate::modules::{ModuleItem, collect_module, name_text};
 use def_attrs::{DeferredDerives, DerivedItem, give_impls};
@@ -212,6 +212,13 @@ fn collect_leaf<'a, D: SourceDatabase>(
                 ctor,
             };
             collector.collect_struct(db, session, site, node, written)
+        }
+        ModItemKind::Function { name, visibility } => {
+            let written = WrittenFunction {
+                name: *name,
+                visibility,
+            };
+            collector.collect_function(db, session, site, node, written)
         }
         ModItemKind::MacroRules { name } => {
             collect_macro_rules(collector, db, session, site, node, *name)

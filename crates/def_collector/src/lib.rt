@@ -22,7 +22,7 @@ mod wakes;
 
 pub use answer::Collected;
 pub use def_rules::{
-    DefDiagnostic, DefDiagnosticKind, DefDiagnostics, Edge, LeftImport, LeftMacro, LeftMacroKind,
-    Outcome,
+    DefDiagnostic, DefDiagnosticKind, DefDiagnostics, Edge, ExpandErrorKind, LeftImport, LeftMacro,
+    LeftMacroKind, Outcome,
 };
 pub use run::collect_defs;

@@ -25,7 +25,7 @@ use crate::stack::{item_in, walk, walk_item};
 use def_attrs::{
     AttrUse, DeriveList, FoundAttr, FoundDerive, attr_call, attr_macro, attr_use, call_list,
     call_tried, call_waiting, derive_macro, derive_paths, expand_deferred, is_helper, queue_derive,
-    refuse_list,
+    refuse_list, report_no_expander,
 };
 use def_calls::{
     Expansion, MacroDirective, MacroDirectiveKind, WrittenAttr, WrittenCall, WrittenDerive,
@@ -195,8 +195,9 @@ fn ask_derive<'a, D: SourceDatabase>(
 }
 
 /// Lets an item have its turn that waits for the macro of an attribute. Where the macro is found, the
-/// macro's expansion is to stand in the item's place, or the item is walked without the attribute.
-/// Answers whether it is. On `Err` nothing but safety is promised.
+/// macro's expansion is to stand in the item's place, or the item is walked without the attribute. A
+/// macro that nothing expands is reported. Answers whether it is found. On `Err` nothing but safety is
+/// promised.
 fn ask_attr<'a, D: SourceDatabase>(
     collector: &mut DefCollector<'a>,
     db: &'a D,
@@ -230,6 +231,11 @@ fn ask_attr<'a, D: SourceDatabase>(
             walk_without(collector, db, session, directive, list)
         }
         AttrUse::ReplacesItem => replace_item(collector, db, directive, written, found),
+        AttrUse::HasNoExpander(err) => {
+            report_no_expander(&mut collector.diagnostics, &directive, written, err)?;
+            let list = DeriveList::empty(written);
+            walk_without(collector, db, session, directive, list)
+        }
     }
 }
 

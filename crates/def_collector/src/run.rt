@@ -13,10 +13,10 @@ ghost use Rattle.def_map.specs.Fresh.{IsFresh};
 ghost use Rattle.def_modules.specs.Locals.{local_view};
 ghost use Rattle.def_modules.specs.Maps.{map_state};
 ghost use Rattle.def_collector.specs.Answer.{shown};
-ghost use Rattle.def_collector.specs.Collector.{state_of};
+ghost use Rattle.def_collector.specs.Collector.{state_of, with_reported};
 ghost use Rattle.def_collector.specs.Setting.{setting_of};
 ghost use Rattle.def_rules.specs.Headline.{Answers};
-ghost use Rattle.def_rules.specs.Report.{macro_report, with_macro_reports};
+ghost use Rattle.def_rules.specs.Report.{macro_report};
 ghost use Rattle.def_rules.specs.Start.{first_depth, first_tasks, first_tree};
 ghost use Rattle.def_rules.specs.Start.{seeded_state, started};
 ghost use Rattle.def_laws.specs.Runs.{Leads};
@@ -77,9 +77,10 @@ pub fn collect_defs<D: SourceDatabase>(
         waited: 0,
     };
     let limit_met = collect(&mut run, session, tree_id)?;
-    let mut collector = run.into_collector();
-    report_macros(&mut collector, db, session)?;
-    collector.finish(limit_met)
+    // What is reported is asked of the table that is answered.
+    let mut answered = run.into_collector().censored()?;
+    report_macros(&mut answered, db, session)?;
+    answered.finish(limit_met)
 }
 
 /// A collector that knows the seeded map alone, and what the database says of its crate.
@@ -241,14 +242,14 @@ fn seed_with_top_level<'a, D: SourceDatabase>(
     )
 }
 
-/// Reports what waits for a macro and is left over, in order. On `Err` nothing but safety is
-/// promised.
+/// Reports what waits for a macro and is left over, in order, by the table as it stands. On `Err`
+/// nothing but safety is promised.
 fn report_macros<'a, D: SourceDatabase>(
     collector: &mut DefCollector<'a>,
     db: &D,
     session: &Interner,
 ) -> Result<(), AllocError>
-    ensures { OnOk result (state_of collector.new session.now ≡ with_macro_reports (D.oracle db.now) (state_of collector.old session.now)) }
+    ensures { OnOk result (state_of collector.new session.now ≡ with_reported (D.oracle db.now) (state_of collector.old session.now)) }
 {
     'left: for i in 0..collector.unresolved_macros.len() {
         report_macro(collector, db, session, i)?;

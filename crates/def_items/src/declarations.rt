@@ -24,7 +24,7 @@ pub struct Definition {
 
 impl Definition {
     /// Its entry in a namespace.
-    pub(crate) fn entry(self, ns: Namespace) -> Entry<Visibility>
+    pub fn entry(self, ns: Namespace) -> Entry<Visibility>
         ensures { result ≡ declared_entry self.name ns self.def self.vis }
     {
         Entry {

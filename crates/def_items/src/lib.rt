@@ -18,6 +18,6 @@ pub use impls::define_impl;
 pub use item_order::is_crate_root;
 pub use lists::{Frame, ItemList, disabled_by, push_list, push_opened, top_items};
 pub use modules::{ChildModule, bring_macros, hands_on, into_if, is_macro_use, push_child_module};
-pub use numbered::{Declaration, Declared, number_adt, number_item};
+pub use numbered::{Declaration, Declared, number_adt, number_function, number_item};
 pub use reports::{report, report_disabled, report_disabled_item};
 pub use visibility::meant_or_public;

@@ -1,15 +1,16 @@
 //! Items that declare one name: each gets its number, and with it a definition.
-ghost use Rattle.std.specs.Prelude.{◌≡◌, false, IfNone, IfOk, IfSome, OnOk};
-ghost use Rattle.def_interner.specs.Session.{AddsLocations, session_of};
+ghost use Rattle.std.specs.Prelude.{◌≡◌, false, Some, IfNone, IfOk, IfSome, OnOk};
+ghost use Rattle.def_interner.specs.Session.{AddsLocations, FunctionItem, session_of};
 ghost use Rattle.def_items.specs.Numbered.{IsDeclared, is_declaring, is_type};
 ghost use Rattle.def_parts.specs.Sites.{site_of};
 ghost use Rattle.def_rules.specs.Deferred.{IsAdt};
 ghost use Rattle.def_rules.specs.Derives.{derives_kind};
+ghost use Rattle.def_rules.specs.Items.{loc_of};
 ghost use Rattle.def_rules.specs.State.{State};
 
 use def_bindings::Namespace;
 use def_ids::{
-    Adt, ConstId, ConstLoc, Def, EnumLoc, FunctionLoc, StaticLoc, StructLoc, TraitLoc,
+    Adt, ConstId, ConstLoc, Def, EnumLoc, FunctionId, FunctionLoc, StaticLoc, StructLoc, TraitLoc,
     TypeAliasLoc, UnionLoc,
 };
 use def_interner::{Interner, Location};
@@ -152,6 +153,23 @@ pub fn number_adt(
     }
 }
 
+/// Numbers a function.
+pub fn number_function(
+    session: &mut Interner,
+    site: &Site,
+    node: &ItemNode,
+) -> Result<FunctionId, AllocError>
+    ensures numbered { IfOk result (λ id. (session_of session.new).item FunctionItem id.0 ≡ Some (loc_of (site_of site.now) FunctionItem node.now)) }
+    ensures session { AddsLocations (session_of session.old) (session_of session.new) }
+{
+    let id = FunctionLoc {
+        container: site.container,
+        position: site.position(node),
+    }
+    .intern(session)?;
+    Ok(id)
+}
+
 /// Numbers an item of a kind that declares one name in values.
 fn number_value<'a>(
     session: &mut Interner,
@@ -164,20 +182,6 @@ fn number_value<'a>(
     ensures session { AddsLocations (session_of session.old) (session_of session.new) }
 {
     match &node.kind {
-        ModItemKind::Function { name, visibility } => {
-            let id = FunctionLoc {
-                container: site.container,
-                position: site.position(node),
-            }
-            .intern(session)?;
-            let declaration = Declaration {
-                name: *name,
-                ns: Namespace::Values,
-                def: Def::Function(id),
-                vis: visibility,
-            };
-            Ok(Declared::Name(declaration))
-        }
         ModItemKind::Const { name, visibility } => {
             let id = ConstLoc {
                 container: site.container,

@@ -1,15 +1,20 @@
 -- Declarations stand at their places along runs.
-use Rattle.std.proofs.Common.{◌≡◌, ◌⊎◌, inl, inr, Bool, List, [], ◌∷◌, ◌++◌, Option, Some, None, Contains, refl, sym, ap, ◌∙◌, subst, append-nil}
+use Rattle.std.proofs.Common.{◌≡◌, ◌⊎◌, ◌&&◌, inl, inr, Bool, true, false, List, [], ◌∷◌, ◌++◌, Option, Some, None, Contains, refl, sym, ap, ◌∙◌, subst, append-nil}
+use Rattle.std.proofs.lemmas.Bool.{and_parts}
 use Rattle.std.proofs.lemmas.List.Elements.{Contains-append_left, Contains-push}
 use Rattle.tree_ids.specs.declared.name.Name.{Name}
+use Rattle.def_ids.specs.declared.ids.FunctionId.{FunctionId}
 use Rattle.def_ids.specs.declared.ids.GlobId.{GlobId}
 use Rattle.def_ids.specs.declared.ids.ModuleId.{ModuleId}
+use Rattle.def_ids.specs.Ids.{is_same_module}
 use Rattle.def_bindings.specs.declared.bindings.Binding.{Binding}
 use Rattle.def_bindings.specs.declared.bindings.EdgeTo.{EdgeTo}
 use Rattle.def_bindings.specs.declared.bindings.Entry.{Entry}
 use Rattle.def_bindings.specs.declared.bindings.Namespace.{Namespace}
+use Rattle.def_bindings.specs.declared.bindings.Namespace.TheVariants.{Values}
 use Rattle.def_bindings.specs.declared.visibility.Visibility.{Visibility}
-use Rattle.def_bindings.specs.Content.{Content, empty}
+use Rattle.def_bindings.specs.Content.{Content, empty, is_name, is_namespace, without_binding}
+use Rattle.def_bindings.specs.IdLaws.{name-eq, namespace-eq, same_module_equal}
 use Rattle.def_bindings.specs.Order.{Order}
 use Rattle.def_bindings.specs.Puts.{IsExplicit, glob_of, offered, put_entry}
 use Rattle.def_bindings.specs.PutsLaws.{explicit_stays-put_entry, explicit_after-put_entry, explicit_from-put_entry, explicit_from-copied}
@@ -17,13 +22,14 @@ use Rattle.def_oracle.specs.Oracle.{Oracle}
 use Rattle.def_globs.specs.Globs.{with_recorded}
 use Rattle.def_rules.specs.Imports.{answer_now, is_foreign}
 use Rattle.def_rules.specs.Recording.{ImportStep}
-use Rattle.def_rules.specs.Settled.{IsDeclared, WasPut}
-use Rattle.def_rules.specs.State.{State, Effect, Event, PutExplicit, Recorded, Import, Moment, order}
+use Rattle.def_rules.specs.Settled.{IsDeclared, NoneTakenOut, WasPut}
+use Rattle.def_rules.specs.State.{State, Effect, Event, PutExplicit, Recorded, TookOut, Import, Moment, order}
 use Rattle.def_rules.specs.Steps.{Copies, Reaches, Step, event_of, put_event}
 use Rattle.def_laws.proofs.ListLaws.{not_empty, split_last}
-use Rattle.def_laws.proofs.MovesLaws.{Move, putting, linking, doing, copying, ordering, sorting, recording, move_of}
+use Rattle.def_laws.proofs.MovesLaws.{Move, putting, linking, taking, doing, copying, ordering, sorting, recording, move_of}
 use Rattle.def_laws.proofs.RunsLaws.{kept_along}
 use Rattle.def_laws.proofs.StaysLaws.{copies_keep}
+use Rattle.def_laws.proofs.TakenLaws.{bound_earlier, bound_elsewhere}
 
 -- an explicit binding stands at the place of one that was put: that one, or one that was put there before
 record Stands (content : Content Visibility) (before : List Event) (at : ModuleId) (name : Name) (ns : Namespace) (held : Binding Visibility) : Type 0 where
@@ -36,17 +42,22 @@ record Stands (content : Content Visibility) (before : List Event) (at : ModuleI
 abbrev StandsFor : Content Visibility → List Event → Event → Type 0
 StandsFor content before (PutExplicit at name ns held) = Stands content before at name ns held
 StandsFor content before (Recorded p foreign) = Unit {0}
+StandsFor content before (TookOut at name function) = Unit {0}
 
 -- each explicit binding was put, and each that was put stands
 record Declares (events : List Event) (content : Content Visibility) : Type 0 where
   known : (at : ModuleId) (name : Name) (ns : Namespace) (held : Binding Visibility) → content.binding at name ns ≡ Some held → IsExplicit held.import → Contains events (PutExplicit at name ns held)
-  declared : (before after : List Event) (at : ModuleId) (name : Name) (ns : Namespace) (held : Binding Visibility) → events ≡ before ++ PutExplicit at name ns held ∷ after
+  declared : (before after : List Event) (at : ModuleId) (name : Name) (ns : Namespace) (held : Binding Visibility) → events ≡ before ++ PutExplicit at name ns held ∷ after → NoneTakenOut after at name ns
       → Stands content before at name ns held
+
+-- of fewer events none takes a function out of a place
+none_before : (rest more after : List Event) → after ≡ rest ++ more → (at : ModuleId) (name : Name) (ns : Namespace) → NoneTakenOut after at name ns → NoneTakenOut rest at name ns
+none_before rest more after is at name ns none values function taken = none values function (subst (λ es. Contains es (TookOut at name function)) (sym is) (Contains-append_left rest more _ taken))
 
 -- what stands, as it is stated of the end
 is_declared : (events : List Event) (content : Content Visibility) → Declares events content → IsDeclared events content
-is_declared events content all before after at name ns held happened =
-    let stands = all.declared before after at name ns held happened in
+is_declared events content all before after at name ns held happened none =
+    let stands = all.declared before after at name ns held happened none in
     (stands.now, stands.is_bound, stands.came)
 
 -- what stands still stands where explicit bindings stay
@@ -55,7 +66,7 @@ still_stands : (old new : Content Visibility) (before : List Event) (at : Module
 still_stands old new before at name ns held stay stands = record { now = stands.now; is_bound = stay stands.now stands.is_bound stands.explicit; explicit = stands.explicit; came = stands.came }
 
 recorded_apart : (events before after : List Event) (p : Import) (foreign : Bool) (at : ModuleId) (name : Name) (ns : Namespace) (held : Binding Visibility)
-    → events ++ Recorded p foreign ∷ [] ≡ before ++ PutExplicit at name ns held ∷ after → (rest : List Event) × (events ≡ before ++ PutExplicit at name ns held ∷ rest)
+    → events ++ Recorded p foreign ∷ [] ≡ before ++ PutExplicit at name ns held ∷ after → (rest : List Event) × (events ≡ before ++ PutExplicit at name ns held ∷ rest) × (after ≡ rest ++ Recorded p foreign ∷ [])
 recorded_apart events before after p foreign at name ns held e =
     elim (split_last events before after (Recorded p foreign) (PutExplicit at name ns held) e) [
       | inl more ↦ more
@@ -67,7 +78,8 @@ declares-recorded : (events : List Event) (content : Content Visibility) (p : Im
 declares-recorded events content p foreign all =
     record {
       known = λ at name ns held there explicit. Contains-append_left events (Recorded p foreign ∷ []) _ (all.known at name ns held there explicit);
-      declared = λ before after at name ns held happened. let earlier = recorded_apart events before after p foreign at name ns held happened in all.declared before earlier.0 at name ns held earlier.1;
+      declared = λ before after at name ns held happened none. let earlier = recorded_apart events before after p foreign at name ns held happened in
+          all.declared before earlier.0 at name ns held earlier.1 (none_before earlier.0 (Recorded p foreign ∷ []) after earlier.2 at name ns none);
     }
 
 -- what is copied is not explicit
@@ -75,7 +87,7 @@ declares-copied : (s : State) (events : List Event) (content : Content Visibilit
 declares-copied s events content copy all =
     record {
       known = λ at name ns held there explicit. all.known at name ns held (explicit_from-copied (order s) copy.source copy.edge copy.slot s.content at name ns held (ap (λ (c : Content Visibility). c.binding at name ns) (sym copy.after) ∙ there) explicit) explicit;
-      declared = λ before after at name ns held happened. still_stands s.content content before at name ns held (λ b there explicit. copies_keep s content copy at name ns b there explicit) (all.declared before after at name ns held happened);
+      declared = λ before after at name ns held happened none. still_stands s.content content before at name ns held (λ b there explicit. copies_keep s content copy at name ns b there explicit) (all.declared before after at name ns held happened none);
     }
 
 module _ (o : Order Visibility) (place : ModuleId) (entry : Entry Visibility) (events : List Event) (c : Content Visibility) (all : Declares events c) where
@@ -86,7 +98,7 @@ module _ (o : Order Visibility) (place : ModuleId) (entry : Entry Visibility) (e
       subst (λ es. Declares es (put_entry o place entry c)) (sym (append-nil events))
       (record {
         known = λ at name ns held there explicit. all.known at name ns held (from at name ns held there explicit) explicit;
-        declared = λ before after at name ns held happened. still_stands c (put_entry o place entry c) before at name ns held (λ b there explicit. explicit_stays-put_entry o place entry c at name ns b there explicit) (all.declared before after at name ns held happened);
+        declared = λ before after at name ns held happened none. still_stands c (put_entry o place entry c) before at name ns held (λ b there explicit. explicit_stays-put_entry o place entry c at name ns b there explicit) (all.declared before after at name ns held happened none);
       })
 
   -- what stands at the place of an explicit entry once it is put
@@ -127,9 +139,10 @@ module _ (o : Order Visibility) (place : ModuleId) (entry : Entry Visibility) (e
               | inl before ↦ Contains-append_left events (event ∷ []) _ (all.known at name ns held before explicit)
               | inr new ↦ subst (λ e. Contains (events ++ event ∷ []) e) (same_event at name ns held new.0 (sym is ∙ new.1) new.2 new.3) (Contains-push events event)
             ];
-        declared = λ before after at name ns held happened.
+        declared = λ before after at name ns held happened none.
             elim (split_last events before after event (PutExplicit at name ns held) happened) [
-              | inl more ↦ still_stands c new_content before at name ns held (λ b there explicit. explicit_stays-put_entry o place entry c at name ns b there explicit) (all.declared before more.0 at name ns held more.1)
+              | inl more ↦ still_stands c new_content before at name ns held (λ b there explicit. explicit_stays-put_entry o place entry c at name ns b there explicit)
+                  (all.declared before more.0 at name ns held more.1 (none_before more.0 (event ∷ []) after more.2 at name ns none))
               | inr last ↦ last_stands before at name ns held last.0 last.1
             ];
       }
@@ -161,8 +174,41 @@ declares-edge events o source edge c all =
     subst (λ es. Declares es (with_recorded o c source edge)) (sym (append-nil events))
     (record {
       known = λ at name ns held there explicit. all.known at name ns held there explicit;
-      declared = λ before after at name ns held happened. still_stands c (with_recorded o c source edge) before at name ns held (λ b there explicit. there) (all.declared before after at name ns held happened);
+      declared = λ before after at name ns held happened none. still_stands c (with_recorded o c source edge) before at name ns held (λ b there explicit. there) (all.declared before after at name ns held happened none);
     })
+
+-- a function that is taken out counts no longer, and all else stands as it did
+module _ (events : List Event) (c : Content Visibility) (at : ModuleId) (name : Name) (function : FunctionId) (all : Declares events c) where
+  abbrev outgoing : Event
+  outgoing = TookOut at name function
+
+  abbrev left : Content Visibility
+  left = without_binding c at name Values
+
+  -- at a place that nothing was taken out of since
+  stays_elsewhere : (rest after : List Event) → after ≡ rest ++ outgoing ∷ [] → (m : ModuleId) (x : Name) (n : Namespace) → NoneTakenOut after m x n
+      → (b : Binding Visibility) → c.binding m x n ≡ Some b → IsExplicit b.import → left.binding m x n ≡ Some b
+  stays_elsewhere rest after is m x n none b there explicit = by (is_same_module at m && (is_name name x && is_namespace Values n)) refl
+    where
+      by : (here : Bool) → (is_same_module at m && (is_name name x && is_namespace Values n)) ≡ here → left.binding m x n ≡ Some b
+      by false apart = bound_elsewhere c at name Values m x n apart ∙ there
+      by true here =
+          let first = and_parts (is_same_module at m) _ here in
+          let second = and_parts (is_name name x) (is_namespace Values n) first.1 in
+          let happened : Contains after outgoing = subst (λ es. Contains es outgoing) (sym is) (Contains-push rest outgoing) in
+          absurd (none (sym (namespace-eq Values n second.1)) function
+          (subst (λ z. Contains after (TookOut z x function)) (same_module_equal at m first.0) (subst (λ z. Contains after (TookOut at z function)) (name-eq name x second.0) happened)))
+
+  declares-taken : Declares (events ++ outgoing ∷ []) left
+  declares-taken =
+      record {
+        known = λ m x n held there explicit. Contains-append_left events (outgoing ∷ []) _ (all.known m x n held (bound_earlier c at name Values m x n held there) explicit);
+        declared = λ before after m x n held happened none.
+            elim (split_last events before after outgoing (PutExplicit m x n held) happened) [
+              | inl more ↦ still_stands c left before m x n held (stays_elsewhere more.0 after more.2 m x n none) (all.declared before more.0 m x n held more.1 (none_before more.0 (outgoing ∷ []) after more.2 m x n none))
+              | inr last ↦ absurd (cc last.1)
+            ];
+      }
 
 -- Each step keeps what is declared
 
@@ -177,6 +223,7 @@ DeclaresAt m = Declares m.events m.state.content
 declares-move : {oracle : Oracle} (a b : Moment) → Move oracle a b → DeclaresAt a → DeclaresAt b
 declares-move a b (putting place entry rest first is) all = subst DeclaresAt (sym is) (declares-put (order a.state) place entry a.events a.state.content all)
 declares-move a b (linking source edge rest first is) all = subst DeclaresAt (sym is) (declares-edge a.events (order a.state) source edge a.state.content all)
+declares-move a b (taking at name function rest held first out there of is) all = subst DeclaresAt (sym is) (declares-taken a.events a.state.content at name function all)
 declares-move a b (doing gone rest scope depth macros expansions deferred effect first still own fewer foot is) all = subst DeclaresAt (sym is) (declares-same a.events effect.events a.state.content effect.state.content foot.events foot.content all)
 declares-move a b (copying content copy is) all = subst DeclaresAt (sym is) (declares-copied a.state a.events content copy all)
 declares-move a b (ordering macros same is) all = subst DeclaresAt (sym is) all
@@ -187,7 +234,7 @@ declares-step : {oracle : Oracle} (a b : Moment) → Step oracle a b → Declare
 declares-step a b step all = declares-move a b (move_of a b step) all
 
 declares_nothing : Declares [] empty
-declares_nothing = record { known = λ at name ns held there explicit. cc; declared = λ before after at name ns held happened. absurd (not_empty before after _ happened) }
+declares_nothing = record { known = λ at name ns held there explicit. cc; declared = λ before after at name ns held happened none. absurd (not_empty before after _ happened) }
 
 declares_along : {oracle : Oracle} {a b : Moment} → Reaches oracle a b → a.events ≡ [] → a.state.content ≡ empty → DeclaresAt b
 declares_along {oracle} {a} {b} r none nothing =

@@ -27,8 +27,12 @@ use Rattle.def_paths.specs.declared.path_result.ResolvePathResult.{ResolvePathRe
 use Rattle.def_globs.proofs.ListLaws.{first_in, in_cases, later_in, none_in, only_in}
 use Rattle.def_rules.specs.declared.deferred.DeferredDerive.{DeferredDerive}
 use Rattle.def_rules.specs.declared.diagnostics.DefDiagnosticKind.{DefDiagnosticKind}
-use Rattle.def_rules.specs.Attributes.{AttrUse, PassesOver, ReadsDerives, ReplacesItem, attr_macro, attr_use, awaited_attr, awaiting, is_helper, item_site}
+use Rattle.def_rules.specs.Attributes.{AttrUse, HasNoExpander, PassesOver, ReadsDerives, ReplacesItem, attr_macro, attr_use, awaited_attr, awaiting, is_helper, item_site}
 use Rattle.def_rules.specs.Calls.{expansion_effect, waiting}
+use Rattle.tree_ids.specs.declared.name.Name.{Name}
+use Rattle.def_ids.specs.declared.ids.FunctionId.{FunctionId}
+use Rattle.def_ids.specs.declared.ids.ModuleId.{ModuleId}
+use Rattle.def_rules.specs.ProcMacros.{taken_out, takes_out}
 use Rattle.def_rules.specs.Deferred.{GiveImpls, deferral, deferred_at, deferred_derive, deferred_in, with_deferred, without_deferred}
 use Rattle.def_rules.specs.Derives.{derive_call, derive_directive, derive_macro, derive_paths, derives_kind, may_derive}
 use Rattle.def_rules.specs.Directives.{ExpansionStep, GivesCall, GivesDerive, MacroStep, Replaces, Stays, Told, Turn, WalksItem, attr_told, call_answer, call_told, called_state, derive_told, given_turn, item_told, list_told, told, told_by, tried_effect, tries, turn_effect, use_told}
@@ -39,7 +43,7 @@ use Rattle.def_rules.specs.Recording.{ImportStep, after_import}
 use Rattle.def_rules.specs.Rules.{Visits, VisitsAt, VisitsEnabled, VisitsNode}
 use Rattle.def_rules.specs.Settled.{IsNoAttribute}
 use Rattle.def_rules.specs.Start.{first_site, first_tasks, first_tree, first_walk, start}
-use Rattle.def_rules.specs.State.{Setting, State, Effect, Moment, Site, Task, Enter, Visit, TryDerive, Put, Bring, AddEdge, world}
+use Rattle.def_rules.specs.State.{Setting, State, Effect, Moment, Site, Task, Enter, Visit, TryDerive, Put, Bring, AddEdge, TakeOut, world}
 use Rattle.def_rules.specs.Steps.{Does, Reaches, Step, performs, copies, reorders, rearranges, records, asks, expands, falls_back}
 use Rattle.def_rules.specs.Waiting.{Attr, Deferrals, Derive, FnLike, MacroDirective, MacroDirectiveKind, WrittenAttr, WrittenCall, WrittenDerive}
 use Rattle.def_laws.specs.Depths.{WaitsAlike}
@@ -126,6 +130,7 @@ module _ (oracle : Oracle) where
   before_one (Put at entry) tasks none = tt
   before_one (Bring from into) tasks none = tt
   before_one (AddEdge source edge) tasks none = tt
+  before_one (TakeOut at name function) tasks none = tt
 
   -- nor do these
   before_more : (xs ys : List Task) → AreNoTries xs → AreBefore ys → AreBefore (xs ++ ys)
@@ -401,6 +406,7 @@ module _ (oracle : Oracle) where
       use_fits PassesOver = (refl, inl refl)
       use_fits ReadsDerives = reads_fits (may_derive (node_at oracle written.tree written.item)) refl
       use_fits ReplacesItem = tt
+      use_fits (HasNoExpander err) = (refl, inl refl)
 
     -- and with what is found of an attribute
     attr_fits : (written : WrittenAttr) (found : Option MacroDefId) → Fits (Attr written) (attr_told oracle s d written found).turn
@@ -506,7 +512,7 @@ module _ (oracle : Oracle) where
     -- an item that is given up keeps it
     falls_awaited : FallbackStep oracle s effect → Kept effect
     falls_awaited step =
-        let alike : WaitsAlike s (attr_reported s step.directive step.written) = record { macros = refl; expansions = refl; deferred = refl } in
+        let alike : WaitsAlike s (attr_reported s step.directive step.written) = record { macros = refl; expansions = refl; deferred = refl; is_proc_macro = refl } in
         subst Kept (sym step.is) (turn_awaited s (attr_reported s step.directive step.written) alike step.before step.directive step.behind step.stands a (WalksItem [] step.written) (step.is_attr, inl refl))
 
     -- an expansion that is walked keeps it
@@ -522,11 +528,18 @@ module _ (oracle : Oracle) where
         subst Kept (sym step.is)
         (awaited_behind _ [] s.macros s.deferred (record_no_tries oracle (after_import s step.directive step.rest answer) step.directive.import answer step.directive.import.written.kind) a)
 
+  -- a function that is taken out keeps it, and one that is not there
+  take_awaited : (s : State) (at : ModuleId) (name : Name) (function : FunctionId) (rest : List Task) (effect : Effect) (takes : Bool) → effect ≡ taken_out s at name function takes
+      → IsAwaited (TakeOut at name function ∷ rest) s → IsAwaited (effect.tasks ++ rest) effect.state
+  take_awaited s at name function rest effect true does a = subst (λ (e : Effect). IsAwaited (e.tasks ++ rest) e.state) (sym does) (awaited_gone (TakeOut at name function) rest s.macros s.deferred (λ p h here. absurd here) a)
+  take_awaited s at name function rest effect false does a = subst (λ (e : Effect). IsAwaited (e.tasks ++ rest) e.state) (sym does) (awaited_gone (TakeOut at name function) rest s.macros s.deferred (λ p h here. absurd here) a)
+
   -- a task that is performed keeps it
   does_awaited : (s : State) (task : Task) (rest : List Task) (effect : Effect) → Does oracle s task effect → IsAwaited (task ∷ rest) s → IsAwaited (effect.tasks ++ rest) effect.state
   does_awaited s (Enter at directory) rest effect does a = subst (λ (e : Effect). IsAwaited (e.tasks ++ rest) e.state) (sym does) (awaited_gone (Enter at directory) rest s.macros s.deferred (λ p h here. absurd here) a)
   does_awaited s (Put at entry) rest effect does a = subst (λ (e : Effect). IsAwaited (e.tasks ++ rest) e.state) (sym does) (awaited_gone (Put at entry) rest s.macros s.deferred (λ p h here. absurd here) a)
   does_awaited s (Bring from into) rest effect does a = subst (λ (e : Effect). IsAwaited (e.tasks ++ rest) e.state) (sym does) (awaited_gone (Bring from into) rest s.macros s.deferred (λ p h here. absurd here) a)
+  does_awaited s (TakeOut at name function) rest effect does a = take_awaited s at name function rest effect (takes_out s at name function) does a
   does_awaited s (AddEdge source edge) rest effect does a = subst (λ (e : Effect). IsAwaited (e.tasks ++ rest) e.state) (sym does) (awaited_gone (AddEdge source edge) rest s.macros s.deferred (λ p h here. absurd here) a)
   does_awaited s (Visit site id) rest effect does a = visit_awaited s site id rest effect a does
   does_awaited s (TryDerive d written) rest effect does a = tries_awaited s d written rest a effect does

@@ -30,7 +30,7 @@ use Rattle.def_globs.specs.Waves.{IsClosedTo, ListsAll}
 use Rattle.def_laws.specs.Followed.{AreFollowed}
 use Rattle.def_laws.specs.Sound.{IsRaisedIn, IsSound}
 use Rattle.def_laws.specs.Own.{Stands}
-use Rattle.def_rules.specs.Targets.{own_module, own_target, target_of}
+use Rattle.def_rules.specs.Targets.{leaves_out, own_module, own_target, target_of}
 use Rattle.def_laws.specs.Performs.{Updated}
 use Rattle.def_rules.specs.Globs.{module_entries, scope_entries}
 use Rattle.def_rules.specs.Recording.{is_own_crate}
@@ -130,7 +130,7 @@ module _ (oracle : Oracle) (s t : State) (glob : EdgeTo Visibility) (source : Mo
         (wave_sources importer slot oracle glob.importer list s t.content updated.travels (AddEdge source glob ∷ []) rest before kept source glob (first_in (AddEdge source glob) rest) to)
 
     -- a place that is kept stays raised where a glob is put and its edge is added
-    pub glob_raised : IsRaisedIn s importer slot → IsRaisedAt (order s) (with_recorded (order s) t.content source glob) importer slot
-    glob_raised raised =
+    pub glob_raised : leaves_out s importer ≡ false → IsRaisedIn s importer slot → IsRaisedAt (order s) (with_recorded (order s) t.content source glob) importer slot
+    glob_raised left raised =
         adding_raised (order s) t.content (with_recorded (order s) t.content source glob) source glob refl importer slot (edge_raised (is_same_map source.map s.map.id) refl)
-        (wave_raised importer slot oracle glob.importer list s t.content updated.travels (AddEdge source glob ∷ []) rest before kept sound raised)
+        (wave_raised importer slot oracle glob.importer list s t.content updated.travels (AddEdge source glob ∷ []) rest before kept left sound raised)

@@ -1,10 +1,11 @@
 -- Each namespace of a recorded import is bound at the end of a run.
-use Rattle.std.proofs.Common.{◌≡◌, ℕ, inl, inr, Bool, true, false, ◌&&◌, ◌||◌, not, is_some, List, [], ◌∷◌, ◌++◌, Contains, IsPermutation, refl, sym, ap, subst, append-nil, arith}
+use Rattle.std.proofs.Common.{◌≡◌, ◌∙◌, ℕ, inl, inr, Bool, true, false, ◌&&◌, ◌||◌, not, is_some, List, [], ◌∷◌, ◌++◌, Contains, IsPermutation, refl, sym, ap, subst, append-nil, arith}
 use Rattle.std.specs.Prelude.{IsSome}
 use Rattle.std.proofs.lemmas.Bool.{and_parts, or_parts}
 use Rattle.std.proofs.lemmas.List.Elements.{Contains-append_left, Contains-append_right, Contains-append_cases}
 use Rattle.std.proofs.lemmas.List.Sorted.{Contains-permutation, IsPermutation-sym}
 use Rattle.tree_ids.specs.declared.name.Name.{Name}
+use Rattle.def_ids.specs.declared.ids.FunctionId.{FunctionId}
 use Rattle.def_ids.specs.declared.ids.ModuleId.{ModuleId}
 use Rattle.def_bindings.specs.declared.bindings.EdgeTo.{EdgeTo}
 use Rattle.def_bindings.specs.declared.bindings.Entry.{Entry}
@@ -13,7 +14,7 @@ use Rattle.def_bindings.specs.declared.bindings.Namespace.TheVariants.{Types, Va
 use Rattle.def_bindings.specs.declared.bindings.Slot.TheVariants.{Named}
 use Rattle.def_bindings.specs.declared.visibility.Visibility.{Visibility}
 use Rattle.def_bindings.specs.Closure.{IsBound}
-use Rattle.def_bindings.specs.Content.{Content}
+use Rattle.def_bindings.specs.Content.{Content, without_binding}
 use Rattle.def_bindings.specs.Puts.{glob_of, put_entry}
 use Rattle.def_bindings.specs.PutsLaws.{bound_stays-copied}
 use Rattle.def_paths.specs.declared.path_result.ResolvePathResult.{ResolvePathResult}
@@ -24,95 +25,121 @@ use Rattle.def_globs.specs.Globs.{with_recorded}
 use Rattle.def_rules.specs.Imports.{answer_now, given_set, is_extended, is_foreign, is_full, is_missing}
 use Rattle.def_rules.specs.Recording.{ImportStep, NoneReady, after_import}
 use Rattle.def_rules.specs.Settled.{HasEveryNamespace}
-use Rattle.def_rules.specs.State.{State, Effect, Event, Recorded, NsSet, Import, ImportDirective, Moment, Task, Put, Rearranges, order, AddEdge}
+use Rattle.def_rules.specs.State.{State, Effect, Event, Recorded, NsSet, Import, ImportDirective, Moment, Task, Put, Rearranges, TakeOut, TookOut, order, AddEdge}
 use Rattle.def_rules.specs.Steps.{Copies, Reaches, Step, put_event}
+use Rattle.def_rules.specs.Targets.{leaves_out}
 use Rattle.def_laws.proofs.FootprintLaws.{Footprint}
-use Rattle.def_laws.proofs.MovesLaws.{AreStill, Move, putting, linking, doing, copying, ordering, sorting, recording, move_of}
+use Rattle.def_laws.proofs.MovesLaws.{AreStill, Move, putting, linking, taking, doing, copying, ordering, sorting, recording, move_of}
 use Rattle.def_laws.proofs.TurnsLaws.{waiting_with}
 use Rattle.def_laws.proofs.RunsLaws.{kept_along}
-use Rattle.def_laws.proofs.ComingLaws.{Covers, HasSet, bound_now, covers-kept, has_ns, keeps_coming, put_keeps, unrecorded, still_ahead, edge_ahead}
+use Rattle.def_laws.proofs.LeftOutLaws.{LeavesAlike, alike_refl, leaves_alike, move_alike}
+use Rattle.def_laws.proofs.ComingLaws.{Covers, HasSet, bound_now, covers-kept, has_ns, keeps_coming, put_keeps, take_keeps, unrecorded, still_ahead, edge_ahead}
 use Rattle.def_laws.proofs.AddedLaws.{none_added, reordered}
 use Rattle.def_laws.proofs.ListLaws.{contains_cases}
 use Rattle.def_laws.proofs.RecordedLaws.{all_ahead, covers-recorded}
 
 -- what was recorded is covered, at a moment
-abbrev CoversAt : Moment → Type 0
-CoversAt m = Covers m.state.imports m.state.content m.tasks m.events
+abbrev CoversAt : (ModuleId → Bool) → Moment → Type 0
+CoversAt left_out m = Covers left_out m.state.imports m.state.content m.tasks m.events
 
 -- at a moment with these tasks
-covers-tasks : (a : Moment) (tasks : List Task) → a.tasks ≡ tasks → CoversAt a → Covers a.state.imports a.state.content tasks a.events
-covers-tasks a tasks same all = subst (λ l. Covers a.state.imports a.state.content l a.events) same all
+covers-tasks : (left_out : ModuleId → Bool) (a : Moment) (tasks : List Task) → a.tasks ≡ tasks → CoversAt left_out a → Covers left_out a.state.imports a.state.content tasks a.events
+covers-tasks left_out a tasks same all = subst (λ l. Covers left_out a.state.imports a.state.content l a.events) same all
 
 -- what is done beside puts and edges leaves all that is covered
-covers-footprint : (s : State) (gone rest : List Task) (scope : ModuleId) (depth : ℕ) (effect : Effect) (events : List Event) → AreStill gone → Footprint s scope depth effect → Covers s.imports s.content (gone ++ rest) events
-    → Covers effect.state.imports effect.state.content (effect.tasks ++ rest) (events ++ effect.events)
-covers-footprint s gone rest scope depth effect events still foot all =
-    subst (λ c. Covers effect.state.imports c (effect.tasks ++ rest) (events ++ effect.events)) (sym foot.content)
-    (subst (λ es. Covers effect.state.imports s.content (effect.tasks ++ rest) (events ++ es)) (sym foot.events)
-    (subst (λ es. Covers effect.state.imports s.content (effect.tasks ++ rest) es) (sym (append-nil events))
-    (covers-kept s.imports effect.state.imports s.content s.content (gone ++ rest) (effect.tasks ++ rest) events events
-    (keeps_coming s.content s.content (gone ++ rest) (effect.tasks ++ rest) (λ at name ns bound. bound) (λ at entry h. still_ahead gone rest effect.tasks still at entry h))
+covers-footprint : (left_out : ModuleId → Bool) (s : State) (gone rest : List Task) (scope : ModuleId) (depth : ℕ) (effect : Effect) (events : List Event) → AreStill gone → Footprint s scope depth effect → Covers left_out s.imports s.content (gone ++ rest) events
+    → Covers left_out effect.state.imports effect.state.content (effect.tasks ++ rest) (events ++ effect.events)
+covers-footprint left_out s gone rest scope depth effect events still foot all =
+    subst (λ c. Covers left_out effect.state.imports c (effect.tasks ++ rest) (events ++ effect.events)) (sym foot.content)
+    (subst (λ es. Covers left_out effect.state.imports s.content (effect.tasks ++ rest) (events ++ es)) (sym foot.events)
+    (subst (λ es. Covers left_out effect.state.imports s.content (effect.tasks ++ rest) es) (sym (append-nil events))
+    (covers-kept left_out s.imports effect.state.imports s.content s.content (gone ++ rest) (effect.tasks ++ rest) events events
+    (keeps_coming left_out s.content s.content (gone ++ rest) (effect.tasks ++ rest) (λ at name ns bound. bound) (λ at entry h. still_ahead gone rest effect.tasks still at entry h))
     foot.imports (λ e h. h) (λ p h. h) all)))
 
-covers-put : (s : State) (place : ModuleId) (entry : Entry Visibility) (rest : List Task) (events : List Event) → Covers s.imports s.content (Put place entry ∷ rest) events
-    → Covers s.imports (put_entry (order s) place entry s.content) rest (events ++ put_event place entry)
-covers-put s place entry rest events all =
-    covers-kept s.imports s.imports s.content (put_entry (order s) place entry s.content) (Put place entry ∷ rest) rest events (events ++ put_event place entry) (put_keeps (order s) place entry s.content rest)
+covers-put : (left_out : ModuleId → Bool) (s : State) (place : ModuleId) (entry : Entry Visibility) (rest : List Task) (events : List Event) → Covers left_out s.imports s.content (Put place entry ∷ rest) events
+    → Covers left_out s.imports (put_entry (order s) place entry s.content) rest (events ++ put_event place entry)
+covers-put left_out s place entry rest events all =
+    covers-kept left_out s.imports s.imports s.content (put_entry (order s) place entry s.content) (Put place entry ∷ rest) rest events (events ++ put_event place entry) (put_keeps left_out (order s) place entry s.content rest)
     (none_added s.imports) (λ e h. Contains-append_left events (put_event place entry) e h)
     (λ p h. elim (Contains-append_cases events (put_event place entry) (Recorded p false) h) [
       | inl before ↦ before
       | inr now ↦ absurd (unrecorded place entry p false (glob_of entry.origin) entry.name now)
     ]) all
 
-covers-edge : (s : State) (source : ModuleId) (edge : EdgeTo Visibility) (rest : List Task) (events : List Event) → Covers s.imports s.content (AddEdge source edge ∷ rest) events
-    → Covers s.imports (with_recorded (order s) s.content source edge) rest (events ++ [])
-covers-edge s source edge rest events all =
-    subst (λ es. Covers s.imports (with_recorded (order s) s.content source edge) rest es) (sym (append-nil events))
-    (covers-kept s.imports s.imports s.content (with_recorded (order s) s.content source edge) (AddEdge source edge ∷ rest) rest events events
-    (keeps_coming s.content (with_recorded (order s) s.content source edge) (AddEdge source edge ∷ rest) rest (λ at name ns bound. bound) (λ at entry h. edge_ahead source edge rest at entry h))
+covers-edge : (left_out : ModuleId → Bool) (s : State) (source : ModuleId) (edge : EdgeTo Visibility) (rest : List Task) (events : List Event) → Covers left_out s.imports s.content (AddEdge source edge ∷ rest) events
+    → Covers left_out s.imports (with_recorded (order s) s.content source edge) rest (events ++ [])
+covers-edge left_out s source edge rest events all =
+    subst (λ es. Covers left_out s.imports (with_recorded (order s) s.content source edge) rest es) (sym (append-nil events))
+    (covers-kept left_out s.imports s.imports s.content (with_recorded (order s) s.content source edge) (AddEdge source edge ∷ rest) rest events events
+    (keeps_coming left_out s.content (with_recorded (order s) s.content source edge) (AddEdge source edge ∷ rest) rest (λ at name ns bound. bound) (λ at entry h. edge_ahead source edge rest at entry h))
     (none_added s.imports) (λ e h. h) (λ p h. h) all)
 
-covers-copied : (s : State) (content : Content Visibility) (tasks : List Task) (events : List Event) → Copies s content → Covers s.imports s.content tasks events → Covers s.imports content tasks events
-covers-copied s content tasks events copy all =
-    covers-kept s.imports s.imports s.content content tasks tasks events events
-    (keeps_coming s.content content tasks tasks (λ at name ns bound. subst (λ c. IsBound c at (Named name ns)) (sym copy.after) (bound_stays-copied (order s) copy.source copy.edge copy.slot s.content at (Named name ns) bound)) (λ at entry h. h))
+covers-copied : (left_out : ModuleId → Bool) (s : State) (content : Content Visibility) (tasks : List Task) (events : List Event) → Copies s content → Covers left_out s.imports s.content tasks events → Covers left_out s.imports content tasks events
+covers-copied left_out s content tasks events copy all =
+    covers-kept left_out s.imports s.imports s.content content tasks tasks events events
+    (keeps_coming left_out s.content content tasks tasks (λ at name ns bound. subst (λ c. IsBound c at (Named name ns)) (sym copy.after) (bound_stays-copied (order s) copy.source copy.edge copy.slot s.content at (Named name ns) bound)) (λ at entry h. h))
     (none_added s.imports) (λ e h. h) (λ p h. h) all
 
-covers-rearranged : (s t : State) (tasks : List Task) (events : List Event) → Rearranges s t → Covers s.imports s.content tasks events → Covers t.imports t.content tasks events
-covers-rearranged s t tasks events same all =
-    covers-kept s.imports t.imports s.content t.content tasks tasks events events
-    (keeps_coming s.content t.content tasks tasks (λ at name ns bound. subst (λ (x : State). IsBound x.content at (Named name ns)) (sym same.rest) bound) (λ at entry h. h))
+covers-rearranged : (left_out : ModuleId → Bool) (s t : State) (tasks : List Task) (events : List Event) → Rearranges s t → Covers left_out s.imports s.content tasks events → Covers left_out t.imports t.content tasks events
+covers-rearranged left_out s t tasks events same all =
+    covers-kept left_out s.imports t.imports s.content t.content tasks tasks events events
+    (keeps_coming left_out s.content t.content tasks tasks (λ at name ns bound. subst (λ (x : State). IsBound x.content at (Named name ns)) (sym same.rest) bound) (λ at entry h. h))
     (reordered s.imports t.imports same.imports) (λ e h. h) (λ p h. h) all
 
-covers-import : (oracle : Oracle) (s : State) (effect : Effect) (events : List Event) → ImportStep oracle s effect → Covers s.imports s.content [] events
-    → Covers effect.state.imports effect.state.content (effect.tasks ++ []) (events ++ effect.events)
-covers-import oracle s effect events step all =
+covers-import : (left_out : ModuleId → Bool) (oracle : Oracle) (s : State) (effect : Effect) (events : List Event) → ImportStep oracle s effect → Covers left_out s.imports s.content [] events
+    → Covers left_out effect.state.imports effect.state.content (effect.tasks ++ []) (events ++ effect.events)
+covers-import left_out oracle s effect events step all =
     let d : ImportDirective = step.directive in
     let answer : ResolvePathResult = answer_now oracle s d.import in
     let back : IsPermutation (d ∷ step.rest) s.imports = IsPermutation-sym s.imports (d ∷ step.rest) step.stands in
     let stands : Contains s.imports d = Contains-permutation (d ∷ step.rest) s.imports d back (Contains-append_left (d ∷ []) step.rest d (0, omega arith, refl)) in
-    subst (λ (e : Effect). Covers e.state.imports e.state.content (e.tasks ++ []) (events ++ e.events)) (sym step.is)
-    (covers-recorded d.import answer _ (all_ahead oracle (after_import s d step.rest answer) d.import answer) d.recorded s.imports step.rest s.content events (all.left d stands)
+    subst (λ (e : Effect). Covers left_out e.state.imports e.state.content (e.tasks ++ []) (events ++ e.events)) (sym step.is)
+    (covers-recorded left_out d.import answer _ (all_ahead oracle (after_import s d step.rest answer) d.import answer) d.recorded s.imports step.rest s.content events (all.left d stands)
     (λ x h. elim (contains_cases d x step.rest (Contains-permutation s.imports (d ∷ step.rest) x step.stands h)) [
       | inl same ↦ inl (ap (λ (y : ImportDirective). y.import) same)
       | inr others ↦ inr others
     ])
     (λ x h. Contains-permutation (d ∷ step.rest) s.imports x back (Contains-append_right (d ∷ []) step.rest x h)) all)
 
-covers-move : {oracle : Oracle} (a b : Moment) → Move oracle a b → CoversAt a → CoversAt b
-covers-move a b (putting place entry rest first is) all = subst CoversAt (sym is) (covers-put a.state place entry rest a.events (covers-tasks a _ first all))
-covers-move a b (linking source edge rest first is) all = subst CoversAt (sym is) (covers-edge a.state source edge rest a.events (covers-tasks a _ first all))
-covers-move a b (doing gone rest scope depth macros expansions deferred effect first still own fewer foot is) all = subst CoversAt (sym is) (covers-footprint (waiting_with a.state macros expansions deferred) gone rest scope depth effect a.events still foot (covers-tasks a _ first all))
-covers-move a b (copying content copy is) all = subst CoversAt (sym is) (covers-copied a.state content a.tasks a.events copy all)
-covers-move a b (ordering macros same is) all = subst CoversAt (sym is) all
-covers-move a b (sorting state same is) all = subst CoversAt (sym is) (covers-rearranged a.state state a.tasks a.events same all)
-covers-move {oracle} a b (recording effect idle step is) all = subst CoversAt (sym is) (covers-import oracle a.state effect a.events step (covers-tasks a [] idle all))
+covers-taken : (left_out : ModuleId → Bool) (s : State) (at : ModuleId) (name : Name) (function : FunctionId) (rest : List Task) (events : List Event) → left_out at ≡ true → Covers left_out s.imports s.content (TakeOut at name function ∷ rest) events
+    → Covers left_out s.imports (without_binding s.content at name Values) rest (events ++ TookOut at name function ∷ [])
+covers-taken left_out s at name function rest events out all =
+    covers-kept left_out s.imports s.imports s.content (without_binding s.content at name Values) (TakeOut at name function ∷ rest) rest events (events ++ TookOut at name function ∷ []) (take_keeps left_out s.content at name Values function rest out)
+    (none_added s.imports) (λ e h. Contains-append_left events (TookOut at name function ∷ []) e h)
+    (λ p h. elim (Contains-append_cases events (TookOut at name function ∷ []) (Recorded p false) h) [
+      | inl before ↦ before
+      | inr now ↦ elim (contains_cases (TookOut at name function) (Recorded p false) [] now) [
+        | inl same ↦ absurd (cc same)
+        | inr none ↦ let wrong = none.1 in absurd (omega arith)
+      ]
+    ]) all
 
-covers-step : {oracle : Oracle} (a b : Moment) → Step oracle a b → CoversAt a → CoversAt b
-covers-step a b step all = covers-move a b (move_of a b step) all
+-- what was recorded is covered, where the same modules are left out as at the start
+record CoversSame (start : State) (m : Moment) : Type 0 where
+  alike : LeavesAlike start m.state
+  covers : CoversAt (leaves_out start) m
 
-covers_nothing : (content : Content Visibility) (tasks : List Task) → Covers [] content tasks []
-covers_nothing content tasks =
+module _ {oracle : Oracle} (start : State) where
+  covers-move : (a b : Moment) → Move oracle a b → CoversSame start a → CoversAt (leaves_out start) b
+  covers-move a b (putting place entry rest first is) all = subst (CoversAt (leaves_out start)) (sym is) (covers-put (leaves_out start) a.state place entry rest a.events (covers-tasks (leaves_out start) a _ first all.covers))
+  covers-move a b (linking source edge rest first is) all = subst (CoversAt (leaves_out start)) (sym is) (covers-edge (leaves_out start) a.state source edge rest a.events (covers-tasks (leaves_out start) a _ first all.covers))
+  covers-move a b (taking at name function rest held first left there of is) all =
+      subst (CoversAt (leaves_out start)) (sym is) (covers-taken (leaves_out start) a.state at name function rest a.events (sym (leaves_alike all.alike at) ∙ left) (covers-tasks (leaves_out start) a _ first all.covers))
+  covers-move a b (doing gone rest scope depth macros expansions deferred effect first still own fewer foot is) all =
+      subst (CoversAt (leaves_out start)) (sym is) (covers-footprint (leaves_out start) (waiting_with a.state macros expansions deferred) gone rest scope depth effect a.events still foot (covers-tasks (leaves_out start) a _ first all.covers))
+  covers-move a b (copying content copy is) all = subst (CoversAt (leaves_out start)) (sym is) (covers-copied (leaves_out start) a.state content a.tasks a.events copy all.covers)
+  covers-move a b (ordering macros same is) all = subst (CoversAt (leaves_out start)) (sym is) all.covers
+  covers-move a b (sorting state same is) all = subst (CoversAt (leaves_out start)) (sym is) (covers-rearranged (leaves_out start) a.state state a.tasks a.events same all.covers)
+  covers-move a b (recording effect idle step is) all = subst (CoversAt (leaves_out start)) (sym is) (covers-import (leaves_out start) oracle a.state effect a.events step (covers-tasks (leaves_out start) a [] idle all.covers))
+
+  covers-step : (a b : Moment) → Step oracle a b → CoversSame start a → CoversSame start b
+  covers-step a b step all =
+      let alike = move_alike a b (move_of a b step) in
+      record { alike = record { is_proc_macro = alike.is_proc_macro ∙ all.alike.is_proc_macro; id = alike.id ∙ all.alike.id }; covers = covers-move a b (move_of a b step) all }
+
+covers_nothing : (left_out : ModuleId → Bool) (content : Content Visibility) (tasks : List Task) → Covers left_out [] content tasks []
+covers_nothing left_out content tasks =
     record {
       left = λ d stands. let none = stands.1 in absurd (omega arith);
       recorded = λ p happened. let none = happened.1 in absurd (omega arith);
@@ -164,8 +191,8 @@ nothing_new true foreign extended is h = absurd cc
 
 -- at the end the set of an import has each namespace that its path gives
 set_has : (oracle : Oracle) (end : Moment) (p : Import) (ns : Namespace) → NoneReady oracle end.state → is_missing (answer_now oracle end.state p) ≡ false → IsSome (in_namespace (answer_now oracle end.state p).resolved_def ns)
-    → (has : HasSet end.state.imports end.state.content end.tasks p) → has_ns has.set ns ≡ true
-set_has oracle end p ns settled found there has =
+    → (left_out : ModuleId → Bool) (has : HasSet left_out end.state.imports end.state.content end.tasks p) → has_ns has.set ns ≡ true
+set_has oracle end p ns settled found there left_out has =
     let answer : ResolvePathResult = answer_now oracle end.state p in
     elim has.stays [
       | inl full ↦ full_has has.set ns full
@@ -180,13 +207,14 @@ bound_is_some content at name ns bound = ap is_some bound.1
 -- where nothing is left to do and no import is ready, each namespace of each recorded import is bound, after a run from nothing
 pub every_namespace_along : {oracle : Oracle} {a b : Moment} → Reaches oracle a b → a.events ≡ [] → a.state.imports ≡ [] → b.tasks ≡ [] → NoneReady oracle b.state → HasEveryNamespace oracle b
 every_namespace_along {oracle} {a} {b} r none nothing done settled p name ns import found there kind =
-    elim (all.recorded p import.recorded) [
+    elim (all.covers.recorded p import.recorded) [
       | inl foreign ↦ absurd (import.own foreign)
-      | inr has ↦ bound_is_some b.state.content p.scope name ns (bound_now b.state.content b.tasks p.scope name ns done (has.each name ns import.name_bound kind (set_has oracle b p ns settled found there has)))
+      | inr has ↦ bound_is_some b.state.content p.scope name ns
+          (bound_now (leaves_out a.state) b.state.content b.tasks p.scope name ns done (sym (leaves_alike all.alike p.scope) ∙ import.elsewhere) (has.each name ns import.name_bound kind (set_has oracle b p ns settled found there (leaves_out a.state) has)))
     ]
   where
-    begins : CoversAt a
-    begins = subst (λ es. Covers a.state.imports a.state.content a.tasks es) (sym none) (subst (λ ps. Covers ps a.state.content a.tasks []) (sym nothing) (covers_nothing a.state.content a.tasks))
+    begins : CoversAt (leaves_out a.state) a
+    begins = subst (λ es. Covers (leaves_out a.state) a.state.imports a.state.content a.tasks es) (sym none) (subst (λ ps. Covers (leaves_out a.state) ps a.state.content a.tasks []) (sym nothing) (covers_nothing (leaves_out a.state) a.state.content a.tasks))
 
-    all : CoversAt b
-    all = kept_along {oracle = oracle} CoversAt (covers-step {oracle = oracle}) r begins
+    all : CoversSame a.state b
+    all = kept_along {oracle = oracle} (CoversSame a.state) (covers-step {oracle = oracle} a.state) r (record { alike = alike_refl a.state; covers = begins })

@@ -4,7 +4,7 @@ use Rattle.def_oracle.specs.Oracle.{Oracle}
 use Rattle.def_rules.specs.State.{State, Effect, Moment}
 use Rattle.def_rules.specs.Steps.{Reaches}
 use Rattle.def_laws.specs.Finished.{NoneFailed}
-use Rattle.def_laws.proofs.MovesLaws.{Move, putting, linking, doing, copying, ordering, sorting, recording, move_of}
+use Rattle.def_laws.proofs.MovesLaws.{Move, putting, linking, taking, doing, copying, ordering, sorting, recording, move_of}
 use Rattle.def_laws.proofs.RunsLaws.{kept_along}
 
 -- no name failed at a moment
@@ -14,6 +14,7 @@ IsUnmarked m = NoneFailed m.state.map
 move_unmarked : {oracle : Oracle} (a b : Moment) → Move oracle a b → IsUnmarked a → IsUnmarked b
 move_unmarked a b (putting at entry rest first is) none = subst IsUnmarked (sym is) none
 move_unmarked a b (linking source edge rest first is) none = subst IsUnmarked (sym is) none
+move_unmarked a b (taking at name function rest held first out there of is) none = subst IsUnmarked (sym is) none
 move_unmarked a b (doing gone rest scope depth macros expansions deferred effect first still own fewer foot is) none = subst IsUnmarked (sym is) (foot.none_failed none)
 move_unmarked a b (copying content copy is) none = subst IsUnmarked (sym is) none
 move_unmarked a b (ordering macros same is) none = subst IsUnmarked (sym is) none

@@ -61,8 +61,8 @@ module _ (oracle : Oracle) (s t u : State) (glob : EdgeTo Visibility) (source : 
       with_edge = record {
         runs = λ rest. runs_trans (runs_wave glob.importer Brought s t.content brought.travels (AddEdge source glob ∷ []) rest) (runs_task (AddEdge source glob) rest wave (only (with_content wave (with_recorded (order wave) wave.content source glob))) refl);
         keeps = λ followed stands sound. glob_sound oracle s wave glob source Brought now own refl stands sound followed;
-        raised = λ rest stands sound before importer slot kept. glob_raised oracle s wave glob source Brought now own refl stands sound rest before importer slot kept.0;
-        waits = record { macros = refl; expansions = refl; deferred = refl };
+        raised = λ rest stands sound before importer slot left kept. glob_raised oracle s wave glob source Brought now own refl stands sound rest before importer slot kept.0 left;
+        waits = record { macros = refl; expansions = refl; deferred = refl; is_proc_macro = refl };
       }
 
 module _ (oracle : Oracle) (s t : State) (p : Import) (answer : ResolvePathResult) where

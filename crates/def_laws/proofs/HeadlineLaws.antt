@@ -1,10 +1,11 @@
 -- What is answered ends a run of the machine.
-use Rattle.std.proofs.Common.{◌≡◌, ◌<◌, ℕ, Bool, true, false, [], refl, sym, subst, ◌∙◌}
+use Rattle.std.proofs.Common.{◌≡◌, ◌<◌, ℕ, Bool, true, false, ◌&&◌, not, is_some, [], refl, sym, ap, subst, ◌∙◌}
 use Rattle.def_interner.specs.Session.{Session}
 use Rattle.def_bindings.specs.Closure.{IsClosed, IsCoherent}
 use Rattle.def_globs.specs.Raised.{IsRaisedAt}
 use Rattle.def_laws.specs.Sound.{IsSoundWith}
-use Rattle.def_rules.specs.Targets.{leaves_out, target_of}
+use Rattle.def_ids.specs.declared.ids.ModuleId.{ModuleId}
+use Rattle.def_rules.specs.Targets.{is_censored, leaves_out, target_of}
 use Rattle.def_rules.specs.Headline.{Answers}
 use Rattle.def_rules.specs.Report.{Answer, with_macro_reports}
 use Rattle.def_laws.specs.Finished.{NoneFailed, IsAtRest, IsFinished}
@@ -14,6 +15,8 @@ use Rattle.def_rules.specs.Start.{first_tasks, seeded_state, start, started}
 use Rattle.def_rules.specs.State.{Setting, State, Moment, order}
 use Rattle.def_laws.specs.Runs.{Collects, HoldRounds, at}
 use Rattle.def_rules.specs.Steps.{Reaches}
+use Rattle.def_laws.proofs.CensoredLaws.{censored_closed, censored_coherent, censored_raised}
+use Rattle.def_laws.proofs.LeftOutLaws.{leaves_alike, left_out_along}
 use Rattle.def_laws.proofs.DeclaredLaws.{declared_along, was_put_along}
 use Rattle.def_laws.proofs.DeferredLeftLaws.{none_deferred_along}
 use Rattle.def_laws.proofs.EveryNamespaceLaws.{every_namespace_along}
@@ -38,10 +41,10 @@ answers w before after answer t limit_met collects rounds holds over rest expand
         local = finished.local;
         outcome = record { imports = finished.outcome.imports; macros = finished.outcome.macros; edges = finished.outcome.edges; targets = finished.outcome.targets };
       };
-      closed = subst (IsClosed (order t) (leaves_out t)) (sym finished.content) ended.sound.closed;
-      coherent = subst (IsCoherent (order t) (leaves_out t) (target_of t.map.id t.targets)) (sym finished.content) ended.sound.coherent;
-      raised = λ importer slot kept. subst (λ c. IsRaisedAt (order t) c importer slot) (sym finished.content)
-          (collects.raised begun.stands begun.sound [] importer slot kept (λ source index edge at. absurd cc));
+      closed = subst (IsClosed (order t) (leaves_out t)) (sym finished.content) (censored_closed t (leaves_out t) ended.sound.closed);
+      coherent = subst (IsCoherent (order t) (leaves_out t) (target_of t.map.id t.targets)) (sym finished.content) (censored_coherent t (leaves_out t) (target_of t.map.id t.targets) ended.sound.coherent);
+      raised = λ importer slot shown kept. subst (λ c. IsRaisedAt (order t) c importer slot) (sym finished.content)
+          (censored_raised t importer slot shown (collects.raised begun.stands begun.sound [] importer slot (kept_in importer shown) kept (λ source index edge at. absurd cc)));
       declared = declared_along runs refl refl;
       was_put = was_put_along runs refl refl;
       explicit_stays = λ a b run. explicit_stays_along run.goes_on;
@@ -56,6 +59,10 @@ answers w before after answer t limit_met collects rounds holds over rest expand
 
     runs : Reaches w.oracle (start w before) end
     runs = (collects.runs []).1
+
+    -- what is not censored at the end was not left out at the start
+    kept_in : (importer : ModuleId) → is_censored t importer ≡ false → leaves_out (started w.oracle w.tree (seeded_state w before)) importer ≡ false
+    kept_in importer shown = sym (leaves_alike (left_out_along runs) importer) ∙ ap (λ is. is && not (is_some t.map.id.block)) shown
 
     settled : IsAtRest w.oracle t → IsSettled w.oracle t
     settled last = record { imports = last.imports; macros = last.macros; attributes = last.attributes; deferred = none_deferred_along w before end runs refl last.attributes }

@@ -8,7 +8,9 @@ pub mod DepthsLaws
 pub mod DeferredLaws
 pub mod FootprintLaws
 pub mod TurnsLaws
+pub mod TakenLaws
 pub mod MovesLaws
+pub mod LeftOutLaws
 pub mod OwnLaws
 pub mod TargetsLaws
 pub mod TasksLaws
@@ -18,6 +20,7 @@ pub mod WaveLaws
 pub mod EdgeLaws
 pub mod BegunLaws
 pub mod StepsLaws
+pub mod ExportedLaws
 pub mod LevelsLaws
 pub mod WorkLaws
 pub mod ImportsLaws
@@ -39,6 +42,7 @@ pub mod RecordedLaws
 pub mod EveryNamespaceLaws
 pub mod PassLaws
 pub mod RoundsLaws
+pub mod CensoredLaws
 pub mod HeadlineLaws
 pub mod GlobsLaws
 pub mod ResultLaws

@@ -31,7 +31,7 @@ use Rattle.def_globs.specs.Waves as Waves
 use Rattle.def_globs.specs.Waves.{def_at, def_or}
 use Rattle.def_globs.proofs.AddingLaws.{in_with_edge}
 use Rattle.def_laws.specs.Own.{AreOwn, AreOwnTasks, IsOwn, IsOwnTask, IsRecorded, IsRecordedFor}
-use Rattle.def_laws.specs.Roles.{Role, puts, links, stays, place_of, role_of}
+use Rattle.def_laws.specs.Roles.{Role, puts, links, takes, stays, place_of, role_of}
 use Rattle.def_rules.specs.Globs.{Targets}
 use Rattle.def_rules.specs.State.{ImportDirective, Task, Put}
 use Rattle.def_laws.proofs.LargerLaws.{own_larger}
@@ -48,6 +48,7 @@ module _ (m m' : MapState) (targets targets' : Targets) (larger : IsLarger m m')
       by_role : (role : Role) → IsRecordedFor targets role → IsRecordedFor targets' role
       by_role (puts at entry) recorded = λ g by. stay g (recorded g by)
       by_role (links source edge) recorded = stay edge.glob recorded
+      by_role (takes at name function) recorded = tt
       by_role stays recorded = tt
 
   -- tasks stay within a map that grows

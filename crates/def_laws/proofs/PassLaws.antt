@@ -31,7 +31,7 @@ use Rattle.def_sources.specs.declared.per_ns.MacroSubNs.TheVariants as sub
 use Rattle.def_paths.specs.Paths.{for_import, resolve, resolver}
 use Rattle.def_globs.proofs.ListLaws.{first_in, later_in}
 use Rattle.def_rules.specs.Calls.{answer_by, deeper, deepest, expansion_effect, expansion_site, expansion_tree, invoking, is_too_deep, with_invocations, with_replaced}
-use Rattle.def_rules.specs.Attributes.{AttrUse, PassesOver, ReadsDerives, ReplacesItem, attr_macro, attr_query, attr_use, is_helper, is_helper_name, item_site}
+use Rattle.def_rules.specs.Attributes.{AttrUse, HasNoExpander, PassesOver, ReadsDerives, ReplacesItem, attr_macro, attr_query, attr_use, is_helper, is_helper_name, item_site}
 use Rattle.def_rules.specs.Deferred.{deferral, deferred_at, deferred_derive, deferred_expansion}
 use Rattle.def_rules.specs.Derives.{derive_call, derive_directive, derive_macro, derive_paths, derive_query, derives_from, may_derive}
 use Rattle.def_rules.specs.declared.diagnostics.DefDiagnosticKind.{DefDiagnosticKind}
@@ -152,6 +152,7 @@ module _ (oracle : Oracle) (s t : State) (only_calls : OnlyInvokes s t) where
     use_turn_same found PassesOver = refl
     use_turn_same found ReadsDerives = list_turn_same found (derive_paths written (may_derive (node_at oracle written.tree written.item)))
     use_turn_same found ReplacesItem = ap (λ q. Replaces (oracle.make_attr_call q)) (query_same found)
+    use_turn_same found (HasNoExpander err) = refl
 
     attr_turn_same : (found : Option MacroDefId) → (attr_told oracle t d written found).turn ≡ (attr_told oracle s d written found).turn
     attr_turn_same None = refl
@@ -215,7 +216,7 @@ module _ (oracle : Oracle) (s : State) (effect : Effect) (turn : TurnFootprint s
   collects_turn = record {
     runs = λ before. (before ++ effect.events, one (step before));
     keeps = λ stands sound. footprint_sound [] u turn.scope turn.depth effect turn.foot (stands_then stands) sound;
-    raised = λ stands sound before importer slot kept raised. footprint_raised [] u turn.scope turn.depth effect turn.foot (stands_then stands) importer slot kept.order raised;
+    raised = λ stands sound before importer slot left kept raised. footprint_raised [] u turn.scope turn.depth effect turn.foot (stands_then stands) importer slot kept.order raised;
   }
 
 -- What waits by its weight
@@ -338,7 +339,7 @@ module _ (oracle : Oracle) (s : State) (d : MacroDirective) (written : WrittenDe
     collects_try = subst (λ (tasks : List Task). Collects oracle (TryDerive d written ∷ rest) s (tasks ++ rest) tried.state) foot.ends (record {
       runs = runs_task (TryDerive d written) rest s tried (ap (tried_effect oracle s d written) (sym is));
       keeps = λ stands sound. footprint_sound (TryDerive d written ∷ rest) beside d.scope d.depth tried (foot.foot d.depth) (try_stands stands) sound;
-      raised = λ stands sound before importer slot kept raised. footprint_raised (TryDerive d written ∷ rest) beside d.scope d.depth tried (foot.foot d.depth) (try_stands stands) importer slot kept.order raised;
+      raised = λ stands sound before importer slot left kept raised. footprint_raised (TryDerive d written ∷ rest) beside d.scope d.depth tried (foot.foot d.depth) (try_stands stands) importer slot kept.order raised;
     })
 
 -- none is tried
@@ -428,6 +429,7 @@ module _ (oracle : Oracle) (s : State) (before : List MacroDirective) (d : Macro
   use_stays written found PassesOver is = absurd (cc is)
   use_stays written found ReadsDerives is = list_stays written found (derive_paths written (may_derive (node_at oracle written.tree written.item))) is
   use_stays written found ReplacesItem is = absurd (cc is)
+  use_stays written found (HasNoExpander err) is = absurd (cc is)
 
   attr_stays : (written : WrittenAttr) (found : Option MacroDefId) → (attr_told oracle s d written found).turn ≡ Stays → OnlyInvokes s (attr_told oracle s d written found).state
   attr_stays written None is = invokes_refl s
@@ -577,7 +579,7 @@ pub collects_ordered : (oracle : Oracle) (s : State) (macros : List MacroDirecti
 collects_ordered oracle s macros same = record {
   runs = λ earlier. (earlier, one (reorders macros same refl));
   keeps = λ stands sound. sound;
-  raised = λ stands sound earlier importer slot kept raised. raised;
+  raised = λ stands sound earlier importer slot left kept raised. raised;
 }
 
 pub ordered_work : (s : State) (macros : List MacroDirective) → IsPermutation s.macros macros → waiting_work (record s { macros = macros }) ≡ waiting_work s
@@ -589,8 +591,8 @@ begins_alike : (oracle : Oracle) (u : State) (e : Expansion) → WaitsAlike u (e
 begins_alike oracle u e = by (is_too_deep u.map e.depth)
   where
     by : (deep : Bool) → WaitsAlike u (cond deep (only u) (followed_by (with_replaced oracle u e) (walk oracle (expansion_site oracle u e) (top_items oracle (expansion_tree e.call))))).state
-    by true = waits_alike refl refl refl
-    by false = waits_alike refl refl refl
+    by true = waits_alike refl refl refl refl
+    by false = waits_alike refl refl refl refl
 
 expansion_lies : (oracle : Oracle) (u : State) (e : Expansion) → e.depth ≤ deepest → AreVisitsBelow (depth_rank e.depth) (expansion_effect oracle u e).tasks
 expansion_lies oracle u e most = by (nat_lt (limit_of u.map.krate) e.depth) (nat_eq e.depth deepest) refl

@@ -8,7 +8,7 @@ use Rattle.def_bindings.specs.Puts.{IsExplicit, Origin, glob_of}
 use Rattle.def_modules.specs.MapState.{MapState}
 use Rattle.def_oracle.specs.Oracle.{Oracle}
 use Rattle.def_laws.specs.Followed.{AreFollowed, IsFollowed}
-use Rattle.def_laws.specs.Roles.{Role, puts, links, stays, role_of}
+use Rattle.def_laws.specs.Roles.{Role, puts, links, takes, stays, role_of}
 use Rattle.def_laws.specs.Own.{AreOwnTasks, IsOwn}
 use Rattle.def_rules.specs.Globs.{Targets}
 use Rattle.def_rules.specs.Items.{ordered, visits, walk}
@@ -18,6 +18,7 @@ use Rattle.def_rules.specs.State.{Site, Task}
 abbrev pub IsPlain : Role → Type 0
 IsPlain (puts at entry) = IsExplicit entry.origin
 IsPlain (links source edge) = ⊥
+IsPlain (takes at name function) = Unit {0}
 IsPlain stays = Unit {0}
 
 -- no task is for a glob
@@ -46,6 +47,7 @@ plain_followed T (task ∷ tasks) h = (by_role (role_of task) h.0, plain_followe
     by_role : (role : Role) → IsPlain role → IsFollowed T role tasks
     by_role (puts at entry) plain = λ g by. absurd (explicit_by entry.origin g plain by)
     by_role (links source edge) plain = absurd plain
+    by_role (takes at name function) plain = tt
     by_role stays plain = tt
 
 plain_visits : (site : Site) (ids : List ModItemId) → ArePlain (visits site ids)

@@ -37,6 +37,9 @@ use Rattle.def_sources.specs.Sources.{World}
 use Rattle.def_globs.proofs.ListLaws.{none_in, only_in}
 use Rattle.def_rules.specs.Calls.{answered_effect, deepest, expansion_at, expansion_effect, expansion_site, expansion_tree, queued, told_effect, waiting, with_invocations, with_replaced}
 use Rattle.def_rules.specs.Crates.{tree_attrs}
+use Rattle.def_ids.specs.declared.ids.FunctionId.{FunctionId}
+use Rattle.def_readings.specs.ProcMacros.{MacroDecl}
+use Rattle.def_rules.specs.ProcMacros.{DeclaresFunction, exported_macro}
 use Rattle.def_rules.specs.ExternCrates.{crate_effect, crate_entry, crate_name, named_crate, naming_crate}
 use Rattle.def_rules.specs.Globs.{module_entries, variant_entries}
 use Rattle.def_rules.specs.Items.{ctor_task, ctor_vis, is_crate_root, position_of, top_items, tree_cfg, visits, walk, written_vis}
@@ -44,7 +47,7 @@ use Rattle.def_rules.specs.Macros.{export_effect, item_effect, item_expander, ma
 use Rattle.def_rules.specs.Modules.{bring_if, file_tree, inline_contents, inner_site, is_macro_use, module_item, name_text, next_module, outline_found, outline_item}
 use Rattle.def_rules.specs.Recording.{edge_tasks, glob_def, glob_edge, glob_tasks, is_own_crate, record_tasks}
 use Rattle.def_rules.specs.Imports.{import_vis}
-use Rattle.def_rules.specs.Rules.{HandlesByKind, Rule, Follows, rule_of, declares, declares_struct, opens_module, opens_block, queues, binds_crate, notes_impl, notes_const, defines_rules, defines_macro, calls_macro}
+use Rattle.def_rules.specs.Rules.{HandlesByKind, Rule, Follows, rule_of, declares, declares_function, declares_struct, opens_module, opens_block, queues, binds_crate, notes_impl, notes_const, defines_rules, defines_macro, calls_macro}
 use Rattle.def_rules.specs.Settled.{IsNoAttribute}
 use Rattle.def_rules.specs.State.{State, Effect, followed_by, only, Import, Site, Put, Task, TryDerive, put_each, world}
 use Rattle.def_rules.specs.Waiting.{Expansion, FnLike, MacroDirective, WrittenCall}
@@ -236,11 +239,17 @@ module _ (oracle : Oracle) (s : State) (site : Site) (item : ItemNode) where
   answered_joins written (Ok answer) = told_joins (with_invocations s site.scope answer.inner) refl refl written answer.value answer.err
   answered_joins written (Err e) = call_joins s s site item written refl refl
 
+  -- a function, whatever it exports
+  function_joins : (name : Name) (vis : Visibility) (function : FunctionId) (exported : Option MacroDecl) (effect : Effect) → DeclaresFunction oracle s site item name vis function exported effect → JoinsCalls s effect
+  function_joins name vis function None effect does = known_joins s effect _ does (none_joins s _ refl refl (tt, tt))
+  function_joins name vis function (Some decl) effect does = known_joins s effect _ does.2 (none_joins s _ refl refl (tt, (tt, (tt, tt))))
+
   -- what each rule does
   follows_joins : (rule : Rule) (effect : Effect) → Follows oracle s site item rule effect → JoinsCalls s effect
   follows_joins (declares kind d ns name raw) effect does = known_joins s effect _ does.2 (none_joins s _ refl refl (tt, tt))
   follows_joins (declares_struct name raw ctor) effect does =
       known_joins s effect _ does.2 (none_joins s _ refl refl (tt, ctor_no_tries name (def.Struct (record { 0 = does.0 })) (written_vis oracle s site.scope raw) (ctor_vis oracle s site.scope ctor)))
+  follows_joins (declares_function name raw) effect does = function_joins name _ (record { 0 = does.0 }) (exported_macro s site item name) effect does.2
   follows_joins (opens_module name raw contents) effect does = known_joins s effect _ does (module_joins name (written_vis oracle s site.scope raw) contents)
   follows_joins (opens_block children) effect does =
       let inner : Site = record site { container = contained.ExternBlock (record { 0 = does.0 }) } in

@@ -60,9 +60,10 @@ union_cases a b Values h = or_cases a.values b.values h
 union_cases a b Macros h = or_cases a.macros b.macros h
 
 -- where nothing was to be done, what is coming is bound, and stays so
-still_coming : (content : Content Visibility) (tasks : List Task) → KeepsComing content [] content tasks
-still_coming content tasks at name ns (inl bound) = inl bound
-still_coming content tasks at name ns (inr ahead) = absurd (none_ahead at name ns ahead)
+still_coming : (left_out : ModuleId → Bool) (content : Content Visibility) (tasks : List Task) → KeepsComing left_out content [] content tasks
+still_coming left_out content tasks at name ns (inl bound) = inl bound
+still_coming left_out content tasks at name ns (inr (inl ahead)) = absurd (none_ahead at name ns ahead)
+still_coming left_out content tasks at name ns (inr (inr out)) = inr (inr out)
 
 one_listed : (keeps : Bool) (entry : Entry Visibility) (name : Name) (ns : Namespace) → keeps ≡ true → entry.name ≡ Some name → entry.ns ≡ ns → IsListed (cond keeps (entry ∷ []) []) name ns
 one_listed true entry name ns kept named within = record { entry = entry; listed = Contains-push [] entry; named = named; within = within }
@@ -116,14 +117,14 @@ ahead_by oracle s p answer kind.Glob is = λ name ns named own keeps given.
 pub all_ahead : (oracle : Oracle) (s : State) (p : Import) (answer : ResolvePathResult) → IsAllAhead (record_tasks oracle s p answer p.written.kind ++ []) p answer
 all_ahead oracle s p answer = ahead_by oracle s p answer p.written.kind refl
 
-module _ (p : Import) (answer : ResolvePathResult) (tasks : List Task) (ahead : IsAllAhead tasks p answer) where
+module _ (left_out : ModuleId → Bool) (p : Import) (answer : ResolvePathResult) (tasks : List Task) (ahead : IsAllAhead tasks p answer) where
   -- what was recorded before and is recorded now is bound or to be put
-  each_union : (content : Content Visibility) (recorded : NsSet) → is_foreign answer ≡ false → HasEach content [] p recorded
-      → HasEach content tasks p (union recorded (given_set answer.resolved_def))
+  each_union : (content : Content Visibility) (recorded : NsSet) → is_foreign answer ≡ false → HasEach left_out content [] p recorded
+      → HasEach left_out content tasks p (union recorded (given_set answer.resolved_def))
   each_union content recorded own each name ns named kind has =
       elim (union_cases recorded (given_set answer.resolved_def) ns has) [
-        | inl before ↦ still_coming content tasks p.scope name ns (each name ns named kind before)
-        | inr now ↦ inr (ahead name ns named own kind now)
+        | inl before ↦ still_coming left_out content tasks p.scope name ns (each name ns named kind before)
+        | inr now ↦ inr (inl (ahead name ns named own kind now))
       ]
 
 -- an import of its own crate that lacks a namespace stays indeterminate
@@ -142,8 +143,8 @@ in_kept p set x false false h =
       | inr none ↦ let wrong = none.1 in absurd (omega arith)
     ]
 
-module _ (p : Import) (answer : ResolvePathResult) (tasks_now : List Task) (ahead : IsAllAhead tasks_now p answer) (recorded : NsSet) (imports rest : List ImportDirective) (content : Content Visibility) (events : List Event) (each : HasEach content [] p recorded)
-    (old : (x : ImportDirective) → Contains imports x → (p ≡ x.import) ⊎ Contains rest x) (back : (x : ImportDirective) → Contains rest x → Contains imports x) (all : Covers imports content [] events) where
+module _ (left_out : ModuleId → Bool) (p : Import) (answer : ResolvePathResult) (tasks_now : List Task) (ahead : IsAllAhead tasks_now p answer) (recorded : NsSet) (imports rest : List ImportDirective) (content : Content Visibility) (events : List Event) (each : HasEach left_out content [] p recorded)
+    (old : (x : ImportDirective) → Contains imports x → (p ≡ x.import) ⊎ Contains rest x) (back : (x : ImportDirective) → Contains rest x → Contains imports x) (all : Covers left_out imports content [] events) where
   abbrev both : NsSet
   both = union recorded (given_set answer.resolved_def)
 
@@ -155,7 +156,7 @@ module _ (p : Import) (answer : ResolvePathResult) (tasks_now : List Task) (ahea
 
   -- what an import is once it was recorded
   abbrev IsRecorded : Import → Type 0
-  IsRecorded q = Contains events_now (Recorded q true) ⊎ HasSet imports_now content tasks_now q
+  IsRecorded q = Contains events_now (Recorded q true) ⊎ HasSet left_out imports_now content tasks_now q
 
   stays_now : (full : Bool) → is_foreign answer ≡ false → is_full both ≡ full → (is_full both ≡ true) ⊎ Contains imports_now (record { import = p; recorded = both })
   stays_now true own is = inl is
@@ -163,12 +164,12 @@ module _ (p : Import) (answer : ResolvePathResult) (tasks_now : List Task) (ahea
 
   new_by : (foreign : Bool) → is_foreign answer ≡ foreign → IsRecorded p
   new_by true is = inl (subst (λ f. Contains (events ++ Recorded p f ∷ []) (Recorded p true)) (sym is) (Contains-push events (Recorded p true)))
-  new_by false is = inr (record { set = both; stays = stays_now (is_full both) is refl; each = each_union p answer tasks_now ahead content recorded is each })
+  new_by false is = inr (record { set = both; stays = stays_now (is_full both) is refl; each = each_union left_out p answer tasks_now ahead content recorded is each })
 
   new : (q : Import) → p ≡ q → IsRecorded q
   new q same = subst IsRecorded same (new_by (is_foreign answer) refl)
 
-  earlier : (q : Import) → HasSet imports content [] q → IsRecorded q
+  earlier : (q : Import) → HasSet left_out imports content [] q → IsRecorded q
   earlier q has =
       elim has.stays [
         | inl full ↦ inr (record { set = has.set; stays = inl full; each = keeps })
@@ -178,14 +179,14 @@ module _ (p : Import) (answer : ResolvePathResult) (tasks_now : List Task) (ahea
         ]
       ]
     where
-      keeps : HasEach content tasks_now q has.set
-      keeps name ns named kind is = still_coming content tasks_now q.scope name ns (has.each name ns named kind is)
+      keeps : HasEach left_out content tasks_now q has.set
+      keeps name ns named kind is = still_coming left_out content tasks_now q.scope name ns (has.each name ns named kind is)
 
-  left_now : (x : ImportDirective) → Contains rest x ⊎ Contains (kept_list p (kept_after recorded answer)) x → HasEach content tasks_now x.import x.recorded
-  left_now x (inl others) = λ name ns named kind has. still_coming content tasks_now x.import.scope name ns (all.left x (back x others) name ns named kind has)
+  left_now : (x : ImportDirective) → Contains rest x ⊎ Contains (kept_list p (kept_after recorded answer)) x → HasEach left_out content tasks_now x.import x.recorded
+  left_now x (inl others) = λ name ns named kind has. still_coming left_out content tasks_now x.import.scope name ns (all.left x (back x others) name ns named kind has)
   left_now x (inr stays) =
       let same = in_kept p both x (is_foreign answer) (is_full both) stays in
-      subst (λ (y : ImportDirective). HasEach content tasks_now y.import y.recorded) same.1 (each_union p answer tasks_now ahead content recorded same.0 each)
+      subst (λ (y : ImportDirective). HasEach left_out content tasks_now y.import y.recorded) same.1 (each_union left_out p answer tasks_now ahead content recorded same.0 each)
 
   recorded_now : (q : Import) → Contains events (Recorded q false) ⊎ (Recorded p (is_foreign answer) ≡ Recorded q false) → IsRecorded q
   recorded_now q (inl before) =
@@ -196,7 +197,7 @@ module _ (p : Import) (answer : ResolvePathResult) (tasks_now : List Task) (ahea
   recorded_now q (inr now) = let same : p ≡ q = cc in new q same
 
   -- an import was recorded with what its path gives
-  pub covers-recorded : Covers (rest ++ kept_list p (kept_after recorded answer)) content tasks_now (events ++ Recorded p (is_foreign answer) ∷ [])
+  pub covers-recorded : Covers left_out (rest ++ kept_list p (kept_after recorded answer)) content tasks_now (events ++ Recorded p (is_foreign answer) ∷ [])
   covers-recorded =
       record {
         left = λ x stands. left_now x (Contains-append_cases rest (kept_list p (kept_after recorded answer)) x stands);

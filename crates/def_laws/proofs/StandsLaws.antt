@@ -3,6 +3,7 @@ use Rattle.std.proofs.Common.{◌≡◌, ◌∙◌, ◌⊎◌, ℕ, List, ◌∷
 use Rattle.std.proofs.lemmas.List.Elements.{Contains-append_cases}
 use Rattle.std.proofs.lemmas.List.Sorted.{Contains-permutation, IsPermutation-sym}
 use Rattle.def_ids.specs.declared.ids.ModuleId.{ModuleId}
+use Rattle.def_bindings.specs.declared.bindings.Namespace.TheVariants.{Values}
 use Rattle.def_modules.specs.MapState.{MapState}
 use Rattle.def_paths.specs.declared.path_result.ResolvePathResult.{ResolvePathResult}
 use Rattle.def_oracle.specs.Oracle.{Oracle}
@@ -16,11 +17,12 @@ use Rattle.def_rules.specs.Steps.{Reaches, Step}
 use Rattle.def_laws.proofs.LargerLaws.{larger_prelude, larger_refl, own_larger}
 use Rattle.def_laws.specs.Depths.{DefersIn, WaitsIn}
 use Rattle.def_laws.proofs.FootprintLaws.{Footprint}
-use Rattle.def_laws.proofs.MovesLaws.{Move, putting, linking, doing, copying, ordering, sorting, recording, move_of}
+use Rattle.def_laws.proofs.MovesLaws.{Move, putting, linking, taking, doing, copying, ordering, sorting, recording, move_of}
 use Rattle.def_laws.proofs.OwnLaws.{own_both, own_copied, own_edge, own_first, own_last, own_put, own_stays, tasks_stay}
 use Rattle.def_laws.proofs.TurnsLaws.{waiting_with}
 use Rattle.def_laws.proofs.RunsLaws.{kept_along}
 use Rattle.def_laws.proofs.SoundLaws.{IsLarger, sound_larger}
+use Rattle.def_laws.proofs.TakenLaws.{own_taken}
 use Rattle.def_laws.proofs.TasksLaws.{record_own, record_sound, record_stays}
 
 -- the first of what is to be done stands alone
@@ -121,6 +123,9 @@ move_stands a b (linking source edge rest first is) st =
     let s : State = a.state in
     let own = stands_with a _ first st in
     subst StandsAt (sym is) (record { state = own_edge s.map s.targets (order s) s.content s.imports own.state source edge own.tasks.0; tasks = own.tasks.1; waiting = own.waiting })
+move_stands a b (taking place name function rest held first out there of is) st =
+    let own = stands_with a _ first st in
+    subst StandsAt (sym is) (record { state = own_taken a.state.content place name Values own.state; tasks = own.tasks.1; waiting = own.waiting })
 move_stands a b (doing gone rest scope depth macros expansions deferred effect first still at fewer foot is) st =
     subst StandsAt (sym is)
     (footprint_stands (waiting_with a.state macros expansions deferred) rest scope depth effect foot (at st)

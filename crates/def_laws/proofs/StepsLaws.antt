@@ -37,6 +37,7 @@ use Rattle.def_laws.specs.Runs.{Collects, Leads}
 use Rattle.def_laws.proofs.DepthsLaws.{lie_both, lie_last, queues_alike, queues_trans, recorded_lies}
 use Rattle.def_laws.proofs.FootprintLaws.{Footprint, VisitFootprint, deferred_with, visits_footprint, waits_alike}
 use Rattle.def_laws.proofs.LargerLaws.{larger_with_module}
+use Rattle.def_laws.proofs.LeftOutLaws.{footprint_alike, leaves_alike, leaves_same, left_out_along}
 use Rattle.def_laws.proofs.PlainLaws.{ArePlain, plain_first, plain_followed}
 use Rattle.def_laws.proofs.RaisedLaws.{raised_larger}
 use Rattle.def_laws.proofs.SoundLaws.{sound_larger, sound_wave}
@@ -47,8 +48,9 @@ use Rattle.def_laws.proofs.WaveLaws.{runs_refl, runs_task, runs_trans, runs_wave
 -- names stay sound where something is done in a module of the map, and places stay raised that the step keeps
 pub footprint_sound : (tasks : List Task) (s : State) (scope : ModuleId) (depth : ℕ) (effect : Effect) → Footprint s scope depth effect → KeepsSound tasks s effect.state
 footprint_sound tasks s scope depth effect foot stands sound =
-    subst (λ t. AreSound (leaves_out s) effect.state.map t effect.state.content) (sym foot.targets)
-    (subst (λ c. AreSound (leaves_out s) effect.state.map s.targets c) (sym foot.content) (sound_larger stands.state sound foot.larger))
+    subst (λ left_out. AreSound left_out effect.state.map effect.state.targets effect.state.content) (sym (leaves_same (footprint_alike s scope depth effect foot)))
+    (subst (λ t. AreSound (leaves_out s) effect.state.map t effect.state.content) (sym foot.targets)
+    (subst (λ c. AreSound (leaves_out s) effect.state.map s.targets c) (sym foot.content) (sound_larger stands.state sound foot.larger)))
 
 pub footprint_raised : (tasks : List Task) (s : State) (scope : ModuleId) (depth : ℕ) (effect : Effect) → Footprint s scope depth effect → Stands tasks s → (importer : ModuleId) (slot : Slot)
     → ((v w : Visibility) → StandsNear s.content importer slot v → StandsNear s.content importer slot w → (order effect.state).at_most v w ≡ (order s).at_most v w)
@@ -70,7 +72,7 @@ stands_visit tasks s deferred fewer stands = record {
 
 -- what waits stays where the imports are put into another order
 rearranged_alike : (s t : State) → Rearranges s t → WaitsAlike s t
-rearranged_alike s t same = subst (WaitsAlike s) (sym same.rest) (waits_alike refl refl refl)
+rearranged_alike s t same = subst (WaitsAlike s) (sym same.rest) (waits_alike refl refl refl refl)
 
 -- an item that is there, and that cfg does not disable
 does_enabled : (oracle : Oracle) (s : State) (site : Site) (id : ModItemId) (item : ItemNode) → node_at oracle site.tree id ≡ Some item → disabled_by item.attrs ≡ None
@@ -87,19 +89,19 @@ module _ {oracle : Oracle} where
 
   -- a run that takes no step
   unfoldable pub collects_refl : (tasks : List Task) (s : State) → Collects oracle tasks s tasks s
-  collects_refl tasks s = record { runs = runs_refl tasks s; keeps = λ stands sound. sound; raised = λ stands sound before importer slot kept raised. raised }
+  collects_refl tasks s = record { runs = runs_refl tasks s; keeps = λ stands sound. sound; raised = λ stands sound before importer slot left kept raised. raised }
 
   pub leads_refl : (tasks : List Task) (s : State) → Leads oracle tasks s tasks s
-  leads_refl tasks s = record { collects = collects_refl tasks s; expansions = refl; deferred = omega arith; queues = λ rank lie. (lie, queues_alike rank s s (waits_alike refl refl refl)) }
+  leads_refl tasks s = record { collects = collects_refl tasks s; expansions = refl; deferred = omega arith; queues = λ rank lie. (lie, queues_alike rank s s (waits_alike refl refl refl refl)) }
 
   -- a run goes on with another
   unfoldable pub collects_trans : {ts us vs : List Task} {s t u : State} → Collects oracle ts s us t → Collects oracle us t vs u → Collects oracle ts s vs u
   collects_trans p q = record {
     runs = runs_trans p.runs q.runs;
     keeps = λ stands sound. q.keeps (stands_along (p.runs []).1 stands) (p.keeps stands sound);
-    raised = λ stands sound before importer slot kept raised.
-        q.raised (stands_along (p.runs before).1 stands) (p.keeps stands sound) (p.runs before).0 importer slot kept.1
-        (p.raised stands sound before importer slot kept.0 raised);
+    raised = λ stands sound before importer slot left kept raised.
+        q.raised (stands_along (p.runs before).1 stands) (p.keeps stands sound) (p.runs before).0 importer slot (leaves_alike (left_out_along (p.runs before).1) importer ∙ left) kept.1
+        (p.raised stands sound before importer slot left kept.0 raised);
   }
 
   pub leads_trans : {ts us vs : List Task} {s t u : State} → Leads oracle ts s us t → Leads oracle us t vs u → Leads oracle ts s vs u
@@ -138,7 +140,7 @@ module _ {oracle : Oracle} where
         collects = record {
           runs = runs_task (Visit site id) rest s effect does;
           keeps = λ stands sound. footprint_sound (Visit site id ∷ rest) u site.scope site.depth effect foot (stands_then stands) sound;
-          raised = λ stands sound before importer slot kept raised. footprint_raised (Visit site id ∷ rest) u site.scope site.depth effect foot (stands_then stands) importer slot kept.order raised;
+          raised = λ stands sound before importer slot left kept raised. footprint_raised (Visit site id ∷ rest) u site.scope site.depth effect foot (stands_then stands) importer slot kept.order raised;
         };
         expansions = foot.queued.expansions;
         deferred = let lighter = visit.lighter in let same = ap deferred_work foot.queued.deferred in omega (arith, lighter, same);
@@ -154,13 +156,13 @@ module _ {oracle : Oracle} where
     collects = record {
       runs = λ before. (before ++ effect.events, one (records effect refl step refl));
       keeps = λ stands sound. import_sound oracle s effect step stands.state sound;
-      raised = λ stands sound before importer slot kept raised. import_raised s effect step importer slot raised;
+      raised = λ stands sound before importer slot left kept raised. import_raised s effect step importer slot raised;
     };
     expansions = ap (λ (e : Effect). e.state.expansions) step.is;
     deferred = same_lighter s effect.state (ap (λ (e : Effect). e.state.deferred) step.is);
     queues = λ rank lie. (
       subst (λ (e : Effect). AreVisitsBelow rank (e.tasks ++ [])) (sym step.is) (recorded_lies oracle rank (after_import s step.directive step.rest (answer_now oracle s step.directive.import)) step.directive.import (answer_now oracle s step.directive.import) step.directive.import.written.kind),
-      queues_alike rank s effect.state (subst (λ (e : Effect). WaitsAlike s e.state) (sym step.is) (waits_alike refl refl refl)),
+      queues_alike rank s effect.state (subst (λ (e : Effect). WaitsAlike s e.state) (sym step.is) (waits_alike refl refl refl refl)),
     );
   }
 
@@ -170,7 +172,7 @@ module _ {oracle : Oracle} where
     collects = record {
       runs = λ before. (before, one (rearranges t same refl));
       keeps = λ stands sound. subst IsSound (sym same.rest) sound;
-      raised = λ stands sound before importer slot kept raised. subst (λ x. IsRaisedIn x importer slot) (sym same.rest) raised;
+      raised = λ stands sound before importer slot left kept raised. subst (λ x. IsRaisedIn x importer slot) (sym same.rest) raised;
     };
     expansions = (rearranged_alike s t same).expansions;
     deferred = same_lighter s t (rearranged_alike s t same).deferred;
@@ -183,8 +185,8 @@ module _ {oracle : Oracle} where
     runs = runs_wave place list s c travels [];
     keeps = λ followed stands sound.
         sound_wave s.map s.targets place list s.content c travels sound (puts_nowhere (target_of s.map.id s.targets) place list (subst (AreFollowed (target_of s.map.id s.targets)) (append-nil (put_each place list)) followed));
-    raised = λ rest stands sound before importer slot kept. wave_raised importer slot oracle place list s c travels [] rest before kept sound;
-    waits = waits_alike refl refl refl;
+    raised = λ rest stands sound before importer slot left kept. wave_raised importer slot oracle place list s c travels [] rest before kept left sound;
+    waits = waits_alike refl refl refl refl;
   }
 
   -- a list was put, and what changed has travelled
@@ -198,14 +200,14 @@ module _ {oracle : Oracle} where
 
   -- nothing is performed
   pub performs_none : (s : State) → Performs oracle [] s s
-  performs_none s = record { runs = λ rest. runs_refl rest s; keeps = λ followed stands sound. sound; raised = λ rest stands sound before importer slot kept raised. raised; waits = waits_alike refl refl refl }
+  performs_none s = record { runs = λ rest. runs_refl rest s; keeps = λ followed stands sound. sound; raised = λ rest stands sound before importer slot left kept raised. raised; waits = waits_alike refl refl refl refl }
 
   -- the imports are put into another order
   pub performs_rearranged : (s t : State) → Rearranges s t → Performs oracle [] s t
   performs_rearranged s t same = record {
     runs = λ rest before. (before, one (rearranges t same refl));
     keeps = λ followed stands sound. subst IsSound (sym same.rest) sound;
-    raised = λ rest stands sound before importer slot kept raised. subst (λ x. IsRaisedIn x importer slot) (sym same.rest) raised;
+    raised = λ rest stands sound before importer slot left kept raised. subst (λ x. IsRaisedIn x importer slot) (sym same.rest) raised;
     waits = rearranged_alike s t same;
   }
 
@@ -215,11 +217,11 @@ module _ {oracle : Oracle} where
     collects = record {
       runs = runs_task (Enter at directory) rest s (only (entered s at directory)) refl;
       keeps = λ stands sound. sound;
-      raised = λ stands sound before importer slot kept raised. raised;
+      raised = λ stands sound before importer slot left kept raised. raised;
     };
     expansions = refl;
     deferred = omega arith;
-    queues = λ rank lie. (lie.1, queues_alike rank s (entered s at directory) (waits_alike refl refl refl));
+    queues = λ rank lie. (lie.1, queues_alike rank s (entered s at directory) (waits_alike refl refl refl refl));
   }
 
   -- textual macros are brought into another module
@@ -230,11 +232,11 @@ module _ {oracle : Oracle} where
         collects = record {
           runs = runs_task (Bring from into) rest s (only t) refl;
           keeps = λ stands sound. sound_larger stands.state sound (larger_with_module s.map into.index (brought (textual_at s.map from.index)));
-          raised = λ stands sound before importer slot kept raised. raised;
+          raised = λ stands sound before importer slot left kept raised. raised;
         };
         expansions = refl;
         deferred = omega arith;
-        queues = λ rank lie. (lie.1, queues_alike rank s t (waits_alike refl refl refl));
+        queues = λ rank lie. (lie.1, queues_alike rank s t (waits_alike refl refl refl refl));
       }
 
   -- a visit is followed by its puts, down to the inner tasks

@@ -22,7 +22,8 @@ use Rattle.def_globs.proofs.ListLaws.{first_in, later_in, only_in}
 use Rattle.def_rules.specs.declared.deferred.DeferredDerive.{DeferredDerive}
 use Rattle.def_rules.specs.declared.diagnostics.DefDiagnostic.{DefDiagnostic}
 use Rattle.def_rules.specs.declared.diagnostics.DefDiagnosticKind.{DefDiagnosticKind}
-use Rattle.def_rules.specs.Attributes.{AttrUse, PassesOver, ReadsDerives, ReplacesItem, activated, attr_macro, attr_query, attr_use, directive_reported, is_helper, item_site}
+use Rattle.def_rules.specs.declared.diagnostics.DefDiagnosticKind.TheVariants.{MacroError}
+use Rattle.def_rules.specs.Attributes.{AttrUse, HasNoExpander, PassesOver, ReadsDerives, ReplacesItem, activated, attr_macro, attr_query, attr_use, directive_reported, is_helper, item_site}
 use Rattle.def_rules.specs.Deferred.{deferral, deferred_at, deferred_derive, deferred_expansion, expanding_deferred}
 use Rattle.def_rules.specs.Derives.{derive_call, derive_directive, derive_macro, derive_paths, derived, may_derive}
 use Rattle.def_rules.specs.Directives.{ExpansionStep, GivesCall, GivesDerive, MacroStep, Replaces, Stays, Turn, WalksItem, attr_told, call_answer, call_told, called_state, derive_told, expanding, expansion_of, given_state, item_told, list_told, replaced_state, told, told_by, tried_effect, tries, turn_effect, use_told, walked_state}
@@ -78,16 +79,16 @@ pub record IsToldOf (s t : State) : Type 0 where
   pub clean : NoneFailed s.map → NoneFailed t.map
 
 told_still : (s : State) → IsToldOf s s
-told_still s = record { content = refl; targets = refl; imports = refl; waits = waits_alike refl refl refl; larger = larger_refl s.map; clean = λ none. none }
+told_still s = record { content = refl; targets = refl; imports = refl; waits = waits_alike refl refl refl refl; larger = larger_refl s.map; clean = λ none. none }
 
 -- what may differ of an attribute that was told
 told_noted : (s : State) (active : InFile FileAstId → List AttrId) (diagnostics : List DefDiagnostic) → IsToldOf s (record s { active = active; diagnostics = diagnostics })
-told_noted s active diagnostics = record { content = refl; targets = refl; imports = refl; waits = waits_alike refl refl refl; larger = larger_refl s.map; clean = λ none. none }
+told_noted s active diagnostics = record { content = refl; targets = refl; imports = refl; waits = waits_alike refl refl refl refl; larger = larger_refl s.map; clean = λ none. none }
 
 module _ (oracle : Oracle) (s : State) (d : MacroDirective) where
   call_same : (answer : Result CallAnswer UnresolvedMacro) → IsToldOf s (call_told s d answer).state
   call_same (Ok answer) =
-      record { content = refl; targets = refl; imports = refl; waits = waits_alike refl refl refl; larger = larger_invoking d.scope.index answer.inner s.map; clean = λ none. none_failed-invoking d.scope.index answer.inner s.map none }
+      record { content = refl; targets = refl; imports = refl; waits = waits_alike refl refl refl refl; larger = larger_invoking d.scope.index answer.inner s.map; clean = λ none. none_failed-invoking d.scope.index answer.inner s.map none }
   call_same (Err unresolved) = told_still s
 
   module _ (written : WrittenAttr) where
@@ -99,7 +100,7 @@ module _ (oracle : Oracle) (s : State) (d : MacroDirective) where
           content = refl;
           targets = refl;
           imports = refl;
-          waits = waits_alike refl refl refl;
+          waits = waits_alike refl refl refl refl;
           larger = larger_with_module s.map d.scope.index recorded;
           clean = none_failed-with_module s.map d.scope.index recorded (λ e h. h);
         }
@@ -109,6 +110,7 @@ module _ (oracle : Oracle) (s : State) (d : MacroDirective) where
     use_same found PassesOver = told_still s
     use_same found ReadsDerives = list_same found (derive_paths written (may_derive (node_at oracle written.tree written.item)))
     use_same found ReplacesItem = told_noted s (activated s d.position written.id).active s.diagnostics
+    use_same found (HasNoExpander err) = told_noted s s.active (directive_reported s d (MacroError written.attr.path err)).diagnostics
 
     attr_same : (found : Option MacroDefId) → IsToldOf s (attr_told oracle s d written found).state
     attr_same None = told_still s
@@ -122,7 +124,7 @@ module _ (oracle : Oracle) (s : State) (d : MacroDirective) where
   derive_same written None = told_still s
   derive_same written (Some found) =
       let call : MacroCallId = derive_call oracle s d written found in
-      record { content = refl; targets = refl; imports = refl; waits = waits_alike refl refl refl; larger = larger_derived oracle s.map d written found call; clean = none_failed-derived oracle s.map d written found call }
+      record { content = refl; targets = refl; imports = refl; waits = waits_alike refl refl refl refl; larger = larger_derived oracle s.map d written found call; clean = none_failed-derived oracle s.map d written found call }
 
   told_by_same : (kind : MacroDirectiveKind) → IsToldOf s (told_by oracle s d kind).state
   told_by_same (FnLike written) = call_same (call_answer oracle s d written)
@@ -175,7 +177,7 @@ module _ (oracle : Oracle) (s : State) (d : MacroDirective) (written : WrittenDe
             | inr deferred ↦ inl (inr (inr deferred))
           ]
         ];
-        foot = λ depth. map_footprint (waiting_with s s.macros (s.expansions ++ e ∷ []) s.deferred) d.scope depth t [] refl refl refl (waits_alike refl refl refl)
+        foot = λ depth. map_footprint (waiting_with s s.macros (s.expansions ++ e ∷ []) s.deferred) d.scope depth t [] refl refl refl (waits_alike refl refl refl refl)
             (larger_derived oracle s.map d written found call) (none_failed-derived oracle s.map d written found call) (λ targets own. tt) tt (λ rank low. tt);
         ends = refl;
       }
@@ -193,7 +195,7 @@ module _ (oracle : Oracle) (s : State) (d : MacroDirective) (written : WrittenDe
             | inr deferred ↦ elim (deferring_in s d.position x at deferred) [ inl old ↦ inl (inr (inr old)) | inr new ↦ inr new ]
           ]
         ];
-        foot = λ depth. map_footprint (waiting_with s s.macros s.expansions t.deferred) d.scope depth t [] refl refl refl (waits_alike refl refl refl)
+        foot = λ depth. map_footprint (waiting_with s s.macros s.expansions t.deferred) d.scope depth t [] refl refl refl (waits_alike refl refl refl refl)
             (larger_shown oracle s.map d found call) (none_failed-shown oracle s.map d found call) (λ targets own. tt) tt (λ rank low. tt);
         ends = refl;
       }
@@ -242,7 +244,7 @@ module _ (oracle : Oracle) (s : State) (effect : Effect) where
           ]
         ];
         foot = subst (λ e. Footprint u step.expansion.scope step.expansion.depth e) (sym step.is)
-            (expanded_footprint oracle u step.expansion.scope step.expansion.depth u step.expansion refl refl refl refl (waits_alike refl refl refl) (larger_refl u.map) (λ none. none) (omega arith));
+            (expanded_footprint oracle u step.expansion.scope step.expansion.depth u step.expansion refl refl refl refl (waits_alike refl refl refl refl) (larger_refl u.map) (λ none. none) (omega arith));
       }
 
   -- what waits leaves or stays, in a state that was told of it
@@ -323,7 +325,7 @@ module _ (oracle : Oracle) (s : State) (effect : Effect) where
           waits = here;
           fewer = given_waits call;
           foot = subst (λ e. Footprint u d.scope d.depth e) (sym does)
-              (map_footprint u d.scope d.depth t [] same.content same.targets same.imports (waits_alike refl (ap (λ es. es ++ expansion_of d call ∷ []) same.waits.expansions) same.waits.deferred)
+              (map_footprint u d.scope d.depth t [] same.content same.targets same.imports (waits_alike refl (ap (λ es. es ++ expansion_of d call ∷ []) same.waits.expansions) same.waits.deferred same.waits.is_proc_macro)
               (larger_trans s.map now.map t.map same.larger (larger_invoking d.scope.index made now.map))
               (λ none. none_failed-invoking d.scope.index made now.map (same.clean none)) (λ targets own. tt) tt (λ rank low. tt));
         }
@@ -340,7 +342,7 @@ module _ (oracle : Oracle) (s : State) (effect : Effect) where
           waits = here;
           fewer = given_waits call;
           foot = subst (λ e. Footprint u d.scope d.depth e) (sym does)
-              (map_footprint u d.scope d.depth t [] same.content same.targets same.imports (waits_alike refl (ap (λ es. es ++ expansion_of d call ∷ []) same.waits.expansions) same.waits.deferred)
+              (map_footprint u d.scope d.depth t [] same.content same.targets same.imports (waits_alike refl (ap (λ es. es ++ expansion_of d call ∷ []) same.waits.expansions) same.waits.deferred same.waits.is_proc_macro)
               same.larger same.clean (λ targets own. tt) tt (λ rank low. tt));
         }
     turn (Replaces call) does =
@@ -360,7 +362,7 @@ module _ (oracle : Oracle) (s : State) (effect : Effect) where
           fewer = replaced_waits call;
           foot = subst (λ e. Footprint u d.scope d.depth e) (sym does)
               (map_footprint u d.scope d.depth t [] same.content same.targets same.imports
-              (waits_alike refl (ap (λ es. es ++ expansion_of d call ∷ []) told_freed) (ap (λ es. swap_remove_entry (position_eq d.position) es) same.waits.deferred))
+              (waits_alike refl (ap (λ es. es ++ expansion_of d call ∷ []) told_freed) (ap (λ es. swap_remove_entry (position_eq d.position) es) same.waits.deferred) same.waits.is_proc_macro)
               (larger_trans s.map now.map t.map same.larger (larger_invoking d.scope.index made now.map))
               (λ none. none_failed-invoking d.scope.index made now.map (same.clean none)) (λ targets own. tt) tt (λ rank low. tt));
         }
@@ -377,7 +379,7 @@ module _ (oracle : Oracle) (s : State) (effect : Effect) where
           waits = here;
           fewer = λ at waits. elim waits [ inl macro ↦ inl (macro.0, waited macro.0 macro.1, macro.2) | inr later ↦ inr later ];
           foot = subst (λ e. Footprint u d.scope d.depth e) (sym does)
-              (map_footprint u d.scope d.depth t (tries d derives ++ Visit site written.item ∷ []) same.content same.targets same.imports (waits_alike refl same.waits.expansions same.waits.deferred) same.larger same.clean
+              (map_footprint u d.scope d.depth t (tries d derives ++ Visit site written.item ∷ []) same.content same.targets same.imports (waits_alike refl same.waits.expansions same.waits.deferred same.waits.is_proc_macro) same.larger same.clean
               (λ targets own. own_both t.map targets (tries d derives) (Visit site written.item ∷ []) (tries_own t.map targets d own derives) ((own, tt), tt))
               (plain_both (tries d derives) (Visit site written.item ∷ []) (tries_plain d derives) (tt, tt))
               (λ rank low. lie_both rank (tries d derives) (Visit site written.item ∷ []) (tries_lie rank d derives) (low, tt)));

@@ -1,5 +1,5 @@
 -- A list that is put and travels, as a run: what such a run keeps, and that places stay raised along it.
-use Rattle.std.proofs.Common.{◌≡◌, ℕ, List, [], ◌∷◌, ◌++◌, Contains, Some, slice_get, refl, sym, ap, ◌∙◌, subst}
+use Rattle.std.proofs.Common.{◌≡◌, ℕ, false, List, [], ◌∷◌, ◌++◌, Contains, Some, slice_get, refl, sym, ap, ◌∙◌, subst}
 use Rattle.def_ids.specs.declared.ids.Def.{Def}
 use Rattle.def_ids.specs.declared.ids.ModuleId.{ModuleId}
 use Rattle.def_bindings.specs.declared.bindings.Binding.{Binding}
@@ -123,5 +123,5 @@ module _ (importer : ModuleId) (slot : Slot) where
       wave_sources source edge ahead to = of_copies.1 source edge ahead to ∙ of_puts.sources source edge ahead to
 
       -- and it stays raised
-      pub wave_raised : IsSound s → IsRaisedIn s importer slot → IsRaisedIn (with_content s c) importer slot
-      wave_raised sound raised = travels.raised (leaves_out s) sound.closed importer slot refl wave_keeps of_puts.defs raised
+      pub wave_raised : leaves_out s importer ≡ false → IsSound s → IsRaisedIn s importer slot → IsRaisedIn (with_content s c) importer slot
+      wave_raised left sound raised = travels.raised (leaves_out s) sound.closed importer slot left wave_keeps of_puts.defs raised

@@ -40,7 +40,10 @@ use Rattle.def_rules.specs.ExternCrates.{crate_effect, crate_name, named_crate}
 use Rattle.def_rules.specs.Items.{crates_first, ctor_task, is_crate_root, names_crate, node_at, noted_in, ordered, position_of, top_items, tree_cfg, visits, walk, written_vis}
 use Rattle.def_rules.specs.Macros.{export_effect, macros_brought, rules_expander, textual_state, unimplemented_reported}
 use Rattle.def_rules.specs.Modules.{bring_if, file_tree, inline_contents, inner_site, is_macro_use, module_item, name_text, next_module, outline_found, outline_item}
-use Rattle.def_rules.specs.Rules.{Rule, Follows, rule_of, declares, declares_struct, opens_module, opens_block, queues, binds_crate, notes_impl, notes_const, defines_rules, defines_macro, calls_macro}
+use Rattle.def_ids.specs.declared.ids.FunctionId.{FunctionId}
+use Rattle.def_readings.specs.ProcMacros.{MacroDecl}
+use Rattle.def_rules.specs.ProcMacros.{DeclaresFunction, exported_macro}
+use Rattle.def_rules.specs.Rules.{Rule, Follows, rule_of, declares, declares_function, declares_struct, opens_module, opens_block, queues, binds_crate, notes_impl, notes_const, defines_rules, defines_macro, calls_macro}
 use Rattle.def_rules.specs.State.{State, Effect, followed_by, only, Site, Task, Visit}
 use Rattle.def_rules.specs.Waiting.{WrittenCall}
 use Rattle.def_laws.specs.Performs.{IsHandled}
@@ -237,6 +240,10 @@ module _ (oracle : Oracle) (s : State) (site : Site) (id : ModItemId) (item : It
   same : (e f : Effect) → e ≡ f → AreBelow (rank site id) f.tasks → AreBelow (rank site id) e.tasks
   same e f is below = subst (λ (x : Effect). AreBelow (rank site id) x.tasks) (sym is) below
 
+  function_below : (name : Name) (vis : Visibility) (function : FunctionId) (exported : Option MacroDecl) (effect : Effect) → DeclaresFunction oracle s site item name vis function exported effect → AreBelow (rank site id) effect.tasks
+  function_below name vis function None effect does = same effect _ does (tt, tt)
+  function_below name vis function (Some decl) effect does = same effect _ does.2 (tt, (tt, (tt, tt)))
+
   follows_below : id.0 < 2 ^ 64 → (rule : Rule) → All (λ c. id.0 < c.0) (block_items rule) → (effect : Effect) → Follows oracle s site item rule effect → AreBelow (rank site id) effect.tasks
   follows_below small (opens_module name raw contents) later effect does = same effect _ does (contents_below name (written_vis oracle s site.scope raw) contents)
   follows_below small (opens_block children) later effect does =
@@ -248,6 +255,7 @@ module _ (oracle : Oracle) (s : State) (site : Site) (id : ModItemId) (item : It
       same effect _ does.2
       (crate_below (noted_in s site.scope (with_extern_crate (record { 0 = does.0 }))) (record { 0 = does.0 }) (crate_name name alias) (written_vis oracle s site.scope raw)
       (macros_brought oracle s item name (named_crate s name)) (named_crate s name))
+  follows_below small (declares_function name raw) later effect does = function_below name _ (record { 0 = does.0 }) (exported_macro s site item name) effect does.2
   follows_below small (declares kind d ns name raw) later effect does = same effect _ does.2 (tt, tt)
   follows_below small (queues raw imports) later effect does = same effect _ does.2 tt
   follows_below small (notes_impl of_trait) later effect does = same effect _ does.2 tt

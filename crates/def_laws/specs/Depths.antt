@@ -43,11 +43,12 @@ pub record Queues (rank : ℕ) (s t : State) : Type 0 where
   pub macros : t.macros ≡ s.macros ++ more
   pub lower : (d : MacroDirective) → Contains more d → macro_rank d < rank
 
--- the same waits in two states
+-- the same waits in two states, of crates of one kind
 pub record WaitsAlike (s t : State) : Type 0 where
   pub macros : t.macros ≡ s.macros
   pub expansions : t.expansions ≡ s.expansions
   pub deferred : t.deferred ≡ s.deferred
+  pub is_proc_macro : t.is_proc_macro ≡ s.is_proc_macro
 
 -- a derive is deferred in a module
 abbrev pub DefersIn : Deferrals → ModuleId → Type 0

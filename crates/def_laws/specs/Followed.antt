@@ -4,12 +4,13 @@ use Rattle.def_ids.specs.declared.ids.GlobId.{GlobId}
 use Rattle.def_ids.specs.declared.ids.ModuleId.{ModuleId}
 use Rattle.def_bindings.specs.declared.bindings.ImportOrExternCrate.TheVariants.{Glob}
 use Rattle.def_rules.specs.State.{Task}
-use Rattle.def_laws.specs.Roles.{Role, puts, links, stays, role_of, adds_edge}
+use Rattle.def_laws.specs.Roles.{Role, puts, links, takes, stays, role_of, adds_edge}
 
 -- what a task is followed by, by its role: where a glob leads to a module, its puts are followed by an edge, which begins there
 abbrev pub IsFollowed : (GlobId → Option ModuleId) → Role → List Task → Type 0
 IsFollowed target_of (puts at entry) tasks = (glob : GlobId) → entry.origin ≡ Some (Glob glob) → (target_of glob ≡ None) ⊎ (adds_edge tasks ≡ true)
 IsFollowed target_of (links source edge) tasks = (target : ModuleId) → target_of edge.glob ≡ Some target → source ≡ target
+IsFollowed target_of (takes at name function) tasks = Unit {0}
 IsFollowed target_of stays tasks = Unit {0}
 
 -- each task is followed so

@@ -18,7 +18,7 @@ use Rattle.def_globs.specs.Waves.{HoldsBy}
 use Rattle.def_rules.specs.Globs.{Targets}
 use Rattle.def_rules.specs.State.{State, ImportDirective, Task}
 use Rattle.def_laws.specs.Depths.{WaitsIn}
-use Rattle.def_laws.specs.Roles.{Role, puts, links, stays, role_of, place_of}
+use Rattle.def_laws.specs.Roles.{Role, puts, links, takes, stays, role_of, place_of}
 
 -- a module of this map
 abbrev pub IsOwn : MapState → ModuleId → Type 0
@@ -44,6 +44,7 @@ pub record AreOwn (m : MapState) (targets : Targets) (c : Content Visibility) (d
 abbrev pub IsRecordedFor : Targets → Role → Type 0
 IsRecordedFor targets (puts at entry) = (glob : GlobId) → entry.origin ≡ Some (Glob glob) → IsRecorded targets glob
 IsRecordedFor targets (links source edge) = IsRecorded targets edge.glob
+IsRecordedFor targets (takes at name function) = Unit {0}
 IsRecordedFor targets stays = Unit {0}
 
 -- a task is done in a module of this map, and for no glob that was not recorded

@@ -1,5 +1,5 @@
 -- Runs from some tasks to others, and what they keep.
-use Rattle.std.specs.Prelude.{◌≡◌, ◌≤◌, ℕ, Bool, List, []}
+use Rattle.std.specs.Prelude.{◌≡◌, ◌≤◌, ℕ, Bool, false, List, []}
 use Rattle.def_ids.specs.declared.ids.ModuleId.{ModuleId}
 use Rattle.def_bindings.specs.declared.bindings.Slot.{Slot}
 use Rattle.def_oracle.specs.Oracle.{Oracle}
@@ -8,6 +8,7 @@ use Rattle.def_laws.specs.Depths.{AreVisitsBelow, Queues, deferred_work}
 use Rattle.def_laws.specs.Sound.{IsRaisedIn, IsSound, KeepsSound}
 use Rattle.def_laws.specs.Own.{Stands}
 use Rattle.def_rules.specs.Steps.{Reaches, IsKeptAlong}
+use Rattle.def_rules.specs.Targets.{leaves_out}
 use Rattle.def_rules.specs.Rounds.{InRound, IsRound, Rounds}
 use Rattle.def_rules.specs.Waiting.{MacroDirective}
 
@@ -19,9 +20,9 @@ at tasks state events = record { tasks = tasks; state = state; events = events }
 abbrev pub Runs : Oracle → List Task → State → List Task → State → Type 0
 Runs oracle tasks s tasks' t = (before : List Event) → (now : List Event) × Reaches oracle (at tasks s before) (at tasks' t now)
 
--- a place that no edge would raise stays so, where each step of the run keeps it
+-- a place that no edge would raise stays so, where each step of the run keeps it, and its module is not left out
 abbrev pub StaysRaised : {oracle : Oracle} {tasks : List Task} {s : State} {tasks' : List Task} {t : State} → Runs oracle tasks s tasks' t → Type 0
-StaysRaised {s = s} {t = t} runs = (before : List Event) (importer : ModuleId) (slot : Slot) → IsKeptAlong (runs before).1 importer slot
+StaysRaised {s = s} {t = t} runs = (before : List Event) (importer : ModuleId) (slot : Slot) → leaves_out s importer ≡ false → IsKeptAlong (runs before).1 importer slot
     → IsRaisedIn s importer slot → IsRaisedIn t importer slot
 
 -- so does a run of whole waves: names that are closed and coherent along the globs stay so, and places stay raised

@@ -1,1 +1,3 @@
+mod CensoredLemmas
 pub mod MacrosLemmas
+pub mod ProcMacrosLemmas

@@ -1,2 +1,4 @@
+pub mod Censored
 pub mod Numbered
+pub mod ProcMacros
 pub mod Shown

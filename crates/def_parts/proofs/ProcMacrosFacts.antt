@@ -5,7 +5,7 @@ use Rattle.item_tree.specs.declared.tt.Leaf.TheVariants.{Ident, Punct}
 use Rattle.item_tree.specs.TokenTrees.{TtElement, token, group, no_trees, leaf, TokenTrees}
 use Rattle.item_tree.specs.KnownNames.{attributes_name}
 use Rattle.def_readings.specs.DeriveNames.{name_and_helpers}
-use Rattle.def_parts.specs.ProcMacros.{derive_macro, derive}
+use Rattle.def_readings.specs.ProcMacros.{derive_macro, derive}
 
 abbrev name : ℕ → Name
 name n = record { 0 = n }

@@ -16,9 +16,11 @@ use Rattle.item_tree.specs.Paths.{as_ident}
 use Rattle.def_ids.specs.declared.ids.ModuleId.{ModuleId}
 use Rattle.def_ids.specs.declared.expander.BuiltinAttr.{BuiltinAttr}
 use Rattle.def_ids.specs.declared.expander.BuiltinAttr.TheVariants.{Test, Bench, TestCase, Derive, Other}
+use Rattle.def_ids.specs.declared.expander.CustomProcMacroExpander.{CustomProcMacroExpander}
+use Rattle.def_ids.specs.declared.expander.CustomProcMacroExpander.TheVariants.{Id, Missing, Disabled, DisabledAttr}
 use Rattle.def_interner.specs.declared.macro_def.MacroDefId.{MacroDefId}
 use Rattle.def_interner.specs.declared.macro_def.MacroDefKind.{MacroDefKind}
-use Rattle.def_interner.specs.declared.macro_def.MacroDefKind.TheVariants.{BuiltInAttr}
+use Rattle.def_interner.specs.declared.macro_def.MacroDefKind.TheVariants.{BuiltInAttr, ProcMacro}
 use Rattle.def_interner.specs.MacroKinds.{is_attribute}
 use Rattle.def_bindings.specs.Content.{is_listed}
 use Rattle.def_modules.specs.Equality.{file_eq, position_eq}
@@ -32,6 +34,8 @@ use Rattle.def_paths.specs.OuterMaps.{is_plain}
 use Rattle.def_paths.specs.Paths.{resolver}
 use Rattle.def_sources.specs.Sources.{World}
 use Rattle.def_rules.specs.declared.diagnostics.DefDiagnosticKind.{DefDiagnosticKind}
+use Rattle.def_rules.specs.declared.diagnostics.ExpandErrorKind.{ExpandErrorKind}
+use Rattle.def_rules.specs.declared.diagnostics.ExpandErrorKind.TheVariants.{MissingProcMacroExpander, MacroDisabled, ProcMacroAttrExpansionDisabled}
 use Rattle.def_rules.specs.Calls.{deepest, stored_directory}
 use Rattle.def_rules.specs.State.{State, Site, reported}
 use Rattle.def_rules.specs.Waiting.{MacroDirective, MacroDirectiveKind, Attr as ForAttr, WrittenAttr}
@@ -95,6 +99,8 @@ pub data AttrUse : Type 0 where
   ReadsDerives : AttrUse
   -- it is called, and its expansion stands in the item's place
   ReplacesItem : AttrUse
+  -- nothing expands it: that is reported, and the item is walked without the attribute
+  HasNoExpander : ExpandErrorKind → AttrUse
 
 -- what a builtin macro does: tests stay as they are where tests are compiled
 abbrev pub builtin_use : Oracle → Crate → BuiltinAttr → AttrUse
@@ -104,9 +110,17 @@ builtin_use oracle krate TestCase = cond (oracle.cfg_flag krate test_name) Passe
 builtin_use oracle krate Derive = ReadsDerives
 builtin_use oracle krate (Other n) = ReplacesItem
 
+-- what a procedural macro does, by what expands it
+abbrev pub expander_use : CustomProcMacroExpander → AttrUse
+expander_use (Id n) = ReplacesItem
+expander_use Missing = HasNoExpander MissingProcMacroExpander
+expander_use Disabled = HasNoExpander MacroDisabled
+expander_use DisabledAttr = HasNoExpander ProcMacroAttrExpansionDisabled
+
 -- what a macro of a kind does
 abbrev pub attr_use : Oracle → Crate → MacroDefKind → AttrUse
 attr_use oracle krate (BuiltInAttr builtin) = builtin_use oracle krate builtin
+attr_use oracle krate (ProcMacro expander called) = expander_use expander
 attr_use oracle krate _ = ReplacesItem
 
 -- the attributes that expansions are not to see, with one more of the item at a position

@@ -14,9 +14,10 @@ use Rattle.def_sources.specs.declared.asked.BuiltinShadowMode.TheVariants as sha
 use Rattle.def_sources.specs.declared.per_ns.MacroSubNs.TheVariants as sub
 use Rattle.def_paths.specs.Paths.{resolver}
 use Rattle.def_sources.specs.Sources.{World}
-use Rattle.def_rules.specs.Attributes.{AttrUse, PassesOver, ReadsDerives, ReplacesItem, activated, attr_macro, attr_query, attr_use, directive_reported, is_helper, item_site, passed_over}
+use Rattle.def_rules.specs.Attributes.{AttrUse, HasNoExpander, PassesOver, ReadsDerives, ReplacesItem, activated, attr_macro, attr_query, attr_use, directive_reported, is_helper, item_site, passed_over}
 use Rattle.def_rules.specs.Calls.{answer_by, call_query, expansion_effect, with_invocations}
 use Rattle.def_rules.specs.declared.diagnostics.DefDiagnosticKind.{DefDiagnosticKind}
+use Rattle.def_rules.specs.declared.diagnostics.DefDiagnosticKind.TheVariants.{MacroError}
 use Rattle.def_rules.specs.Deferred.{deferral, deferred_derive, deferring, expanding_deferred}
 use Rattle.def_rules.specs.Derives.{derive_call, derive_directive, derive_macro, derive_paths, derived, derives_from, may_derive, with_list, with_shown_helpers}
 use Rattle.def_rules.specs.Items.{node_at}
@@ -78,6 +79,7 @@ use_told oracle s directive written found PassesOver = record { state = s; turn 
 use_told oracle s directive written found ReadsDerives = list_told oracle s directive written found (derive_paths written (may_derive (node_at oracle written.tree written.item)))
 use_told oracle s directive written found ReplacesItem =
     record { state = activated s directive.position written.id; turn = Replaces (oracle.make_attr_call (attr_query s directive written found)) }
+use_told oracle s directive written found (HasNoExpander err) = record { state = directive_reported s directive (MacroError written.attr.path err); turn = WalksItem [] written }
 
 -- an attribute whose macro is not found stays
 abbrev pub attr_told : Oracle → State → MacroDirective → WrittenAttr → Option MacroDefId → Told

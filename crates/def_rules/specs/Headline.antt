@@ -5,7 +5,7 @@ use Rattle.def_ids.specs.declared.ids.ModuleId.{ModuleId}
 use Rattle.def_bindings.specs.declared.bindings.Slot.{Slot}
 use Rattle.def_bindings.specs.Closure.{IsClosed, IsCoherent}
 use Rattle.def_globs.specs.Raised.{IsRaisedAt}
-use Rattle.def_rules.specs.Targets.{leaves_out, target_of}
+use Rattle.def_rules.specs.Targets.{is_censored, leaves_out, target_of}
 use Rattle.def_rules.specs.State.{Setting, Moment, order}
 use Rattle.def_rules.specs.Steps.{IsKeptAlong, Reaches}
 use Rattle.def_rules.specs.Rounds.{IsOverLimit}
@@ -38,13 +38,13 @@ pub record Answers (w : Setting) (before after : Session) (answer : Answer) : Ty
   -- what a glob bound that was recorded with one module of this map, that module binds too, to the same definition or unseen
   pub coherent : IsCoherent (order run.end.state) (leaves_out run.end.state) (target_of run.end.state.map.id run.end.state.targets) answer.content
   -- what a module binds and an importer of it sees would not raise what a glob, any, bound there to the same definition, along each recorded edge:
-  -- of each place that the run keeps throughout, with the sources of the edges to it while these are still to be added
-  pub raised : (importer : ModuleId) (slot : Slot) → IsKeptAlong run.runs importer slot → IsRaisedAt (order run.end.state) answer.content importer slot
+  -- of each place that the run keeps throughout, with the sources of the edges to it while these are still to be added, but in the root of a crate of procedural macros
+  pub raised : (importer : ModuleId) (slot : Slot) → is_censored run.end.state importer ≡ false → IsKeptAlong run.runs importer slot → IsRaisedAt (order run.end.state) answer.content importer slot
   -- each explicit binding that was made stands at its place, or one made there before it does
   pub declared : IsDeclared run.end.events run.end.state.content
   -- and no explicit binding stands that was not made
   pub was_put : WasPut run.end.events run.end.state.content
-  -- no explicit binding is ever replaced
+  -- no explicit binding is ever replaced, and none removed but the function of a procedural macro
   pub explicit_stays : (a b : Moment) → IsOnRun w before run.end a b → ExplicitStays a b
   -- the limit was met only where the run holds more rounds than that
   pub limit : answer.outcome.limit_met ≡ true → IsOverLimit w.oracle (start w before) run.end run.runs

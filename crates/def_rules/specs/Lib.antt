@@ -18,6 +18,7 @@ pub mod Fallback
 pub mod Rounds
 pub mod Globs
 pub mod Targets
+pub mod ProcMacros
 pub mod Crates
 pub mod Start
 pub mod Settled

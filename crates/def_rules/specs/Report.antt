@@ -32,7 +32,8 @@ use Rattle.def_rules.specs.declared.outcome.Outcome.{Outcome}
 use Rattle.def_rules.specs.Directives.{call_answer}
 use Rattle.def_rules.specs.Imports.{bound_name, unresolved_imports}
 use Rattle.def_rules.specs.Globs.{Targets}
-use Rattle.def_rules.specs.State.{State, Import}
+use Rattle.def_rules.specs.ProcMacros.{censored}
+use Rattle.def_rules.specs.State.{State, Import, with_content}
 use Rattle.def_rules.specs.Waiting.{MacroDirective, MacroDirectiveKind, FnLike, Attr, Derive}
 
 -- all that a run answers
@@ -146,9 +147,13 @@ kind_report oracle end d (Derive written) = unresolved_macro d written.path ∷ 
 abbrev pub macro_report : Oracle → State → MacroDirective → List DefDiagnostic
 macro_report oracle end d = kind_report oracle end d d.kind
 
--- the end, with the macros left over reported
+-- the end, with the table that is answered
+abbrev pub with_censored : State → State
+with_censored end = with_content end (censored end)
+
+-- with it, the macros left over are reported: they are asked once more
 abbrev pub with_macro_reports : Oracle → State → State
-with_macro_reports oracle end = record end { diagnostics = end.diagnostics ++ flat_map (macro_report oracle end) end.macros }
+with_macro_reports oracle end = record (with_censored end) { diagnostics = end.diagnostics ++ flat_map (macro_report oracle (with_censored end)) end.macros }
 
 -- the diagnostics so far, and then those of the imports left over
 abbrev pub with_import_reports : State → List DefDiagnostic
@@ -158,9 +163,9 @@ with_import_reports end = end.diagnostics ++ flat_map (import_report end.missing
 abbrev pub report : Oracle → State → List DefDiagnostic
 report oracle end = with_import_reports (with_macro_reports oracle end)
 
--- the answer is what the end has, with the failed names marked
+-- the answer is what the end has, with the failed names marked, and what a root of procedural macros does not show
 pub record IsAnswerOf (end : State) (answer : Answer) : Type 0 where
   pub map : answer.map ≡ marked end.map (unresolved_imports end.imports)
-  pub content : answer.content ≡ end.content
+  pub content : answer.content ≡ censored end
   pub local : answer.local ≡ end.local
   pub outcome : IsOutcome end answer.outcome

@@ -29,6 +29,7 @@ use Rattle.def_rules.specs.State.{State, Effect, only, followed_by, reported, Si
 use Rattle.def_rules.specs.Waiting.{WrittenCall}
 use Rattle.def_rules.specs.Items.{IsNumber, ctor_vis, declared_effect, diagnostic, node_at, noted_in, new_imports, struct_effect, walk, written_vis}
 use Rattle.def_rules.specs.Macros.{IsBuiltinName, item_effect, item_expander, item_flags, macro_loc, macros_brought, rules_effect, rules_expander, rules_flags}
+use Rattle.def_rules.specs.ProcMacros.{DeclaresFunction, exported_macro}
 use Rattle.def_rules.specs.Attributes.{awaited_attr, awaiting}
 use Rattle.def_rules.specs.Calls.{call_effect, queued}
 use Rattle.def_rules.specs.Modules.{module_item}
@@ -40,6 +41,8 @@ pub data Rule : Type 0 where
   declares : ItemKind → (ℕ → Def) → Namespace → Name → RawVisibility → Rule
   -- a struct is declared, and its constructor
   declares_struct : Name → RawVisibility → CtorVisibility → Rule
+  -- a function is declared, and may export a procedural macro
+  declares_function : Name → RawVisibility → Rule
   -- a module is declared, and its contents walked
   opens_module : Name → RawVisibility → ModContents → Rule
   -- the items of an extern block are walked
@@ -72,7 +75,7 @@ rule_of (Impl of_trait) = notes_impl of_trait
 rule_of (Struct name raw ctor) = declares_struct name raw ctor
 rule_of (Union name raw) = declares UnionItem (λ n. def.Union (record { 0 = n })) Types name raw
 rule_of (Enum name raw) = declares EnumItem (λ n. def.Enum (record { 0 = n })) Types name raw
-rule_of (Function name raw) = declares FunctionItem (λ n. def.Function (record { 0 = n })) Values name raw
+rule_of (Function name raw) = declares_function name raw
 rule_of (Const (Some name) raw) = declares ConstItem (λ n. def.Const (record { 0 = n })) Values name raw
 rule_of (Const None raw) = notes_const
 rule_of (Static name raw) = declares StaticItem (λ n. def.Static (record { 0 = n })) Values name raw
@@ -86,6 +89,9 @@ Follows oracle s site item (declares kind d ns name raw) effect =
 Follows oracle s site item (declares_struct name raw ctor) effect =
     (n : ℕ) × IsNumber s StructItem site item n
     × (effect ≡ struct_effect s site.scope name (def.Struct (record { 0 = n })) (written_vis oracle s site.scope raw) (ctor_vis oracle s site.scope ctor))
+Follows oracle s site item (declares_function name raw) effect =
+    (n : ℕ) × IsNumber s FunctionItem site item n
+    × DeclaresFunction oracle s site item name (written_vis oracle s site.scope raw) (record { 0 = n }) (exported_macro s site item name) effect
 Follows oracle s site item (opens_module name raw contents) effect = effect ≡ module_item oracle s site item name (written_vis oracle s site.scope raw) contents
 Follows oracle s site item (opens_block children) effect =
     (n : ℕ) × IsNumber s ExternBlockItem site item n

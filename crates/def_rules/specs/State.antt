@@ -11,6 +11,7 @@ use Rattle.item_tree.specs.declared.items.UseImport.{UseImport}
 use Rattle.tree_ids.specs.declared.name.Name.{Name}
 use Rattle.def_ids.specs.declared.ids.ItemContainerId.{ItemContainerId}
 use Rattle.def_ids.specs.declared.ids.ItemContainerId.TheVariants.{Module}
+use Rattle.def_ids.specs.declared.ids.FunctionId.{FunctionId}
 use Rattle.def_ids.specs.declared.ids.ModuleId.{ModuleId}
 use Rattle.def_ids.specs.declared.ids.UseId.{UseId}
 use Rattle.def_ids.specs.Ids.{is_same_module}
@@ -123,6 +124,8 @@ pub data Task : Type 0 where
   Bring : ModuleId → ModuleId → Task
   -- an edge is added to a module
   AddEdge : ModuleId → EdgeTo Visibility → Task
+  -- the function of a procedural macro is taken out of a module's values
+  TakeOut : ModuleId → Name → FunctionId → Task
 
 -- each entry of a list is put into a module
 abbrev pub put_each : ModuleId → List (Entry Visibility) → List Task
@@ -134,6 +137,8 @@ pub data Event : Type 0 where
   PutExplicit : ModuleId → Name → Namespace → Binding Visibility → Event
   -- an import was recorded; true: from another crate
   Recorded : Import → Bool → Event
+  -- the function of a procedural macro was taken out of a module's values
+  TookOut : ModuleId → Name → FunctionId → Event
 
 -- what a rule does: the state after it, what is to be done next, and what happened
 pub record Effect : Type 0 where

@@ -15,7 +15,8 @@ use Rattle.def_modules.specs.Scopes.{brought}
 use Rattle.def_oracle.specs.Oracle.{Oracle}
 use Rattle.def_globs.specs.Globs.{with_recorded}
 use Rattle.def_globs.specs.Raised.{KeepsDef}
-use Rattle.def_rules.specs.State.{State, Effect, Task, Enter, Visit, TryDerive, Put, AddEdge, Bring, Event, PutExplicit, Moment, after, entered, only, with_state, with_content, order, Rearranges, world}
+use Rattle.def_rules.specs.ProcMacros.{taken_out, takes_out}
+use Rattle.def_rules.specs.State.{State, Effect, Task, Enter, Visit, TryDerive, Put, AddEdge, Bring, TakeOut, Event, PutExplicit, Moment, after, entered, only, with_state, with_content, order, Rearranges, world}
 use Rattle.def_rules.specs.Derives.{derive_macro}
 use Rattle.def_rules.specs.Directives.{ExpansionStep, MacroStep, tried_effect}
 use Rattle.def_rules.specs.Fallback.{FallbackStep}
@@ -45,6 +46,7 @@ Does oracle s (TryDerive directive written) effect = effect ≡ tried_effect ora
 Does oracle s (Put at entry) effect = effect ≡ put_effect s at entry
 Does oracle s (Bring from into) effect = effect ≡ only (noted_in s into (brought (textual_at s.map from.index)))
 Does oracle s (AddEdge source edge) effect = effect ≡ only (with_content s (with_recorded (order s) s.content source edge))
+Does oracle s (TakeOut at name function) effect = effect ≡ taken_out s at name function (takes_out s at name function)
 
 -- one slot is copied along an edge of a glob: what its source binds now, if the importer sees it
 pub record Copies (s : State) (content : Content Visibility) : Type 0 where

@@ -4,6 +4,18 @@ use crate::outcome::LeftMacroKind;
 use def_ids::ModuleId;
 use item_tree::{AttrId, CfgExpr, FileAstId, InFile, ModPath, Seq, Text};
 
+/// Why the macro of an attribute expands to nothing. It is the part of `ExpandErrorKind` that
+/// rust-analyzer's collector makes itself.
+#[derive(Clone, Copy, PartialEq, Eq, Debug)]
+pub enum ExpandErrorKind {
+    /// No procedural macro of its name was built for its crate.
+    MissingProcMacroExpander,
+    /// The macro is switched off.
+    MacroDisabled,
+    /// All attribute macros are switched off.
+    ProcMacroAttrExpansionDisabled,
+}
+
 /// What a diagnostic says.
 #[derive(Clone, PartialEq, Eq, Debug, Drop)]
 pub enum DefDiagnosticKind {
@@ -21,6 +33,8 @@ pub enum DefDiagnosticKind {
     MalformedDerive { id: AttrId },
     /// A macro that is marked as builtin, and that no builtin implements.
     UnimplementedBuiltinMacro,
+    /// A procedural macro that nothing expands: the path of its attribute, and why.
+    MacroError { path: ModPath, err: ExpandErrorKind },
     /// An item or a file that is not compiled: the condition that is not met.
     UnconfiguredCode { cfg: CfgExpr },
 }

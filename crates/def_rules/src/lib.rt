@@ -7,5 +7,5 @@ mod diagnostics;
 mod outcome;
 
 pub use deferred::DeferredDerive;
-pub use diagnostics::{DefDiagnostic, DefDiagnosticKind, DefDiagnostics};
+pub use diagnostics::{DefDiagnostic, DefDiagnosticKind, DefDiagnostics, ExpandErrorKind};
 pub use outcome::{Edge, LeftImport, LeftMacro, LeftMacroKind, Outcome};

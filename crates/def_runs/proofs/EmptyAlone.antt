@@ -10,7 +10,8 @@ use Rattle.def_modules.specs.Scopes.{empty_module}
 use Rattle.def_laws.proofs.RunsLaws.{kept_along}
 use Rattle.def_rules.specs.Headline.{Answers}
 use Rattle.def_rules.specs.Imports.{unresolved_imports}
-use Rattle.def_rules.specs.Report.{Answer, import_report, macro_report, marked}
+use Rattle.def_rules.specs.Report.{Answer, import_report, macro_report, marked, with_censored}
+use Rattle.def_laws.proofs.CensoredLaws.{uncensored_along}
 use Rattle.def_rules.specs.Start.{first_site, start}
 use Rattle.def_rules.specs.State.{Site, State, Effect, Enter, Moment, after, entered, only}
 use Rattle.def_rules.specs.Steps.{Does, Step, performs, asks, copies, expands, rearranges, records, falls_back, reorders}
@@ -78,14 +79,14 @@ module _ (after : Session) (answer : Answer) (answers : Answers setting no_sessi
   ends = (kept_along {oracle = setting.oracle} IsBareAt bare_step answers.run.runs begins).state
 
   nothing_is_bound : answer.content ≡ empty
-  nothing_is_bound = answers.answered.content ∙ ends.content
+  nothing_is_bound = answers.answered.content ∙ (uncensored_along answers.run.runs refl ∙ ends.content)
 
   nothing_is_reported : answer.diagnostics ≡ []
   nothing_is_reported =
       let end = answers.run.end.state in
       answers.reported
-      ∙ (ap (λ ps. (end.diagnostics ++ flat_map (macro_report setting.oracle end) end.macros) ++ flat_map (import_report end.missing_crates) (unresolved_imports ps)) ends.waits.0
-      ∙ (ap (λ ms. (end.diagnostics ++ flat_map (macro_report setting.oracle end) ms) ++ []) ends.waits.1 ∙ ap (λ ds. (ds ++ []) ++ []) ends.diagnostics))
+      ∙ (ap (λ ps. (end.diagnostics ++ flat_map (macro_report setting.oracle (with_censored end)) end.macros) ++ flat_map (import_report end.missing_crates) (unresolved_imports ps)) ends.waits.0
+      ∙ (ap (λ ms. (end.diagnostics ++ flat_map (macro_report setting.oracle (with_censored end)) ms) ++ []) ends.waits.1 ∙ ap (λ ds. (ds ++ []) ++ []) ends.diagnostics))
 
   it_is_one_module : answer.map.modules ≡ empty_module None CrateRoot Public ∷ []
   it_is_one_module =

@@ -1,5 +1,5 @@
 -- What the definitions exclude: ends, answers and steps that are none.
-use Rattle.std.proofs.Common.{◌≡◌, Bool, true, false, Some, None, List, [], ◌∷◌, ◌++◌, map, refl, sym, subst, ap, ◌∙◌, Contains, lit<, append-nil, Option}
+use Rattle.std.proofs.Common.{◌≡◌, inl, inr, Bool, true, false, Some, None, List, [], ◌∷◌, ◌++◌, map, refl, sym, subst, ap, ◌∙◌, Contains, lit<, append-nil, Option}
 use Rattle.std.specs.List.{flat_map}
 use Rattle.tree_ids.specs.declared.name.Name.{Name}
 use Rattle.tree_ids.specs.declared.ids.FileAstId.{FileAstId}
@@ -29,7 +29,10 @@ use Rattle.def_rules.specs.Headline.{Answers, Run}
 use Rattle.def_rules.specs.Imports.{answer_now, is_ready, no_namespaces, unresolved_imports}
 use Rattle.def_rules.specs.Recording.{ImportStep}
 use Rattle.def_rules.specs.Report.{Answer, import_report, left_import, may_name_crate, report, unresolved, with_macro_reports}
-use Rattle.def_rules.specs.State.{Setting, State, Effect, Task, Enter, Visit, Put, Bring, AddEdge, Moment, Import, ImportDirective, Recorded, TryDerive}
+use Rattle.def_ids.specs.declared.ids.FunctionId.{FunctionId}
+use Rattle.def_rules.specs.ProcMacros.{taken_out, takes_out}
+use Rattle.def_rules.specs.Targets.{leaves_out}
+use Rattle.def_rules.specs.State.{Setting, State, Effect, Task, Enter, Visit, Put, Bring, AddEdge, TakeOut, Moment, Import, ImportDirective, Recorded, TryDerive}
 use Rattle.def_rules.specs.Waiting.{Deferrals, MacroDirective, WrittenAttr, WrittenDerive}
 use Rattle.def_rules.specs.Steps.{Does, Reaches, Step, asks, copies, event_of, expands, performs, rearranges, records, falls_back, reorders}
 use Rattle.def_runs.proofs.Plain as plain
@@ -137,11 +140,14 @@ an_unseen_binding_does_not_travel o source edge slot c b new holds unseen free b
 
 -- Runs
 
--- no run takes an explicit binding away
+-- no run takes an explicit binding away, but out of the root of a crate of procedural macros
 an_explicit_binding_is_not_taken_away : (oracle : Oracle) (a b : Moment) (at : ModuleId) (name : Name) (ns : Namespace) (there : Binding Visibility)
-    → Reaches oracle a b → a.state.content.binding at name ns ≡ Some there → IsExplicit there.import → b.state.content.binding at name ns ≡ None → ⊥
-an_explicit_binding_is_not_taken_away oracle a b at name ns there run bound explicit gone =
-    let stays = explicit_stays_along run at name ns there bound explicit in cc
+    → Reaches oracle a b → a.state.content.binding at name ns ≡ Some there → IsExplicit there.import → leaves_out b.state at ≡ false → b.state.content.binding at name ns ≡ None → ⊥
+an_explicit_binding_is_not_taken_away oracle a b at name ns there run bound explicit elsewhere gone =
+    elim (explicit_stays_along run at name ns there bound explicit) [
+      | inl stays ↦ cc
+      | inr taken ↦ let wrong : true ≡ false = sym taken.in_root ∙ elsewhere in cc
+    ]
 
 -- Turns
 
@@ -156,6 +162,11 @@ no_recording at entry None (Some name) p foreign h = cc
 no_recording at entry None None p foreign h = cc
 no_recording at entry (Some g) name p foreign h = cc
 
+-- nor is a function that is taken out, or one that is not there
+take_records_nothing : (s : State) (at : ModuleId) (name : Name) (function : FunctionId) (effect : Effect) (takes : Bool) (p : Import) (foreign : Bool) → effect ≡ taken_out s at name function takes → effect.events ≡ Recorded p foreign ∷ [] → ⊥
+take_records_nothing s at name function effect true p foreign does h = let none = ap (λ (e : Effect). e.events) does in cc
+take_records_nothing s at name function effect false p foreign does h = let none = ap (λ (e : Effect). e.events) does in cc
+
 -- nor is any other task
 task_records_nothing : (oracle : Oracle) (s : State) (task : Task) (effect : Effect) (p : Import) (foreign : Bool) → Does oracle s task effect → effect.events ≡ Recorded p foreign ∷ [] → ⊥
 task_records_nothing oracle s (Enter at directory) effect p foreign does h = let none = ap (λ (e : Effect). e.events) does in cc
@@ -163,6 +174,7 @@ task_records_nothing oracle s (Visit site id) effect p foreign does h = let none
 task_records_nothing oracle s (Put at entry) effect p foreign does h = no_recording at entry (glob_of entry.origin) entry.name p foreign (sym (ap (λ (e : Effect). e.events) does) ∙ h)
 task_records_nothing oracle s (TryDerive directive written) effect p foreign does h = let none = ((tries_footprint oracle s directive written effect does).foot 0).events in cc
 task_records_nothing oracle s (Bring from into) effect p foreign does h = let none = ap (λ (e : Effect). e.events) does in cc
+task_records_nothing oracle s (TakeOut at name function) effect p foreign does h = take_records_nothing s at name function effect (takes_out s at name function) p foreign does h
 task_records_nothing oracle s (AddEdge source edge) effect p foreign does h = let none = ap (λ (e : Effect). e.events) does in cc
 
 -- no import has its turn while something is left to do

@@ -23,6 +23,7 @@ use Rattle.def_rules.specs.Report.{Answer}
 use Rattle.def_rules.specs.Rules.{HandlesByKind, HandlesInSession, VisitsEnabled}
 use Rattle.def_rules.specs.Settled.{IsDeclared}
 use Rattle.def_rules.specs.Start.{first_site, start}
+use Rattle.def_laws.proofs.CensoredLaws.{uncensored_along}
 use Rattle.def_rules.specs.State.{Site, State, Effect, Task, Enter, Visit, Event, PutExplicit, Moment, after, with_content, with_state}
 use Rattle.def_rules.specs.Steps.{Does, Step, performs, asks, copies, expands, rearranges, records, falls_back, reorders}
 use Rattle.def_runs.proofs.OneStruct.{S, setting}
@@ -174,7 +175,7 @@ arrived m done declared way = by way.stage
       where
         in_types : m.state.content.binding (module_at 0) S Types ≡ Some (held n)
         in_types =
-            let stands = declared [] (was_put_in Values n ∷ []) (module_at 0) S Types (held n) happened in
+            let stands = declared [] (was_put_in Values n ∷ []) (module_at 0) S Types (held n) happened (λ values function taken. cc) in
             elim stands.2 [
               | inl same ↦ stands.1 ∙ ap Some same
               | inr before ↦ absurd (none_in _ before)
@@ -182,7 +183,7 @@ arrived m done declared way = by way.stage
 
         in_values : m.state.content.binding (module_at 0) S Values ≡ Some (held n)
         in_values =
-            let stands = declared (was_put_in Types n ∷ []) [] (module_at 0) S Values (held n) happened in
+            let stands = declared (was_put_in Types n ∷ []) [] (module_at 0) S Values (held n) happened (λ values function taken. none_in _ taken) in
             elim stands.2 [
               | inl same ↦ stands.1 ∙ ap Some same
               | inr before ↦ absurd (let wrong = only_in (was_put_in Types n) _ before in cc)
@@ -191,7 +192,7 @@ arrived m done declared way = by way.stage
 module _ (after : Session) (answer : Answer) (answers : Answers setting no_session after answer) where
   s_is_bound : Binds answer.content
   s_is_bound =
-      subst Binds (sym answers.answered.content)
+      subst Binds (sym (answers.answered.content ∙ uncensored_along answers.run.runs refl))
       (arrived answers.run.end answers.run.done answers.declared (kept_along {oracle = setting.oracle} IsOnWay goes_on answers.run.runs sets_out))
 
   -- so an answer in which nothing is bound is none

@@ -1,5 +1,5 @@
 -- `mod a { pub use crate::b::*; pub struct X; } mod b { pub use crate::c::*; } mod c { pub use crate::a::*; }`: a name travels around a ring of globs, by copies.
-use Rattle.std.proofs.Common.{◌≡◌, ℕ, zero, suc, false, Option, Some, None, List, [], ◌∷◌, refl, lit<, subst, true}
+use Rattle.std.proofs.Common.{◌≡◌, ◌∙◌, ℕ, zero, suc, false, Option, Some, None, List, [], ◌∷◌, refl, lit<, subst, true}
 use Rattle.item_tree.specs.declared.items.ImportKind.TheVariants.{Glob as GlobImport}
 use Rattle.item_tree.specs.declared.items.RawVisibility.TheVariants.{Public as RawPublic}
 use Rattle.item_tree.specs.declared.mod_path.ModPath.{ModPath}
@@ -23,6 +23,7 @@ use Rattle.def_rules.specs.declared.outcome.Outcome.{Outcome}
 use Rattle.def_rules.specs.Headline.{Answers}
 use Rattle.def_rules.specs.Report.{Answer, IsOutcome}
 use Rattle.def_rules.specs.Start.{start}
+use Rattle.def_laws.proofs.CensoredLaws.{uncensored_along}
 use Rattle.def_rules.specs.State.{Setting, Moment, Import, ImportDirective, order}
 use Rattle.def_rules.specs.Steps.{Reaches, join, one, performs}
 use Rattle.def_rules.specs.Targets.{leaves_out, target_of}
@@ -233,5 +234,5 @@ not_closed closed = let bound = closed (module_at 3) 0 (edge 2 1) (Named X Types
 stopping_there_is_no_answer : (after : Session) (answer : Answer) (answers : Answers setting no_session after answer) → answers.run.end ≡ third_to → ⊥
 stopping_there_is_no_answer after answer answers early =
     let at_end : IsClosed (order answers.run.end.state) (leaves_out answers.run.end.state) answers.run.end.state.content =
-    subst (IsClosed (order answers.run.end.state) (leaves_out answers.run.end.state)) answers.answered.content answers.closed in
+    subst (IsClosed (order answers.run.end.state) (leaves_out answers.run.end.state)) (answers.answered.content ∙ uncensored_along answers.run.runs refl) answers.closed in
     not_closed (subst (λ (m : Moment). IsClosed (order m.state) (leaves_out m.state) m.state.content) early at_end)

@@ -32,6 +32,8 @@ use Rattle.def_rules.specs.Fallback.{FallbackStep, IsStuck}
 use Rattle.def_rules.specs.Settled.{IsNoAttribute, IsSettled}
 use Rattle.def_rules.specs.Waiting.{Attr, Derive, Expansion, FnLike, MacroDirective, MacroDirectiveKind}
 use Rattle.def_rules.specs.Steps.{Reaches, one, asks, copies, expands, records}
+use Rattle.def_laws.proofs.CensoredLaws.{censored_closed, censored_coherent, censored_raised}
+use Rattle.def_rules.specs.ProcMacros.{censored}
 use Rattle.def_rules.specs.Targets.{leaves_out, target_of}
 use Rattle.def_runs.proofs.TableLemmas.{is_false}
 
@@ -209,7 +211,7 @@ none_waits_reordered s macros waits same = (waits.0, none_in_any_order macros (s
 -- what is answered of an end, with this outcome
 abbrev pub answer_of : Oracle → State → Outcome → Answer
 answer_of oracle end outcome =
-    record { map = marked end.map (unresolved_imports end.imports); content = end.content; local = end.local; outcome = outcome; diagnostics = report oracle end }
+    record { map = marked end.map (unresolved_imports end.imports); content = censored end; local = end.local; outcome = outcome; diagnostics = report oracle end }
 
 -- the answer of a run's end is right where names are closed, coherent and raised at the end, no expansion is left, no import is ready and no macro is given a call
 pub answers : (w : Setting) (before : Session) (end : Moment) (outcome : Outcome) → Reaches w.oracle (start w before) end → end.tasks ≡ [] → end.state.expansions ≡ []
@@ -225,9 +227,9 @@ answers w before end outcome runs done expanded ready given unmet shown closed c
       run = record { end = end; runs = runs; done = done; expanded = expanded };
       session = refl;
       answered = record { map = refl; content = refl; local = refl; outcome = shown };
-      closed = closed;
-      coherent = coherent;
-      raised = λ importer slot kept. raised importer slot;
+      closed = censored_closed end.state (leaves_out end.state) closed;
+      coherent = censored_coherent end.state (leaves_out end.state) (target_of end.state.map.id end.state.targets) coherent;
+      raised = λ importer slot elsewhere kept. censored_raised end.state importer slot elsewhere (raised importer slot);
       declared = declared_along runs refl refl;
       was_put = was_put_along runs refl refl;
       explicit_stays = λ a b run. explicit_stays_along run.goes_on;

@@ -4,7 +4,7 @@ use Rattle.std.specs.List.{list_any}
 
 -- the names of the vectors, in byte order
 abbrev pub vector_names : List (List ℕ)
-vector_names = codes "attrs" ∷ codes "chain" ∷ codes "circular" ∷ codes "cycle" ∷ codes "empty" ∷ codes "excused" ∷ codes "fallback" ∷ codes "fields" ∷ codes "follow" ∷ codes "glob" ∷ codes "list" ∷ codes "module-macro" ∷ codes "partial" ∷ codes "plain" ∷ codes "private" ∷ codes "rounds" ∷ codes "targets" ∷ codes "textual-use" ∷ codes "underscore" ∷ []
+vector_names = codes "attrs" ∷ codes "chain" ∷ codes "circular" ∷ codes "cycle" ∷ codes "empty" ∷ codes "excused" ∷ codes "fallback" ∷ codes "fields" ∷ codes "follow" ∷ codes "glob" ∷ codes "list" ∷ codes "module-macro" ∷ codes "partial" ∷ codes "plain" ∷ codes "private" ∷ codes "procmacro" ∷ codes "rounds" ∷ codes "targets" ∷ codes "textual-use" ∷ codes "underscore" ∷ []
 
 -- whether there is a vector of this name
 unfoldable pub is_vector : List ℕ → Bool

@@ -14,6 +14,14 @@ pub struct DependencyText<'t> {
     pub sysroot: bool,
 }
 
+/// A procedural macro that was built, with its number.
+#[derive(Drop)]
+pub struct BuiltText<'t> {
+    pub name: &'t str,
+    pub number: u32,
+    pub is_disabled: bool,
+}
+
 /// A crate, with the crates on which it depends.
 #[derive(Drop)]
 pub struct CrateText<'t> {
@@ -23,18 +31,25 @@ pub struct CrateText<'t> {
     pub root_file: usize,
     /// Which crate of the language it is, if it is one.
     pub lang: Option<LangCrate>,
+    /// Whether its data say that it is one of procedural macros.
+    pub proc_macro: bool,
     pub deps: Vec<DependencyText<'t>>,
+    /// The procedural macros that were built for it.
+    pub built: Vec<BuiltText<'t>>,
 }
 
 impl<'t> CrateText<'t> {
-    /// A crate of edition 2021 with no dependencies, which is none of the language.
+    /// A crate of edition 2021 with no dependencies, which is none of the language and none of
+    /// procedural macros.
     pub(crate) fn new(alloc: Global, krate: usize, root_file: usize) -> CrateText<'t> {
         CrateText {
             krate,
             edition: Edition::Edition2021,
             root_file,
             lang: None,
+            proc_macro: false,
             deps: Vec::new(alloc),
+            built: Vec::new(alloc),
         }
     }
 }
@@ -208,6 +223,8 @@ pub struct Fixture<'t> {
     pub builtin_derives: Vec<BuiltinDeriveText<'t>>,
     /// Whether builtin derives give impls with no expansion where they can.
     pub derive_fast_path: bool,
+    /// Whether procedural macros that are attributes are expanded.
+    pub expand_attr_macros: bool,
     /// The words that `cfg` knows of the crate that is shown.
     pub flags: Vec<&'t str>,
     /// The macro calls that are answered, each with its place as its number.
@@ -242,6 +259,7 @@ impl<'t> Fixture<'t> {
             builtin_macros: Vec::new(alloc),
             builtin_derives: Vec::new(alloc),
             derive_fast_path: false,
+            expand_attr_macros: true,
             flags: Vec::new(alloc),
             calls: Vec::new(alloc),
             inner: Vec::new(alloc),

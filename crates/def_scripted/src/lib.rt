@@ -25,9 +25,9 @@ mod words;
 
 pub use fault::{FixtureFault, ReadFault};
 pub use fixture::{
-    BlockText, BuiltinAttrText, BuiltinDeriveText, BuiltinMacroText, BuiltinText, CallText,
-    CalledBy, ChainText, CrateText, DependencyText, FileText, Fixture, InnerText, ProgramText,
-    StyleText, Unknown,
+    BlockText, BuiltText, BuiltinAttrText, BuiltinDeriveText, BuiltinMacroText, BuiltinText,
+    CallText, CalledBy, ChainText, CrateText, DependencyText, FileText, Fixture, InnerText,
+    ProgramText, StyleText, Unknown,
 };
 pub use items::{ReadEnum, ReadFile};
 pub use named::{find, vectors};

@@ -6,11 +6,11 @@ ghost use Rattle.def_scripted.specs.Vectors.{is_vector, vector_names};
 
 use crate::texts::{
     ATTRS, CHAIN, CIRCULAR, CYCLE, EMPTY, EXCUSED, FALLBACK, FIELDS, FOLLOW, GLOB, LIST,
-    MODULE_MACRO, PARTIAL, PLAIN, PRIVATE, ROUNDS, TARGETS, TEXTUAL_USE, UNDERSCORE,
+    MODULE_MACRO, PARTIAL, PLAIN, PRIVATE, PROCMACRO, ROUNDS, TARGETS, TEXTUAL_USE, UNDERSCORE,
 };
 
 /// The names, in byte order.
-static NAMES: [&str; 19] = [
+static NAMES: [&str; 20] = [
     "attrs",
     "chain",
     "circular",
@@ -26,6 +26,7 @@ static NAMES: [&str; 19] = [
     "partial",
     "plain",
     "private",
+    "procmacro",
     "rounds",
     "targets",
     "textual-use",
@@ -51,10 +52,11 @@ fn text_at(place: usize) -> &'static str {
         12 => PARTIAL,
         13 => PLAIN,
         14 => PRIVATE,
-        15 => ROUNDS,
-        16 => TARGETS,
-        17 => TEXTUAL_USE,
-        18 => UNDERSCORE,
+        15 => PROCMACRO,
+        16 => ROUNDS,
+        17 => TARGETS,
+        18 => TEXTUAL_USE,
+        19 => UNDERSCORE,
         _ => "",
     }
 }

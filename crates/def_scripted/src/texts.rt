@@ -162,6 +162,14 @@ pub static PRIVATE: &str = "
 mod a { pub struct T(u8); } use a::*;
 -- shows";
 
+pub static PROCMACRO: &str = "
+crate 0 root 0 proc-macro
+-- file
+mod g { pub use crate::*; } pub macro late {} crate::late!();
+-- call at 0:3 of macro:0
+#[proc_macro] pub fn f() {}
+-- shows";
+
 pub static ROUNDS: &str = r#"
 -- file
 #![recursion_limit = "4294967295"] pub macro more {} crate::more!();

@@ -7,7 +7,9 @@ use def_bindings::{Binding, Visibility};
 use def_collector::Collected;
 use def_interner::Interner;
 use def_map::{DefMap, ItemScope, PerNs};
-use def_rules::{DefDiagnostic, DefDiagnosticKind, Edge, LeftImport, LeftMacro, LeftMacroKind};
+use def_rules::{
+    DefDiagnostic, DefDiagnosticKind, Edge, ExpandErrorKind, LeftImport, LeftMacro, LeftMacroKind,
+};
 use item_tree::{Crate, ModPath, Name, PathKind};
 use std::alloc::Global;
 use std::io;
@@ -162,8 +164,8 @@ fn levels(kind: PathKind) -> u8 {
     }
 }
 
-/// Goes on with a path, and ends the line.
-fn add_path(page: &mut Page<'_>, path: &ModPath) {
+/// Goes on with a path.
+fn say_path(page: &mut Page<'_>, path: &ModPath) {
     page.say(&[path_word(path.kind)]);
     for _ in 0..levels(path.kind) {
         page.say(&[Word::Bare("::super")]);
@@ -174,7 +176,21 @@ fn add_path(page: &mut Page<'_>, path: &ModPath) {
         page.say(&[Word::Segment(before, *segment)]);
         is_due = true;
     }
+}
+
+/// Goes on with a path, and ends the line.
+fn add_path(page: &mut Page<'_>, path: &ModPath) {
+    say_path(page, path);
     page.end();
+}
+
+/// Why the macro of an attribute expands to nothing.
+fn error_word(err: ExpandErrorKind) -> Word {
+    match err {
+        ExpandErrorKind::MissingProcMacroExpander => Word::Text("missing"),
+        ExpandErrorKind::MacroDisabled => Word::Text("disabled"),
+        ExpandErrorKind::ProcMacroAttrExpansionDisabled => Word::Text("attr-disabled"),
+    }
 }
 
 /// How a macro that was not found is called.
@@ -199,6 +215,7 @@ fn kind_words(kind: &DefDiagnosticKind, number: usize) -> (&'static str, Word) {
         }
         DefDiagnosticKind::MalformedDerive { id } => ("malformed-derive", Word::Number("", id.0)),
         DefDiagnosticKind::UnimplementedBuiltinMacro => ("unimplemented-builtin", Word::Bare("")),
+        DefDiagnosticKind::MacroError { .. } => ("macro-error", Word::Bare("")),
         DefDiagnosticKind::UnconfiguredCode { cfg } => ("unconfigured", Word::Number("", cfg.0)),
         DefDiagnosticKind::UnresolvedImport { index } => {
             ("unresolved-import", Word::Number("", *index as usize))
@@ -220,6 +237,11 @@ fn add_diagnostic(page: &mut Page<'_>, number: usize, diagnostic: &DefDiagnostic
     page.begin((DIAGNOSTIC, number, "", 0), &words);
     match &diagnostic.kind {
         DefDiagnosticKind::UnresolvedMacroCall { path, .. } => add_path(page, path),
+        DefDiagnosticKind::MacroError { path, err } => {
+            say_path(page, path);
+            page.say(&[error_word(*err)]);
+            page.end();
+        }
         _ => page.end(),
     }
 }

@@ -14,8 +14,8 @@ use def_ids::VariantId;
 use def_interner::Interner;
 use def_map::{CallAnswer, CrateData, DefMap, Dependency, EnumVariant};
 use def_scripted::{
-    BuiltinDeriveText, BuiltinMacroText, CallText, CalledBy, ChainText, CrateText, DependencyText,
-    FileText, Fixture, InnerText, ReadEnum, ReadFault, ReadFile, read,
+    BuiltText, BuiltinDeriveText, BuiltinMacroText, CallText, CalledBy, ChainText, CrateText,
+    DependencyText, FileText, Fixture, InnerText, ReadEnum, ReadFault, ReadFile, read,
 };
 use either::Either;
 use item_tree::{AttrId, Crate, FileAstId, FileId, HirFileId, InFile, MacroCallId, Seq, TreeId};
@@ -78,10 +78,12 @@ impl Workspace {
         Ok(())
     }
 
-    /// Adds the crates of a row, the builtin types, and the flags of the crate that is shown.
+    /// Adds the crates of a row with the procedural macros that were built for them, the builtin
+    /// types, and the flags of the crate that is shown.
     fn add_crates(&mut self, row: &Fixture<'_>) -> Result<(), AllocError> {
         for krate in &row.crates {
             self.add_crate(krate)?;
+            self.add_built(Crate(krate.krate), krate.built.as_slice())?;
         }
         for text in &row.builtin_types {
             let name = self.session.intern_name(text.name)?;
@@ -102,7 +104,8 @@ impl Workspace {
         Ok(())
     }
 
-    /// Adds how the macros of a row are called, and its builtin macros and attributes.
+    /// Adds how the macros of a row are called, its builtin macros and attributes, and whether
+    /// procedural macros that are attributes are expanded.
     fn add_macros(&mut self, row: &Fixture<'_>) -> Result<(), AllocError> {
         for text in &row.builtin_macros {
             let name = self.session.intern_name(text.name)?;
@@ -119,6 +122,7 @@ impl Workspace {
             };
             self.db.add_styles(position, text.styles)?;
         }
+        self.db.set_expand_proc_attr_macros(row.expand_attr_macros);
         Ok(())
     }
 
@@ -281,11 +285,21 @@ impl Workspace {
         }
         let data = CrateData {
             root_file: FileId(text.root_file),
-            proc_macro: false,
+            proc_macro: text.proc_macro,
             lang: text.lang,
             deps,
         };
         self.db.add_crate(Crate(text.krate), data)
+    }
+
+    /// Adds the procedural macros that were built for a crate.
+    fn add_built(&mut self, krate: Crate, built: &[BuiltText<'_>]) -> Result<(), AllocError> {
+        let mut macros = Vec::new(self.alloc);
+        for text in built {
+            let name = self.session.intern_name(text.name)?;
+            macros.push((name, text.number, text.is_disabled))?;
+        }
+        self.db.add_proc_macros(krate, macros)
     }
 
     /// Collects the definitions of a crate.

@@ -52,6 +52,6 @@ pub use either::Either;
 // The collector, and what it answers.
 pub use def_collector::{Collected, collect_defs};
 pub use def_rules::{
-    DefDiagnostic, DefDiagnosticKind, DefDiagnostics, Edge, LeftImport, LeftMacro, LeftMacroKind,
-    Outcome,
+    DefDiagnostic, DefDiagnosticKind, DefDiagnostics, Edge, ExpandErrorKind, LeftImport, LeftMacro,
+    LeftMacroKind, Outcome,
 };

@@ -1,7 +1,7 @@
 //! What is recorded of a crate beside the lines that are shown, as lines of text: what its root file
 //! says, the macro calls and derives of its modules, and how its run ended.
 
-use def_ids::{BuiltinDeriveImplId, Def, GlobId, MapId, ModuleId};
+use def_ids::{BuiltinDeriveImplId, Def, GlobId, MacroId, MapId, ModuleId};
 use def_interner::Interner;
 use def_map::{DefMap, DeriveCall, DeriveHelper, DeriveKey, ItemScope, Position, Visibility};
 use def_workspace::Collected;
@@ -118,6 +118,42 @@ fn write_said(session: &Interner, map: &DefMap, out: &mut Vec<u8>) -> io::Result
 fn write_count(word: &str, index: usize, count: usize, out: &mut Vec<u8>) -> io::Result<()> {
     if count != 0 {
         writeln!(out, "{word} {index} {count}")?;
+    }
+    Ok(())
+}
+
+/// Writes a function of a module and the procedural macro that it exports, where it exports one, or
+/// such a macro and its function.
+fn write_pair(index: usize, map: &DefMap, def: Def, out: &mut Vec<u8>) -> io::Result<()> {
+    match def {
+        Def::Function(id) => match map.fn_as_proc_macro(id) {
+            Some(exported) => {
+                let (function, number) = (id.0, exported.0);
+                writeln!(out, "pair {index} fn:{function} proc_macro:{number}")
+            }
+            None => Ok(()),
+        },
+        Def::Macro(MacroId::ProcMacro(id)) => match map.proc_macro_as_fn(id) {
+            Some(exporting) => {
+                let (number, function) = (id.0, exporting.0);
+                writeln!(out, "pair {index} proc_macro:{number} fn:{function}")
+            }
+            None => Ok(()),
+        },
+        _ => Ok(()),
+    }
+}
+
+/// Writes the functions of a module that export procedural macros, and these macros, in the order in
+/// which they are declared.
+fn write_pairs(
+    index: usize,
+    map: &DefMap,
+    scope: ItemScope<'_>,
+    out: &mut Vec<u8>,
+) -> io::Result<()> {
+    for def in scope.declarations() {
+        write_pair(index, map, *def, out)?;
     }
     Ok(())
 }
@@ -277,6 +313,7 @@ fn write_scope(
     write_count("outside", index, outside(map.id(), scope), out)?;
     write_count("calls", index, calls(scope), out)?;
     write_count("extern-crates", index, scope.extern_crates().len(), out)?;
+    write_pairs(index, map, scope, out)?;
     write_impls(index, scope.builtin_derive_impls(), out)?;
     write_derives(index, scope, out)?;
     write_all_helpers(session, map, scope, out)

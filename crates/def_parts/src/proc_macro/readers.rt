@@ -3,7 +3,8 @@ ghost use Rattle.std.specs.Prelude.{◌≡◌, IfOk, option_map};
 ghost use Rattle.item_tree.specs.TokenElements.{seen};
 ghost use Rattle.item_tree.specs.TokenTrees.{idents, element_ident, elements};
 ghost use Rattle.def_readings.specs.DeriveNames.{is_comma, is_word, name_and_helpers};
-ghost use Rattle.def_parts.specs.ProcMacros.{read_as, decl_of, derive_declared, proc_macro_of};
+ghost use Rattle.def_readings.specs.ProcMacros.{derive_declared, proc_macro_of};
+ghost use Rattle.def_parts.specs.ProcMacros.{read_as, decl_of};
 
 use crate::proc_macro::{ProcMacroDef, ProcMacroKind};
 use item_tree::sym::{ATTRIBUTES, PROC_MACRO, PROC_MACRO_ATTRIBUTE, PROC_MACRO_DERIVE};

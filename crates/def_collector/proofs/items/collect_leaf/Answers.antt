@@ -14,3 +14,6 @@ returns-in-Impl-clause-handled g c =
 
 pub returns-in-Struct-clause-handled : goal.returns-in-Struct-clause-handled
 returns-in-Struct-clause-handled g c = on_ok c.collect_struct.result c.collect_struct.ensures.handled (λ handled leaf. handled c.in-Struct.is)
+
+pub returns-in-Function-clause-handled : goal.returns-in-Function-clause-handled
+returns-in-Function-clause-handled g c = on_ok c.collect_function.result c.collect_function.ensures.handled (λ handled leaf. handled c.in-Function.is)

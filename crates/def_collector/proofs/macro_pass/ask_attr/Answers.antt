@@ -8,8 +8,8 @@ use Rattle.def_collector.specs.Collector.{state_of}
 use Rattle.def_collector.specs.Passes.{IsAsked}
 use Rattle.def_map.specs.Asking.{world_lent}
 use Rattle.def_sources.specs.Tables.{bound_by}
-use Rattle.def_rules.specs.Attributes.{PassesOver, ReadsDerives, ReplacesItem}
-use Rattle.def_rules.specs.Directives.{Told, attr_told, item_told, use_told}
+use Rattle.def_rules.specs.Attributes.{HasNoExpander, PassesOver, ReadsDerives, ReplacesItem}
+use Rattle.def_rules.specs.Directives.{Told, WalksItem, attr_told, item_told, use_told}
 use Rattle.def_rules.specs.State.{State}
 use Rattle.def_collector.proofs.DeriveLemmas.{derives_long, listed, unlisted}
 use Rattle.def_collector.proofs.MacroPassLemmas.{both_ok, few_macros}
@@ -89,3 +89,21 @@ returns-in-ReplacesItem-clause-asked g c =
 
 pub returns-in-ReplacesItem-clause-same : goal.returns-in-ReplacesItem-clause-same
 returns-in-ReplacesItem-clause-same g c = left_not_kept _ c.replace_item.result c.replace_item.ensures.left
+
+pub returns-in_ok-report_no_expander-in-HasNoExpander-clause-asked : goal.returns-in_ok-report_no_expander-in-HasNoExpander-clause-asked
+returns-in_ok-report_no_expander-in-HasNoExpander-clause-asked g c =
+    let oracle = g.D.SourceDatabase.oracle c.args.db.now in
+    let s : State = state_of c.args.collector.now c.args.session.now in
+    let d = macro_directive_of c.args.directive in
+    let written = written_attr_of c.args.written in
+    let known = attr_is oracle s d written c.requires.kind c.is_helper.result (c.is_helper.ensures s) c.if-is_helper.false (world_lent g.D.SourceDatabase.oracle bound_by c.world-world.result) c.attr_macro.result c.world-world.ensures c.attr_macro.ensures in
+    let is = use_is oracle s d written c.requires.kind c.in-Some.found c.attr_macro.result (HasNoExpander c.in-HasNoExpander.err) known c.in-Some.is (sym c.attr_use.ensures ∙ ap attr_use_of c.in-HasNoExpander.is) in
+    let u : State = record s { diagnostics = c.report_no_expander.new.diagnostics.items } in
+    let walks : State → Told = λ x. record { state = x; turn = WalksItem [] written } in
+    let t : State = state_of c.walk_without-in-HasNoExpander.new.collector c.walk_without-in-HasNoExpander.new.session in
+    told_left (λ left. IsAsked oracle s d left t) c.walk_without-in-HasNoExpander.result c.walk_without-in-HasNoExpander.ensures.walked c.walk_without-in-HasNoExpander.ensures.few c.walk_without-in-HasNoExpander.ensures.left (λ walked few.
+    turn_walked oracle s u t d [] written (is ∙ ap walks (sym (c.in_ok-report_no_expander-in-HasNoExpander.ensures s))) refl (unlisted oracle u t d c.args.written c.empty-list-in-HasNoExpander.result c.empty-list-in-HasNoExpander.ensures.written walked c.empty-list-in-HasNoExpander.ensures.derives)
+    (omega (arith, c.walk_without-in-HasNoExpander.ensures.depth)) (omega arith) (few_macros c.walk_without-in-HasNoExpander.new.collector.unresolved_macros))
+
+pub returns-in_ok-report_no_expander-in-HasNoExpander-clause-same : goal.returns-in_ok-report_no_expander-in-HasNoExpander-clause-same
+returns-in_ok-report_no_expander-in-HasNoExpander-clause-same g c = left_not_kept _ c.walk_without-in-HasNoExpander.result c.walk_without-in-HasNoExpander.ensures.left

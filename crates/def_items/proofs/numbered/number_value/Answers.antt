@@ -3,24 +3,10 @@ use Rattle.std.proofs.lemmas.Bool.{false≢true}
 use Rattle.std.proofs.lemmas.Result.{IfOk-from_err}
 use Rattle.def_ids.specs.declared.ids.Def.TheVariants as def
 use Rattle.item_tree.specs.declared.items.ModItemKind.TheVariants.{Const}
-use Rattle.def_interner.specs.Session.{ConstItem, FunctionItem, StaticItem, in_container}
+use Rattle.def_interner.specs.Session.{ConstItem, StaticItem, in_container}
 use Rattle.def_items.specs.Numbered.{is_declaring}
 use Rattle.def_rules.specs.Rules.{rule_of}
 use Rattle.def_items.proofs.numbered.number_value.Goals as goal
-
-pub returns-in_ok-id-in-Function : goal.returns-in_ok-id-in-Function
-returns-in_ok-id-in-Function c = record {
-  declared = λ _. (
-    FunctionItem,
-    (λ n. def.Function (record { 0 = n })),
-    c.in_ok-id-in-Function.id.0,
-    refl,
-    c.in_ok-id-in-Function.ensures.shown ∙ ap (λ p. Some (in_container c.args.site.now.container p)) c.position.ensures,
-    ap rule_of c.in-Function.is,
-  );
-  same = λ none. absurd (false≢true (sym none ∙ ap is_declaring c.in-Function.is));
-  session = c.in_ok-id-in-Function.ensures.adds;
-}
 
 pub returns-in-Some : goal.returns-in-Some
 returns-in-Some c = record {
@@ -29,7 +15,7 @@ returns-in-Some c = record {
     (λ n. def.Const (record { 0 = n })),
     c.in_ok-id-in-Const.id.0,
     refl,
-    c.in_ok-id-in-Const.ensures.shown ∙ ap (λ p. Some (in_container c.args.site.now.container p)) c.position-in-Const.ensures,
+    c.in_ok-id-in-Const.ensures.shown ∙ ap (λ p. Some (in_container c.args.site.now.container p)) c.position.ensures,
     ap rule_of (c.in-Const.is ∙ ap (λ o. Const o c.in-Const.visibility) c.in-Some.is),
   );
   same = λ none. absurd (false≢true (sym none ∙ ap is_declaring (c.in-Const.is ∙ ap (λ o. Const o c.in-Const.visibility) c.in-Some.is)));
@@ -54,18 +40,15 @@ pub returns-in_default-name : goal.returns-in_default-name
 returns-in_default-name c =
     let kind = c.in-Const.is ∙ ap (λ o. Const o c.in-Const.visibility) c.in_default-name.is in
     record {
-      declared = λ _. (c.in_ok-id-in-Const.ensures.shown ∙ ap (λ p. Some (in_container c.args.site.now.container p)) c.position-in-Const.ensures, ap rule_of kind);
+      declared = λ _. (c.in_ok-id-in-Const.ensures.shown ∙ ap (λ p. Some (in_container c.args.site.now.container p)) c.position.ensures, ap rule_of kind);
       same = λ none. absurd (false≢true (sym none ∙ ap is_declaring kind));
       session = c.in_ok-id-in-Const.ensures.adds;
     }
 
 -- where nothing is numbered, locations alone were added
 
-pub returns-in_err-id-in-Function : goal.returns-in_err-id-in-Function
-returns-in_err-id-in-Function c = record { declared = IfOk-from_err _ _ c.from_residual.ensures.0; same = IfOk-from_err _ _ c.from_residual.ensures.0; session = c.in_err-id-in-Function.ensures.adds }
-
 pub returns-in_err-id-in-Const : goal.returns-in_err-id-in-Const
-returns-in_err-id-in-Const c = record { declared = IfOk-from_err _ _ c.from_residual-in_err-id-in-Const.ensures.0; same = IfOk-from_err _ _ c.from_residual-in_err-id-in-Const.ensures.0; session = c.in_err-id-in-Const.ensures.adds }
+returns-in_err-id-in-Const c = record { declared = IfOk-from_err _ _ c.from_residual.ensures.0; same = IfOk-from_err _ _ c.from_residual.ensures.0; session = c.in_err-id-in-Const.ensures.adds }
 
 pub returns-in_err-id-in-Static : goal.returns-in_err-id-in-Static
 returns-in_err-id-in-Static c = record { declared = IfOk-from_err _ _ c.from_residual-in_err-id-in-Static.ensures.0; same = IfOk-from_err _ _ c.from_residual-in_err-id-in-Static.ensures.0; session = c.in_err-id-in-Static.ensures.adds }

@@ -1,0 +1,13 @@
+use Rattle.std.proofs.Common.{◌++◌, ◌∷◌, [], ap, ◌∙◌}
+use Rattle.item_tree.specs.declared.mod_path.ModPath.{ModPath}
+use Rattle.def_calls.proofs.WaitingLemmas.{cloned_path}
+use Rattle.def_rules.specs.declared.diagnostics.DefDiagnostic.{DefDiagnostic}
+use Rattle.def_rules.specs.declared.diagnostics.DefDiagnosticKind.TheVariants.{MacroError}
+use Rattle.def_attrs.proofs.given.report_no_expander.Goals as goal
+
+pub returns : goal.returns
+returns c = λ s.
+    let d = c.args.directive.now in
+    let shown : ModPath → DefDiagnostic = λ path. record { «module» = d.module_id; ast_id = d.position; kind = MacroError path c.args.err } in
+    let more = c.in_ok-push.ensures.items ∙ ap (λ path. c.args.diagnostics.now.items ++ shown path ∷ []) (cloned_path c.args.written.attr.now.path _ c.in_ok-clone.ensures.cases) in
+    λ i. record s { diagnostics = more i }
