@@ -1,7 +1,7 @@
-//! Runs of the program that prints maps: what it writes and says, its status, and what a write that is
-//! refused changes of them.
+//! Runs of the commands that print maps and their names: what they write and say, their status, and
+//! what a write that is refused changes of them.
 
-use def_workspace::{ProgramText, run, run_args};
+use def_workspace::{ProgramText, run_args};
 use std::alloc::Global;
 use std::io::{self, Write};
 
@@ -25,19 +25,27 @@ impl io::Write for Narrow {
     }
 }
 
-/// Runs the program, and answers its status.
+/// The arguments of a run, the program's own name first.
+fn args(alloc: Global, program: &ProgramText<'_>) -> io::Result<Vec<String>> {
+    if program.is_no_text {
+        return Err(io::Error::from(io::ErrorKind::InvalidData));
+    }
+    let mut args = Vec::new(alloc);
+    args.push(String::from_str(alloc, "defmap")?)?;
+    for word in &program.words {
+        args.push(String::from_str(alloc, word)?)?;
+    }
+    Ok(args)
+}
+
+/// Runs a command as the program does, and answers the status.
 fn status_of<O: io::Write, E: io::Write>(
     alloc: Global,
     program: &ProgramText<'_>,
     out: &mut O,
     err: &mut E,
 ) -> u8 {
-    if program.is_no_text {
-        let args = Err(io::Error::from(io::ErrorKind::InvalidData));
-        run_args(alloc, args, out, err)
-    } else {
-        run(alloc, program.words.as_slice(), out, err)
-    }
+    run_args(alloc, args(alloc, program), out, err)
 }
 
 /// Whether a run with so much room for its text, which is too little, ends with status 1, and says
