@@ -61,11 +61,14 @@ fn status<E: io::Write>(ended: Result<(), Fault>, err: &mut E) -> u8
     }
 }
 
-/// Says how the program is called, and answers the status.
+/// Says how the program is called, and answers the status. The program itself runs `rows`.
 fn usage<E: io::Write>(err: &mut E) -> u8
     ensures { result ≡ 2 }
 {
-    let _ = writeln!(err, "usage: defmap list | defmap show NAME");
+    let _ = writeln!(
+        err,
+        "usage: defmap list | defmap show NAME | defmap rows FILE.."
+    );
     2
 }
 
