@@ -77,9 +77,10 @@ fn main(rt: HostRuntime) -> ExitCode {
     let args = args(&rt);
     let files = files(&args);
     let mut out = io::writer(&rt);
-    ExitCode::from(if files.is_empty() {
+    let status = if files.is_empty() {
         run_args(rt.alloc(), args, &mut out, &mut rt.stderr())
     } else {
         run_rows(&rt, files, &mut out)
-    })
+    };
+    ExitCode::from(status)
 }
