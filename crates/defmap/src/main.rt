@@ -62,7 +62,7 @@ fn run_files<W: io::Write>(
 
 /// Runs the rows of files, and answers the exit status: 1 where one is wrong, or where memory is
 /// refused, or a write.
-fn run_rows<W: io::Write>(rt: &HostRuntime, files: &[String], out: &mut W) -> u8 {
+fn rows_status<W: io::Write>(rt: &HostRuntime, files: &[String], out: &mut W) -> u8 {
     match run_files(rt, files, out) {
         Ok(0) => 0,
         Ok(_) => 1,
@@ -80,7 +80,7 @@ fn main(rt: HostRuntime) -> ExitCode {
     let status = if files.is_empty() {
         run_args(rt.alloc(), args, &mut out, &mut rt.stderr())
     } else {
-        run_rows(&rt, files, &mut out)
+        rows_status(&rt, files, &mut out)
     };
     ExitCode::from(status)
 }
