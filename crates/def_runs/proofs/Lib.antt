@@ -10,6 +10,7 @@ pub mod Plain
 pub mod Textual
 pub mod HandedOn
 pub mod Exported
+pub mod ProcMacro
 pub mod Cycle
 pub mod Excluded
 pub mod EmptyAlone
@@ -17,6 +18,7 @@ pub mod OutcomeLemmas
 pub mod Ring
 pub mod Private
 pub mod OneStructAlone
+pub mod ProcMacroAlone
 pub mod Excused
 pub mod Called
 pub mod Waiting
