@@ -215,13 +215,13 @@ module _ (after : Session) (answer : Answer) (answers : Answers setting no_sessi
   root_is_censored : is_censored answers.run.end.state (module_at 0) ≡ true
   root_is_censored = censors_alike (left_out_along {oracle = setting.oracle} answers.run.runs) (module_at 0)
 
-  -- so each answer shows there what a root of procedural macros shows of what its run bound
+  -- each answer shows there what such a root shows of what its run bound
   pub root_shows : (name : Name) (ns : Namespace) → answer.content.binding (module_at 0) name ns ≡ option_map censored_binding (answers.run.end.state.content.binding (module_at 0) name ns)
   root_shows name ns =
       let was : Option (Binding Visibility) = answers.run.end.state.content.binding (module_at 0) name ns in
       ap (λ (c : Content Visibility). c.binding (module_at 0) name ns) answers.answered.content ∙ ap (λ is. cond is (option_map censored_binding was) was) root_is_censored
 
-  -- and nothing else is public there
+  -- so nothing but a procedural macro is public there, in any answer
   public_is_macro : (name : Name) (ns : Namespace) (held : Binding Visibility) → answer.content.binding (module_at 0) name ns ≡ Some held → held.vis ≡ Public → is_declared_macro held ≡ true
   public_is_macro name ns held bound = is_macro_if_some (answers.run.end.state.content.binding (module_at 0) name ns) held (sym (root_shows name ns) ∙ bound)
 

@@ -1,10 +1,9 @@
--- Each answer of that crate of procedural macros leaves f out of values and S for the crate alone, whatever run is taken.
-use Rattle.std.proofs.Common.{◌≡◌, ◌∙◌, ℕ, ◌+◌, Bool, true, false, cond, ◌&&◌, Option, Some, None, option_map, List, [], ◌∷◌, ◌++◌, drop, slice_get, refl, sym, subst, ap, arith}
+-- Each answer of `#[proc_macro] pub fn f() {} pub struct S;` in a crate of procedural macros has f in macros alone and S for the crate alone, whatever run is taken: so one with f in values is none.
+use Rattle.std.proofs.Common.{◌≡◌, ◌∙◌, ℕ, ◌+◌, true, cond, ◌&&◌, Option, Some, None, option_map, List, [], ◌∷◌, ◌++◌, slice_get, refl, sym, subst, ap, arith}
 use Rattle.std.proofs.lemmas.Bool.{eq-eqb, or_right}
 use Rattle.std.proofs.lemmas.List.{drop_all}
 use Rattle.std.proofs.Math.Seq.{drop-nil}
 use Rattle.tree_ids.specs.declared.ids.AttrId.{AttrId}
-use Rattle.tree_ids.specs.declared.ids.ModItemId.{ModItemId}
 use Rattle.tree_ids.specs.declared.name.Name.{Name}
 use Rattle.item_tree.specs.declared.items.ItemNode.{ItemNode}
 use Rattle.item_tree.specs.Attrs.{attrs_of, iter_after, numbered_from}
@@ -28,12 +27,12 @@ use Rattle.def_laws.proofs.RunsLaws.{kept_along}
 use Rattle.def_rules.specs.Attributes.{first_unknown, is_builtin_or_registered_attr}
 use Rattle.def_rules.specs.Deferred.{GiveImpls, ImplsAreGiven, deferred_in, without_deferred}
 use Rattle.def_rules.specs.Headline.{Answers}
-use Rattle.def_rules.specs.Items.{declared_entry, position_of, put_declared}
+use Rattle.def_rules.specs.Items.{declared_entry, position_of}
 use Rattle.def_rules.specs.ProcMacros.{DeclaresFunction, binds_function, censored, censored_binding, exported_macro, taken_out, takes_out}
 use Rattle.def_rules.specs.Report.{Answer}
 use Rattle.def_rules.specs.Rules.{Handles, HandlesByKind, HandlesInSession, VisitsEnabled}
 use Rattle.def_rules.specs.Start.{first_site, start}
-use Rattle.def_rules.specs.State.{Site, State, Effect, Task, Enter, Visit, Put, TakeOut, Moment, after, order, with_content}
+use Rattle.def_rules.specs.State.{Site, State, Effect, Task, Enter, Visit, Put, TakeOut, Moment, order, with_content}
 use Rattle.def_rules.specs.Steps.{Does, Step, one, performs, asks, copies, expands, rearranges, records, falls_back, reorders}
 use Rattle.def_rules.specs.Targets.{leaves_out}
 use Rattle.def_runs.proofs.Exported.{marked_with}
