@@ -89,6 +89,7 @@ impl DefCollector<'_> {
 
     /// Declares a definition in one namespace, as visible as is written. On `Err` nothing but
     /// safety is promised.
+    #[inline(always)]
     pub(super) fn declare<D: SourceDatabase>(
         &mut self,
         db: &D,
