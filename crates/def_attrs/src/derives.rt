@@ -101,7 +101,7 @@ pub fn record_list(
         calls: no_calls(alloc, list.paths)?,
     };
     let module = directive.module_id.index;
-    def_map.set_derive(module, directive.position, list.written.attr_id, derive)
+    def_map.init_derive_attribute(module, directive.position, list.written.attr_id, derive)
 }
 
 /// For each path that it has no call.

@@ -17,7 +17,7 @@ use def_calls::{
     take_out,
 };
 use def_interner::MacroDefId;
-use def_map::{MapData, SourceDatabase};
+use def_map::{HelpersRange, MapData, SourceDatabase};
 use def_rules::{DefDiagnostic, DefDiagnosticKind, ExpandErrorKind};
 use item_tree::{ModPath, SyntaxContext};
 use std::alloc::AllocError;
@@ -68,9 +68,13 @@ pub fn call_tried<'a, D: SourceDatabase>(
     let written = found.written;
     match deferred_derive(db, found.macro_def) {
         Some(derive) => {
+            let position = directive.position;
+            let start = def_map.derive_helper_count(position);
             let call = call_derive(def_map, db, directive, written, found.macro_def)?;
-            let deferral = directive.deferral(written, call, derive);
-            deferred.defer(directive.position, deferral)
+            let end = def_map.derive_helper_count(position);
+            let helpers = HelpersRange { start, end };
+            let deferral = directive.deferral(written, call, derive, helpers);
+            deferred.defer(position, deferral)
         }
         None => {
             let call = give_derive(def_map, db, directive, written, found.macro_def)?;

@@ -71,7 +71,7 @@ fn give_each<D: SourceDatabase>(
     if let Some(id) = last {
         let made = Either::Right(id);
         def_map.set_derive_call(module, item.position, derive.attr_id, derive.pos, made);
-        def_map.rename_derive_helpers(item.position, derive.call, id);
+        def_map.rename_derive_helpers(item.position, derive.helpers, id);
     }
     Ok(())
 }

@@ -5,24 +5,28 @@ ghost use Rattle.def_rules.specs.Deferred.{deferral, deferred_expansion};
 
 use crate::directives::{Expansion, MacroDirective, WrittenDerive};
 use crate::queries::deeper;
+use def_map::HelpersRange;
 use def_rules::DeferredDerive;
 use item_tree::MacroCallId;
 
 impl<'a> MacroDirective<'a> {
-    /// How a derive of the attribute that waited is deferred: one level deeper.
+    /// How a derive of the attribute that waited is deferred: one level deeper, with the helpers that it
+    /// added.
     pub fn deferral(
         &self,
         written: WrittenDerive<'a>,
         call: MacroCallId,
         derive: u32,
+        helpers: HelpersRange,
     ) -> DeferredDerive
-        ensures { result ≡ deferral (macro_directive_of self.now) (written_derive_of written.entry) call derive }
+        ensures { result ≡ deferral (macro_directive_of self.now) (written_derive_of written.entry) call derive helpers }
     {
         DeferredDerive {
             derive,
             attr_id: written.attr_id,
             pos: written.pos,
             call,
+            helpers,
             module_id: self.module_id,
             container: self.container,
             depth: deeper(self.depth),

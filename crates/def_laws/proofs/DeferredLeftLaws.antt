@@ -33,8 +33,8 @@ use Rattle.tree_ids.specs.declared.name.Name.{Name}
 use Rattle.def_ids.specs.declared.ids.FunctionId.{FunctionId}
 use Rattle.def_ids.specs.declared.ids.ModuleId.{ModuleId}
 use Rattle.def_rules.specs.ProcMacros.{taken_out, takes_out}
-use Rattle.def_rules.specs.Deferred.{GiveImpls, deferral, deferred_at, deferred_derive, deferred_in, with_deferred, without_deferred}
-use Rattle.def_rules.specs.Derives.{derive_call, derive_directive, derive_macro, derive_paths, derives_kind, may_derive}
+use Rattle.def_rules.specs.Deferred.{GiveImpls, added_helpers, deferral, deferred_at, deferred_derive, deferred_in, with_deferred, without_deferred}
+use Rattle.def_rules.specs.Derives.{derive_call, derive_directive, derive_macro, derive_paths, derives_kind, may_derive, with_shown_helpers}
 use Rattle.def_rules.specs.Directives.{ExpansionStep, GivesCall, GivesDerive, MacroStep, Replaces, Stays, Told, Turn, WalksItem, attr_told, call_answer, call_told, called_state, derive_told, given_turn, item_told, list_told, told, told_by, tried_effect, tries, turn_effect, use_told}
 use Rattle.def_rules.specs.Fallback.{FallbackStep, attr_reported}
 use Rattle.def_rules.specs.Imports.{answer_now}
@@ -348,7 +348,7 @@ module _ (oracle : Oracle) where
 
     -- a derive that is called is deferred for an item that is visited behind it, or its expansion waits
     called_awaited : (found : MacroDefId) (call : MacroCallId) (n : Option ℕ) → IsAwaited rest (called_state oracle s d written found call n)
-    called_awaited found call (Some n) = awaited_deferring rest s.macros s.deferred d.position (deferral d written call n) a.before.0 tried_gone
+    called_awaited found call (Some n) = awaited_deferring rest s.macros s.deferred d.position (deferral d written call n (added_helpers s.map (with_shown_helpers oracle s.map d found call) d.position)) a.before.0 tried_gone
     called_awaited found call None = tried_gone
 
     -- one whose macro is not found waits

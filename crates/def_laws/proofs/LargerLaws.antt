@@ -193,7 +193,7 @@ larger_naming at position derive None m = larger_refl m
 larger_naming at position derive (Some id) m =
     let placed : ModuleState → ModuleState = called_at position derive.attr_id derive.pos (Right id) in
     let first : MapState = with_module m at.index placed in
-    larger_trans m first (with_renamed_helpers first position derive.call id) (larger_with_module m at.index placed) (larger_same first (with_renamed_helpers first position derive.call id) refl refl refl refl)
+    larger_trans m first (with_renamed_helpers first position derive.helpers id) (larger_with_module m at.index placed) (larger_same first (with_renamed_helpers first position derive.helpers id) refl refl refl refl)
 
 pub larger_given : (oracle : Oracle) (session : Session) (at : ModuleId) (position : InFile FileAstId) (adt : Adt) (derives : List DeferredDerive) (m new : MapState) → AreGiven oracle session at position adt derives m new → IsLarger m new
 larger_given oracle session at position adt [] m new same = subst (IsLarger m) (sym same) (larger_refl m)

@@ -32,8 +32,8 @@ use Rattle.def_paths.specs.Paths.{for_import, resolve, resolver}
 use Rattle.def_globs.proofs.ListLaws.{first_in, later_in}
 use Rattle.def_rules.specs.Calls.{answer_by, deeper, deepest, expansion_effect, expansion_site, expansion_tree, invoking, is_too_deep, with_invocations, with_replaced}
 use Rattle.def_rules.specs.Attributes.{AttrUse, HasNoExpander, PassesOver, ReadsDerives, ReplacesItem, attr_macro, attr_query, attr_use, is_helper, is_helper_name, item_site}
-use Rattle.def_rules.specs.Deferred.{deferral, deferred_at, deferred_derive, deferred_expansion}
-use Rattle.def_rules.specs.Derives.{derive_call, derive_directive, derive_macro, derive_paths, derive_query, derives_from, may_derive}
+use Rattle.def_rules.specs.Deferred.{added_helpers, deferral, deferred_at, deferred_derive, deferred_expansion}
+use Rattle.def_rules.specs.Derives.{derive_call, derive_directive, derive_macro, derive_paths, derive_query, derives_from, may_derive, with_shown_helpers}
 use Rattle.def_rules.specs.declared.diagnostics.DefDiagnosticKind.{DefDiagnosticKind}
 use Rattle.def_rules.specs.Directives.{AllStay, ExpansionStep, GivesDerive, MacroStep, Replaces, Stays, Told, Turn, WalksItem, answer_in, attr_told, call_answer, call_told, called_state, derive_told, expanding, expansion_of, given_state, given_turn, item_told, list_told, replaced_state, told, told_by, tried_effect, tries, turn_effect, use_told, walked_state}
 use Rattle.def_rules.specs.Imports.{is_ready}
@@ -288,7 +288,7 @@ module _ (oracle : Oracle) (s : State) (d : MacroDirective) (written : WrittenDe
       let most = deeper_weighs d.depth deep in
       omega (arith, more, last, most)
   called_weighs deep found call (Some n) =
-      let more = deferring_work s d.position (deferral d written call n) in
+      let more = deferring_work s d.position (deferral d written call n (added_helpers s.map (with_shown_helpers oracle s.map d found call) d.position)) in
       let most = deeper_weighs d.depth deep in
       omega (arith, more, most)
 

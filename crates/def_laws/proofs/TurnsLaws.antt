@@ -24,8 +24,8 @@ use Rattle.def_rules.specs.declared.diagnostics.DefDiagnostic.{DefDiagnostic}
 use Rattle.def_rules.specs.declared.diagnostics.DefDiagnosticKind.{DefDiagnosticKind}
 use Rattle.def_rules.specs.declared.diagnostics.DefDiagnosticKind.TheVariants.{MacroError}
 use Rattle.def_rules.specs.Attributes.{AttrUse, HasNoExpander, PassesOver, ReadsDerives, ReplacesItem, activated, attr_macro, attr_query, attr_use, directive_reported, is_helper, item_site}
-use Rattle.def_rules.specs.Deferred.{deferral, deferred_at, deferred_derive, deferred_expansion, expanding_deferred}
-use Rattle.def_rules.specs.Derives.{derive_call, derive_directive, derive_macro, derive_paths, derived, may_derive}
+use Rattle.def_rules.specs.Deferred.{added_helpers, deferral, deferred_at, deferred_derive, deferred_expansion, expanding_deferred}
+use Rattle.def_rules.specs.Derives.{derive_call, derive_directive, derive_macro, derive_paths, derived, may_derive, with_shown_helpers}
 use Rattle.def_rules.specs.Directives.{ExpansionStep, GivesCall, GivesDerive, MacroStep, Replaces, Stays, Turn, WalksItem, attr_told, call_answer, call_told, called_state, derive_told, expanding, expansion_of, given_state, item_told, list_told, replaced_state, told, told_by, tried_effect, tries, turn_effect, use_told, walked_state}
 use Rattle.def_rules.specs.Fallback.{FallbackStep, attr_reported}
 use Rattle.def_rules.specs.Items.{node_at}
@@ -182,7 +182,7 @@ module _ (oracle : Oracle) (s : State) (d : MacroDirective) (written : WrittenDe
         ends = refl;
       }
   called_footprint found call (Some n) =
-      let x : DeferredDerive = deferral d written call n in
+      let x : DeferredDerive = deferral d written call n (added_helpers s.map (with_shown_helpers oracle s.map d found call) d.position) in
       let t : State = called_state oracle s d written found call (Some n) in
       record {
         macros = s.macros;

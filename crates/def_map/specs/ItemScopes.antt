@@ -1,5 +1,5 @@
 -- What is seen of a module's scope.
-use Rattle.std.specs.Prelude.{◌≡◌, ℕ, Bool, false, List, Option, None, Some, map, drop, slice_get}
+use Rattle.std.specs.Prelude.{◌≡◌, ℕ, Bool, false, List, [], Option, None, Some, map, drop, slice_get}
 use Rattle.std.specs.Borrow.{Bor}
 use Rattle.indexmap.specs.IndexMap.{IndexMap}
 use Rattle.indexmap.specs.IndexSet.{IndexSet}
@@ -16,7 +16,7 @@ use Rattle.def_map.specs.declared.item_scope.ItemScope.{ItemScope}
 use Rattle.def_sources.specs.declared.per_ns.PerNs.{PerNs}
 use Rattle.def_map.specs.DefMaps.{state_of, content_of}
 use Rattle.def_modules.specs.declared.module_data.DeriveKey.{DeriveKey}
-use Rattle.def_modules.specs.declared.module_data.DeriveMacroInvocation.{DeriveMacroInvocation}
+use Rattle.def_modules.specs.declared.module_data.DeriveRecords.{DeriveRecords}
 use Rattle.def_modules.specs.declared.module_data.Invocation.{Invocation}
 use Rattle.def_modules.specs.MapState.{ModuleState, DeriveState, Position}
 use Rattle.def_modules.specs.ScopeMaps.{derives_of, invoked_of}
@@ -42,8 +42,8 @@ invoked_in None position call = false
 invoked_in (Some calls) position call = invoked_of calls.now position call
 
 -- the derives of a map, if there is one
-abbrev pub derives_in : {S : Type 0} → Option (Bor (IndexMap DeriveKey DeriveMacroInvocation S)) → Position → AttrId → Option DeriveState
-derives_in None position attr = None
+abbrev pub derives_in : {S : Type 0} → Option (Bor (IndexMap DeriveKey DeriveRecords S)) → Position → AttrId → List DeriveState
+derives_in None position attr = []
 derives_in (Some derives) position attr = derives_of derives.now position attr
 
 -- what a name means in a module

@@ -11,7 +11,7 @@ use def_ids::{
     BuiltinDeriveImplId, ConstId, Def, ExternBlockId, ExternCrateId, ImplId, MacroId, ModuleId,
     TraitId,
 };
-use def_modules::{DeriveKey, DeriveMacroInvocation, Invocation, ModuleData, RareParts};
+use def_modules::{DeriveKey, DeriveRecords, Invocation, ModuleData, RareParts};
 use def_paths::{PerNs, Table, bound};
 use indexmap::{IndexMap, IndexSet};
 use item_tree::{Name, Seq};
@@ -139,9 +139,9 @@ impl<'a> ItemScope<'a> {
         Some(&rare.invocations)
     }
 
-    /// The derive attributes, each with its call and what its paths gave. Where no rare part is
-    /// recorded, there is no map.
-    pub fn derives(&self) -> Option<&'a IndexMap<DeriveKey, DeriveMacroInvocation>>
+    /// The derive attributes, each with its records: its call, and what its paths gave. Where no rare
+    /// part is recorded, there is no map.
+    pub fn derives(&self) -> Option<&'a IndexMap<DeriveKey, DeriveRecords>>
         ensures { derives_in result ≡ (scope_state self.now).derives }
     {
         let rare = self.rare()?;

@@ -12,9 +12,9 @@ mod source_database;
 pub use block::BlockInfo;
 pub use def_map::DefMap;
 pub use def_modules::{
-    DefMapCrateData, DeriveCall, DeriveHelper, DeriveKey, DeriveMacroInvocation,
-    ExternPreludeEntry, Invocation, LocalDefMap, MapData, ModuleData, ModuleOrigin, Position,
-    RareParts, ScopeData, UnstableFeatures,
+    DefMapCrateData, DeriveCall, DeriveHelper, DeriveKey, DeriveMacroInvocation, DeriveRecords,
+    ExternPreludeEntry, HelpersRange, Invocation, LocalDefMap, MapData, ModuleData, ModuleOrigin,
+    Position, RareParts, ScopeData, UnstableFeatures,
 };
 pub use item_scope::{ItemScope, Resolutions, UnnamedTraits};
 pub use macro_resolver::MacroResolver;

@@ -1,6 +1,6 @@
 -- A module that holds nothing, as it is kept and as it is shown.
 use Rattle.std.proofs.Common.{◌≡◌, true, false, List, [], Option, Some, None, refl, sym, ap, ◌∙◌, reverse}
-use Rattle.std.specs.Prelude.{unwrap_or, option_map}
+use Rattle.std.specs.Prelude.{unwrap_or}
 use Rattle.std.specs.Option.{option_map_or}
 use Rattle.std.proofs.lemmas.Bool.{eq-eqb}
 use Rattle.std.proofs.lemmas.List.{reverse-reverse}
@@ -12,7 +12,7 @@ use Rattle.def_bindings.specs.Content.{is_name}
 use Rattle.def_bindings.specs.IdLaws.{name-refl}
 use Rattle.def_bindings.specs.declared.visibility.Visibility.TheVariants.{Public}
 use Rattle.def_modules.specs.declared.module_data.DeriveKey.{DeriveKey}
-use Rattle.def_modules.specs.declared.module_data.DeriveMacroInvocation.{DeriveMacroInvocation}
+use Rattle.def_modules.specs.declared.module_data.DeriveRecords.{DeriveRecords}
 use Rattle.def_modules.specs.declared.module_data.Invocation.{Invocation}
 use Rattle.def_modules.specs.declared.module_data.ModuleData.{ModuleData}
 use Rattle.def_modules.specs.declared.module_data.ModuleOrigin.{ModuleOrigin}
@@ -20,7 +20,7 @@ use Rattle.def_modules.specs.declared.module_data.RareParts.{RareParts}
 use Rattle.def_modules.specs.Equality.{file_eq, position_eq, derive_key_eq, invocation_eq}
 use Rattle.def_modules.specs.MapState.{Position}
 use Rattle.def_modules.specs.RareParts.{rare_state, no_rare, rare_in}
-use Rattle.def_modules.specs.ScopeMaps.{derive_state, derives_of, invoked_of}
+use Rattle.def_modules.specs.ScopeMaps.{records_in, derives_of, invoked_of}
 use Rattle.def_modules.specs.Scopes.{module_state, empty_module}
 use Rattle.def_modules.proofs.FreshLemmas.{no_keys, keys_none, no_members, members_none}
 
@@ -70,7 +70,7 @@ none_shown : {X : Type 0} (o : Option (List X)) → option_map_or reverse o [] �
 none_shown None h = refl
 none_shown (Some xs) h = sym (reverse-reverse xs) ∙ ap reverse h
 
-no_derive : (o : Option DeriveMacroInvocation) → option_map derive_state o ≡ None → o ≡ None
+no_derive : (o : Option DeriveRecords) → option_map_or records_in o [] ≡ [] → o ≡ None
 no_derive None h = refl
 no_derive (Some d) h = cc
 
@@ -78,7 +78,7 @@ module _ (r : RareParts) where
   -- parts that hold nothing show nothing
   pub bare_parts : AreBare r → rare_state r ≡ no_rare
   bare_parts b =
-      let derives : derives_of r.derives ≡ (λ p a. None) = rw b.derives refl in
+      let derives : derives_of r.derives ≡ (λ p a. []) = rw b.derives refl in
       let invoked : invoked_of r.invocations ≡ (λ p c. false) = rw b.invoked refl in
       λ i. record {
         extern_crates = b.extern_crates i;

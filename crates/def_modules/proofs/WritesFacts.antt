@@ -103,20 +103,26 @@ helper n = record { name = name n; macro_id = rules 1; by = Left (record { 0 = 8
 helpers : (with_helper (with_helper (with_helper bare (item 4) (helper 5)) (item 3) (helper 6)) (item 4) (helper 7)).helpers (item 4) ≡ helper 5 ∷ helper 7 ∷ []
 helpers = refl
 
--- a helper that another call gave
-abbrev other_helper : ℕ → ShownHelper
-other_helper n = record { name = name n; macro_id = rules 1; by = Left (record { 0 = 9 }) }
-
 -- a helper that a builtin impl gave
 abbrev builtin_helper : ℕ → ShownHelper
 builtin_helper n = record { name = name n; macro_id = rules 1; by = Right (record { 0 = 3 }) }
 
--- of an item's helpers those that this call gave name the impl in its place, and those of another item stay
-abbrev renamed : MapState
-renamed = with_renamed_helpers (with_helper (with_helper (with_helper bare (item 4) (helper 5)) (item 4) (other_helper 6)) (item 3) (helper 7)) (item 4) (record { 0 = 8 }) (record { 0 = 3 })
+-- of an item's helpers those in the range name the impl, though one call gave all, and those of another item stay
+abbrev four : MapState
+four = with_helper (with_helper (with_helper (with_helper bare (item 4) (helper 5)) (item 4) (helper 6)) (item 4) (helper 8)) (item 3) (helper 7)
 
-helpers_renamed : (renamed.helpers (item 4) ≡ builtin_helper 5 ∷ other_helper 6 ∷ []) × (renamed.helpers (item 3) ≡ helper 7 ∷ [])
-helpers_renamed = (refl, refl)
+abbrev renamed : ℕ → ℕ → MapState
+renamed start end = with_renamed_helpers four (item 4) (record { start = start; end = end }) (record { 0 = 3 })
+
+helper_renamed : ((renamed 1 2).helpers (item 4) ≡ helper 5 ∷ builtin_helper 6 ∷ helper 8 ∷ []) × ((renamed 1 2).helpers (item 3) ≡ helper 7 ∷ [])
+helper_renamed = (refl, refl)
+
+helpers_renamed : (renamed 0 2).helpers (item 4) ≡ builtin_helper 5 ∷ builtin_helper 6 ∷ helper 8 ∷ []
+helpers_renamed = refl
+
+-- in an empty range is none
+no_helper_renamed : (renamed 1 1).helpers (item 4) ≡ helper 5 ∷ helper 6 ∷ helper 8 ∷ []
+no_helper_renamed = refl
 
 -- impls stand in order, each with whether it is one of a trait
 impls : (with_impl (record { 0 = 2 }) true (with_impl (record { 0 = 1 }) false root)).impls ≡ (record { 0 = 1 }, false) ∷ (record { 0 = 2 }, true) ∷ []
@@ -139,21 +145,24 @@ unnamed_consts = refl
 abbrev pending : ℕ → DeriveState
 pending call = record { call = record { 0 = call }; calls = None ∷ None ∷ [] }
 
--- a derive takes the place of the earlier one of its item and attribute, and of no other
-derive : (with_derive (item 4) (record { 0 = 0 }) (pending 9) (with_derive (item 4) (record { 0 = 0 }) (pending 8) root)).derives (item 4) (record { 0 = 0 }) ≡ Some (pending 9)
+-- a derive stands behind the earlier one of its item and attribute, and of no other
+abbrev twice : ModuleState
+twice = with_derive (item 4) (record { 0 = 0 }) (pending 9) (with_derive (item 4) (record { 0 = 0 }) (pending 8) root)
+
+derive : twice.derives (item 4) (record { 0 = 0 }) ≡ pending 8 ∷ pending 9 ∷ []
 derive = refl
 
-derive_of_another_attribute : (with_derive (item 4) (record { 0 = 0 }) (pending 9) (with_derive (item 4) (record { 0 = 1 }) (pending 8) root)).derives (item 4) (record { 0 = 1 }) ≡ Some (pending 8)
+derive_of_another_attribute : (with_derive (item 4) (record { 0 = 0 }) (pending 9) (with_derive (item 4) (record { 0 = 1 }) (pending 8) root)).derives (item 4) (record { 0 = 1 }) ≡ pending 8 ∷ []
 derive_of_another_attribute = refl
 
--- a call goes to its place in the list of its derive, and where there is no such derive nothing is put
+-- a call goes to its place in the list of the first record of its derive, and where there is no such derive nothing is put
 abbrev given : DeriveCall
 given = Right (record { 0 = 3 })
 
-second_call : (called_at (item 4) (record { 0 = 0 }) 1 given (with_derive (item 4) (record { 0 = 0 }) (pending 8) root)).derives (item 4) (record { 0 = 0 }) ≡ Some (record { call = record { 0 = 8 }; calls = None ∷ Some given ∷ [] })
+second_call : (called_at (item 4) (record { 0 = 0 }) 1 given twice).derives (item 4) (record { 0 = 0 }) ≡ record { call = record { 0 = 8 }; calls = None ∷ Some given ∷ [] } ∷ pending 9 ∷ []
 second_call = refl
 
-call_of_no_derive : (called_at (item 4) (record { 0 = 0 }) 1 given root).derives (item 4) (record { 0 = 0 }) ≡ None
+call_of_no_derive : (called_at (item 4) (record { 0 = 0 }) 1 given root).derives (item 4) (record { 0 = 0 }) ≡ []
 call_of_no_derive = refl
 
 -- a macro call is recorded with its item: neither suffices alone

@@ -48,8 +48,8 @@ pub record ModuleState : Type 0 where
   pub impls : List (ImplId × Bool)
   pub derive_impls : List BuiltinDeriveImplId
   pub extern_blocks : List ExternBlockId
-  -- the derives, by position and attribute
-  pub derives : Position → AttrId → Option DeriveState
+  -- the records of derive attributes, by position and attribute, in order
+  pub derives : Position → AttrId → List DeriveState
   -- the macro calls, each with its position, as a set
   pub invoked : Position → MacroCallId → Bool
   -- the names that failed to import

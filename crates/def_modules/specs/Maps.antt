@@ -1,10 +1,9 @@
 -- What a map shows, and what each write does to it.
-use Rattle.std.specs.Prelude.{Bool, true, false, cond, nat_eq, nat_lt, if◌then◌else◌, List, [], ◌∷◌, ◌++◌, ℕ, Option, None, Some, length, map, slice_get, unwrap_or}
+use Rattle.std.specs.Prelude.{Bool, true, cond, nat_lt, if◌then◌else◌, List, [], ◌∷◌, ◌++◌, ◌-◌, ℕ, zero, suc, Option, None, Some, length, map, slice_get, unwrap_or}
 use Rattle.std.specs.Option.{option_map_or}
 use Rattle.indexmap.specs.IndexMap.{IndexMap, get}
 use Rattle.indexmap.specs.IndexSet.{contains}
-use Rattle.either.specs.declared.Either.TheVariants.{Left, Right}
-use Rattle.tree_ids.specs.declared.ids.MacroCallId.{MacroCallId}
+use Rattle.either.specs.declared.Either.TheVariants.{Right}
 use Rattle.tree_ids.specs.declared.name.Name.{Name}
 use Rattle.def_ids.specs.declared.ids.BuiltinDeriveImplId.{BuiltinDeriveImplId}
 use Rattle.def_ids.specs.declared.ids.FunctionId.{FunctionId}
@@ -17,9 +16,10 @@ use Rattle.def_bindings.specs.Tree.{chain_of}
 use Rattle.def_modules.specs.declared.def_map_crate_data.DefMapCrateData.{DefMapCrateData}
 use Rattle.def_modules.specs.declared.def_map_crate_data.UnstableFeatures.{UnstableFeatures}
 use Rattle.def_modules.specs.declared.map.DeriveHelper.{DeriveHelper}
+use Rattle.def_modules.specs.declared.map.HelpersRange.{HelpersRange}
 use Rattle.def_modules.specs.declared.map.MapData.{MapData}
 use Rattle.def_modules.specs.Equality.{position_eq, function_eq, proc_macro_eq}
-use Rattle.def_modules.specs.MapState.{ModuleState, CrateState, MapState, ShownHelper, DeriveCall, Position}
+use Rattle.def_modules.specs.MapState.{ModuleState, CrateState, MapState, ShownHelper, Position}
 use Rattle.def_modules.specs.MapView.{MapFacts}
 use Rattle.def_modules.specs.Scopes.{module_state}
 use Rattle.def_modules.specs.Updates.{set_where, update_at}
@@ -145,18 +145,24 @@ with_macro_use s name id = record s { macro_use = set_where (is_name name) (Some
 abbrev pub with_helper : MapState → Position → ShownHelper → MapState
 with_helper s position helper = record s { helpers = with_last_helper s.helpers position helper }
 
--- whether what a derive gave is this call
-abbrev pub is_by_call : MacroCallId → DeriveCall → Bool
-is_by_call call (Left made) = nat_eq made.0 call.0
-is_by_call call (Right id) = false
+-- a helper that an impl gave
+abbrev pub given_by : BuiltinDeriveImplId → ShownHelper → ShownHelper
+given_by id helper = record helper { by = Right id }
 
--- a helper that this call gave, as one of an impl in its place
-abbrev pub renamed_helper : MacroCallId → BuiltinDeriveImplId → ShownHelper → ShownHelper
-renamed_helper call id helper = cond (is_by_call call helper.by) (record helper { by = Right id }) helper
+-- helpers of which those from a place on, so many, are an impl's
+abbrev pub renamed_from : ℕ → ℕ → BuiltinDeriveImplId → List ShownHelper → List ShownHelper
+renamed_from start count id [] = []
+renamed_from zero zero id (helper ∷ helpers) = helper ∷ helpers
+renamed_from zero (suc count) id (helper ∷ helpers) = given_by id helper ∷ renamed_from zero count id helpers
+renamed_from (suc start) count id (helper ∷ helpers) = helper ∷ renamed_from start count id helpers
 
--- the helpers of a position that a call gave, as those of an impl in its place
-abbrev pub with_renamed_helpers : MapState → Position → MacroCallId → BuiltinDeriveImplId → MapState
-with_renamed_helpers s position call id = record s { helpers = set_where (position_eq position) (map (renamed_helper call id) (s.helpers position)) s.helpers }
+-- so those of a range
+abbrev pub renamed_in : HelpersRange → BuiltinDeriveImplId → List ShownHelper → List ShownHelper
+renamed_in range = renamed_from range.start (range.end - range.start)
+
+-- the helpers of a position in a range, as those of an impl
+abbrev pub with_renamed_helpers : MapState → Position → HelpersRange → BuiltinDeriveImplId → MapState
+with_renamed_helpers s position range id = record s { helpers = set_where (position_eq position) (renamed_in range id (s.helpers position)) s.helpers }
 
 -- how deep expansions may nest: 128 where the crate states nothing
 abbrev pub limit_of : CrateState → ℕ

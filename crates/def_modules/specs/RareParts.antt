@@ -19,7 +19,7 @@ pub record RareState : Type 0 where
   pub extern_blocks : List ExternBlockId
   pub unnamed_consts : List ConstId
   pub derive_impls : List BuiltinDeriveImplId
-  pub derives : Position → AttrId → Option DeriveState
+  pub derives : Position → AttrId → List DeriveState
   pub invoked : Position → MacroCallId → Bool
   pub failed : Name → Bool
 
@@ -44,7 +44,7 @@ no_rare =
       extern_blocks = [];
       unnamed_consts = [];
       derive_impls = [];
-      derives = λ position attr. None;
+      derives = λ position attr. [];
       invoked = λ position call. false;
       failed = λ name. false;
     }

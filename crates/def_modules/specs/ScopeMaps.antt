@@ -1,5 +1,5 @@
 -- What a scope keeps by key.
-use Rattle.std.specs.Prelude.{◌≡◌, ◌++◌, ℕ, Bool, true, cond, ◌&&◌, ◌==◌, List, [], ◌∷◌, Option, Some, reverse, option_map}
+use Rattle.std.specs.Prelude.{◌≡◌, ◌++◌, ℕ, Bool, true, cond, ◌&&◌, ◌==◌, List, [], ◌∷◌, Option, None, Some, map, reverse}
 use Rattle.std.specs.Option.{option_map_or}
 use Rattle.indexmap.specs.IndexMap.{IndexMap, get}
 use Rattle.indexmap.specs.IndexSet.{IndexSet, contains}
@@ -10,6 +10,7 @@ use Rattle.def_ids.specs.declared.ids.MacroId.{MacroId}
 use Rattle.def_bindings.specs.Content.{is_name}
 use Rattle.def_modules.specs.declared.module_data.DeriveKey.{DeriveKey}
 use Rattle.def_modules.specs.declared.module_data.DeriveMacroInvocation.{DeriveMacroInvocation}
+use Rattle.def_modules.specs.declared.module_data.DeriveRecords.{DeriveRecords}
 use Rattle.def_modules.specs.declared.module_data.Invocation.{Invocation}
 use Rattle.def_modules.specs.Equality.{derive_key_eq, invocation_eq, position_eq}
 use Rattle.def_modules.specs.MapState.{DeriveState, DeriveCall, Position}
@@ -51,25 +52,42 @@ AreLastOf textual pairs = (own : Name → List MacroId) → defined_all own pair
 abbrev pub derive_state : DeriveMacroInvocation → DeriveState
 derive_state d = record { call = d.call; calls = d.calls.items }
 
--- the derives of each position and attribute
-abbrev pub derives_of : {S : Type 0} → IndexMap DeriveKey DeriveMacroInvocation S → Position → AttrId → Option DeriveState
-derives_of derives position attr = option_map derive_state (get derive_key_eq derives (record { position = position; attr = attr }))
+-- the records of a derive attribute, in order
+abbrev pub records_in : DeriveRecords → List DeriveState
+records_in records = derive_state records.first ∷ map derive_state records.later
+
+-- one record more, behind the others
+abbrev pub with_record : Option DeriveRecords → DeriveMacroInvocation → DeriveRecords
+with_record None derive = record { first = derive; later = [] }
+with_record (Some records) derive = record records { later = records.later ++ derive ∷ [] }
+
+-- so under a key, and nothing else
+abbrev pub PushesRecord : {K : Type 0} → (K → K → Bool) → (K → Option DeriveRecords) → (K → Option DeriveRecords) → K → DeriveMacroInvocation → Type 0
+PushesRecord eq old new key derive = (q : _) → new q ≡ cond (eq key q) (Some (with_record (old key) derive)) (old q)
+
+-- those of each position and attribute
+abbrev pub derives_of : {S : Type 0} → IndexMap DeriveKey DeriveRecords S → Position → AttrId → List DeriveState
+derives_of derives position attr = option_map_or records_in (get derive_key_eq derives (record { position = position; attr = attr })) []
 
 -- whether a derive is the one of this position and attribute
 abbrev pub is_derive_of : Position → AttrId → Position → AttrId → Bool
 is_derive_of position attr p a = position_eq position p && (attr.0 == a.0)
 
--- one derive set
-abbrev pub derive_set : (Position → AttrId → Option DeriveState) → Position → AttrId → Option DeriveState → Position → AttrId → Option DeriveState
-derive_set derives position attr derive p a = cond (is_derive_of position attr p a) derive (derives p a)
+-- the records of one derive attribute set
+abbrev pub derive_set : (Position → AttrId → List DeriveState) → Position → AttrId → List DeriveState → Position → AttrId → List DeriveState
+derive_set derives position attr records p a = cond (is_derive_of position attr p a) records (derives p a)
+
+-- one record of it more, behind the others
+abbrev pub derive_recorded : (Position → AttrId → List DeriveState) → Position → AttrId → DeriveState → Position → AttrId → List DeriveState
+derive_recorded derives position attr derive = derive_set derives position attr (derives position attr ++ derive ∷ [])
 
 -- a derive with this call at a place of its list
 abbrev pub with_call : ℕ → DeriveCall → DeriveState → DeriveState
 with_call pos call derive = record derive { calls = update_at derive.calls pos (λ before. Some call) }
 
--- one derive with this call at a place of its list, if it is there
-abbrev pub derive_called : (Position → AttrId → Option DeriveState) → Position → AttrId → ℕ → DeriveCall → Position → AttrId → Option DeriveState
-derive_called derives position attr pos call = derive_set derives position attr (option_map (with_call pos call) (derives position attr))
+-- the first record of it with this call at a place of its list, if it is there
+abbrev pub derive_called : (Position → AttrId → List DeriveState) → Position → AttrId → ℕ → DeriveCall → Position → AttrId → List DeriveState
+derive_called derives position attr pos call = derive_set derives position attr (update_at (derives position attr) 0 (with_call pos call))
 
 -- whether a call is recorded at a position
 abbrev pub invoked_of : {S : Type 0} → IndexSet Invocation S → Position → MacroCallId → Bool

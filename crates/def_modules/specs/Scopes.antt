@@ -18,7 +18,7 @@ use Rattle.def_modules.specs.declared.module_data.ModuleOrigin.{ModuleOrigin}
 use Rattle.def_modules.specs.MapState.{ModuleState, DeriveState, DeriveCall, Position}
 use Rattle.def_modules.specs.RareParts.{rare_in}
 use Rattle.def_modules.specs.Updates.{set_where}
-use Rattle.def_modules.specs.ScopeMaps.{textual_of, with_first, derive_set, invoked_with, derive_called, with_last}
+use Rattle.def_modules.specs.ScopeMaps.{textual_of, with_first, derive_recorded, invoked_with, derive_called, with_last}
 
 -- what a module shows
 abbrev pub module_state : ModuleData → ModuleState
@@ -55,7 +55,7 @@ empty_module name origin vis =
       impls = [];
       derive_impls = [];
       extern_blocks = [];
-      derives = λ position attr. None;
+      derives = λ position attr. [];
       invoked = λ position call. false;
       failed = λ name. false;
     }
@@ -92,9 +92,9 @@ with_impl id of_trait m = record m { impls = m.impls ++ (id, of_trait) ∷ [] }
 abbrev pub with_derive_impl : BuiltinDeriveImplId → ModuleState → ModuleState
 with_derive_impl id m = record m { derive_impls = m.derive_impls ++ id ∷ [] }
 
--- a derive recorded, in the place of an earlier one of its position and attribute
+-- a derive attribute recorded, behind its earlier records
 abbrev pub with_derive : Position → AttrId → DeriveState → ModuleState → ModuleState
-with_derive position attr derive m = record m { derives = derive_set m.derives position attr (Some derive) }
+with_derive position attr derive m = record m { derives = derive_recorded m.derives position attr derive }
 
 -- a call recorded at its position
 abbrev pub with_invocation : Position → MacroCallId → ModuleState → ModuleState
@@ -104,7 +104,7 @@ with_invocation position call m = record m { invoked = invoked_with m.invoked po
 abbrev pub marked_failed : Name → ModuleState → ModuleState
 marked_failed name m = record m { failed = set_where (is_name name) true m.failed }
 
--- a call of a derive's list at its place
+-- a call at its place of a derive attribute's list, in the first record
 abbrev pub called_at : Position → AttrId → ℕ → DeriveCall → ModuleState → ModuleState
 called_at position attr pos call m = record m { derives = derive_called m.derives position attr pos call }
 

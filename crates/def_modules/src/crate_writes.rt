@@ -1,17 +1,18 @@
 //! What the collector writes of a crate, and beside the modules into a map, where the write touches
 //! a map or a list. Where memory is refused nothing but safety is promised.
-ghost use Rattle.std.specs.Prelude.{◌≡◌, map, OnOk};
-ghost use Rattle.def_modules.specs.Maps.{crate_state, map_state, helper_state, with_feature, with_tool, with_exported, paired, with_macro_at, with_macro_use, with_helper, renamed_helper, with_renamed_helpers};
+ghost use Rattle.std.specs.Prelude.{◌≡◌, length, map, OnOk};
+ghost use Rattle.def_modules.specs.Maps.{crate_state, map_state, helper_state, with_feature, with_tool, with_exported, paired, with_macro_at, with_macro_use, with_helper, given_by, renamed_in, with_renamed_helpers};
+ghost use Rattle.def_modules.specs.Updates.{update_at};
 
 use crate::def_map_crate_data::DefMapCrateData;
 use crate::keyed_lists::{no_items, push_under};
-use crate::map::{DeriveHelper, MapData};
+use crate::map::{DeriveHelper, HelpersRange, MapData};
 use crate::module_data::Position;
 use def_ids::{BuiltinDeriveImplId, FunctionId, MacroId, ProcMacroId};
 use either::Either;
 use std::alloc::{AllocError, Global};
 use std::mem;
-use tree_ids::{MacroCallId, Name, Seq};
+use tree_ids::{Name, Seq};
 
 impl DefMapCrateData {
     /// Enables a feature.
@@ -52,31 +53,29 @@ impl DefMapCrateData {
     }
 }
 
-impl DeriveHelper {
-    /// Puts a builtin impl in the place of a call, where this call gave the helper.
-    fn rename(&mut self, call: MacroCallId, id: BuiltinDeriveImplId)
-        ensures { helper_state self.new ≡ renamed_helper call id (helper_state self.old) }
-    {
-        if self.by == Either::Left(call) {
-            self.by = Either::Right(id);
-        }
-    }
-}
-
-/// Puts a builtin impl in the place of a call, in each helper that this call gave.
-fn rename_all(
+/// Puts a builtin impl in the place of what gave them, in these helpers.
+fn rename_within(
     helpers: &mut Seq<DeriveHelper>,
     alloc: Global,
-    call: MacroCallId,
+    range: HelpersRange,
     id: BuiltinDeriveImplId,
 )
-    ensures { map helper_state helpers.new ≡ map (renamed_helper call id) (map helper_state helpers.old) }
+    ensures { map helper_state helpers.new ≡ renamed_in range id (map helper_state helpers.old) }
 {
     let mut items = mem::replace(helpers, no_items(alloc)).into_vec();
-    for helper in items.iter_mut() {
-        helper.rename(call, id);
+    'places: for place in range.start..range.end {
+        rename_at(&mut items, place, id);
     }
     *helpers = Seq::from_vec(items);
+}
+
+/// Puts a builtin impl in the place of what gave the helper at this place, if it is there.
+fn rename_at(helpers: &mut Vec<DeriveHelper>, place: usize, id: BuiltinDeriveImplId)
+    ensures { map helper_state helpers.new.items ≡ update_at (map helper_state helpers.old.items) place (given_by id) }
+{
+    if let Some(helper) = helpers.get_mut(place) {
+        helper.by = Either::Right(id);
+    }
 }
 
 impl MapData {
@@ -108,19 +107,29 @@ impl MapData {
         Ok(())
     }
 
-    /// Lets the helpers that a call gave at a position name a builtin impl in its place, as
-    /// rust-analyzer does with the derive helpers in `consider_deferred_derives`.
+    /// How many helper attributes are read at a position.
+    pub fn derive_helper_count(&self, position: Position) -> usize
+        ensures { result ≡ length ((map_state self.now).helpers position) }
+    {
+        match self.derive_helpers.get(&position) {
+            Some(helpers) => helpers.as_slice().len(),
+            None => 0,
+        }
+    }
+
+    /// Lets those of a position's helpers that a derive added name a builtin impl, as rust-analyzer
+    /// does with the derive helpers in `consider_deferred_derives`.
     pub fn rename_derive_helpers(
         &mut self,
         position: Position,
-        call: MacroCallId,
+        range: HelpersRange,
         id: BuiltinDeriveImplId,
     )
-        ensures { map_state self.new ≡ with_renamed_helpers (map_state self.old) position call id }
+        ensures { map_state self.new ≡ with_renamed_helpers (map_state self.old) position range id }
     {
         let alloc = *self.derive_helpers.allocator();
         if let Some(helpers) = self.derive_helpers.get_mut(&position) {
-            rename_all(helpers, alloc, call, id);
+            rename_within(helpers, alloc, range, id);
         }
     }
 }

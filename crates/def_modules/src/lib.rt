@@ -19,9 +19,9 @@ pub use block::BlockData;
 pub use def_map_crate_data::{DefMapCrateData, UnstableFeatures};
 pub use fresh::is_fresh_data;
 pub use local_def_map::{ExternPreludeEntry, LocalDefMap};
-pub use map::{DeriveHelper, MapData};
+pub use map::{DeriveHelper, HelpersRange, MapData};
 pub use module_data::{
-    DeriveCall, DeriveKey, DeriveMacroInvocation, Invocation, ModuleData, ModuleOrigin, Position,
-    RareParts, ScopeData,
+    DeriveCall, DeriveKey, DeriveMacroInvocation, DeriveRecords, Invocation, ModuleData,
+    ModuleOrigin, Position, RareParts, ScopeData,
 };
 pub use seed::{block_data, crate_data};

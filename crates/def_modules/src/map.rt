@@ -19,6 +19,13 @@ pub struct DeriveHelper {
     pub by: DeriveCall,
 }
 
+/// Those of the helpers of a position that one derive added: they stand from `start` up to `end`.
+#[derive(Clone, Copy)]
+pub struct HelpersRange {
+    pub start: usize,
+    pub end: usize,
+}
+
 /// All of a map but its bindings, unnamed traits and glob edges. The collector works on it.
 pub struct MapData {
     /// The map, the parents of its modules, and for a block the modules that contain it.

@@ -1,13 +1,16 @@
 //! A module of a map, and what its scope holds beside its bindings.
 ghost use Rattle.std.specs.Prelude.{◌≡◌, [], OnOk, IfOk};
-ghost use Rattle.def_modules.specs.ScopeMaps.{derive_state, textual_of, with_call};
+ghost use Rattle.indexmap.specs.IndexMap.{get};
+ghost use Rattle.def_modules.specs.ScopeMaps.{PushesRecord, derive_state, textual_of, with_call};
 
 use crate::keyed_lists::{no_items, push_under};
 use def_bindings::Visibility;
 use def_ids::{BuiltinDeriveImplId, ConstId, Def, ExternBlockId, ExternCrateId, ImplId, MacroId};
 use either::Either;
+use indexmap::map::Entry;
 use indexmap::{IndexMap, IndexSet};
 use std::alloc::{AllocError, Global};
+use std::hash::Hash;
 use std::rc::Rc;
 use tree_ids::{AttrId, FileAstId, FileId, InFile, MacroCallId, Name, Seq, TreeId};
 
@@ -52,6 +55,14 @@ pub struct DeriveMacroInvocation {
     pub calls: Vec<Option<DeriveCall>>,
 }
 
+/// The records of a derive attribute, in order. It has one, unless two calls were answered by one
+/// expansion, in which it stands.
+#[derive(Drop)]
+pub struct DeriveRecords {
+    pub first: DeriveMacroInvocation,
+    pub later: Seq<DeriveMacroInvocation>,
+}
+
 /// A macro call, and the item that it stands at.
 #[derive(Clone, Copy, PartialEq, Eq, Hash)]
 pub struct Invocation {
@@ -65,7 +76,7 @@ pub struct RareParts {
     pub extern_blocks: Seq<ExternBlockId>,
     pub unnamed_consts: Seq<ConstId>,
     pub builtin_derive_impls: Seq<BuiltinDeriveImplId>,
-    pub derives: IndexMap<DeriveKey, DeriveMacroInvocation>,
+    pub derives: IndexMap<DeriveKey, DeriveRecords>,
     pub invocations: IndexSet<Invocation>,
     /// The names that an import left over would have bound.
     pub failed: IndexSet<Name>,
@@ -145,6 +156,27 @@ impl DeriveMacroInvocation {
     }
 }
 
+/// Adds a record of a derive attribute, behind the others.
+fn push_record<K: Copy + Eq + Hash>(
+    derives: &mut IndexMap<K, DeriveRecords>,
+    key: K,
+    derive: DeriveMacroInvocation,
+) -> Result<(), AllocError>
+    ensures { OnOk result (PushesRecord K.eq (get K.eq derives.old) (get K.eq derives.new) key derive) }
+{
+    let alloc = *derives.allocator();
+    match derives.entry(key)? {
+        Entry::Occupied(entry) => entry.into_mut().later.push(derive)?,
+        Entry::Vacant(entry) => {
+            entry.insert(DeriveRecords {
+                first: derive,
+                later: no_items(alloc),
+            });
+        }
+    }
+    Ok(())
+}
+
 /// A list has room for so many elements once it has one, and to ask for less would be in vain.
 const FIRST_ROOM: usize = 4;
 
@@ -179,12 +211,13 @@ impl RareParts {
         Ok(Box::new(alloc, empty)?)
     }
 
-    /// Records the call of one path of a derive attribute, where the attribute has such a path.
+    /// Records the call of one path of a derive attribute in its first record, where that has such a
+    /// path.
     fn set_derive_call(&mut self, position: Position, attr: AttrId, pos: usize, call: DeriveCall)
         ensures { rare_state self.new ≡ rare_called_at position attr pos call (rare_state self.old) }
     {
-        if let Some(derive) = self.derives.get_mut(&DeriveKey { position, attr }) {
-            derive.set_call(pos, call);
+        if let Some(records) = self.derives.get_mut(&DeriveKey { position, attr }) {
+            records.first.set_call(pos, call);
         }
     }
 }
@@ -356,9 +389,9 @@ impl ModuleData {
         Ok(())
     }
 
-    /// Records a derive attribute's call and what each path of its list gave, in the place of an
-    /// earlier record of the same attribute.
-    pub(crate) fn set_derive(
+    /// Records a derive attribute's call and what each path of its list gave, behind earlier records
+    /// of the same attribute.
+    pub(crate) fn init_derive_attribute(
         &mut self,
         position: Position,
         attr: AttrId,
@@ -366,11 +399,8 @@ impl ModuleData {
     ) -> Result<(), AllocError>
         ensures { OnOk result (module_state self.new ≡ with_derive position attr (derive_state derive) (module_state self.old)) }
     {
-        self.scope
-            .rare_mut()?
-            .derives
-            .insert(DeriveKey { position, attr }, derive)?;
-        Ok(())
+        let rare = self.scope.rare_mut()?;
+        push_record(&mut rare.derives, DeriveKey { position, attr }, derive)
     }
 
     /// Records the call of one path of a derive attribute, where the attribute has such a path.

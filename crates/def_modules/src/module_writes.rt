@@ -141,8 +141,9 @@ impl MapData {
         }
     }
 
-    /// Records a derive attribute of a module: its call, and what each path of its list gave.
-    pub fn set_derive(
+    /// Records a derive attribute of a module, behind its earlier records: its call, and what each path
+    /// of its list gave. It is `init_derive_attribute` of rust-analyzer's `ItemScope`.
+    pub fn init_derive_attribute(
         &mut self,
         module: usize,
         position: Position,
@@ -152,7 +153,7 @@ impl MapData {
         ensures { OnOk result (map_state self.new ≡ with_module (map_state self.old) «module» (with_derive position attr (derive_state derive))) }
     {
         match self.modules.get_mut(module) {
-            Some(found) => found.set_derive(position, attr, derive),
+            Some(found) => found.init_derive_attribute(position, attr, derive),
             None => Ok(()),
         }
     }

@@ -1,5 +1,5 @@
 -- Builtin derives that are deferred: with the fast path, one whose impls are known is not expanded. It gives its impls once its item is handled, and is expanded only where an attribute replaces the item.
-use Rattle.std.specs.Prelude.{◌≡◌, ℕ, Bool, true, false, cond, List, [], ◌∷◌, ◌++◌, map, Option, None, Some, unwrap_or}
+use Rattle.std.specs.Prelude.{◌≡◌, ℕ, Bool, true, false, cond, List, [], ◌∷◌, ◌++◌, length, map, Option, None, Some, unwrap_or}
 use Rattle.std.specs.Map.{lookup}
 use Rattle.either.specs.declared.Either.TheVariants.{Right}
 use Rattle.indexmap.specs.IndexMap.{insert_entry, swap_remove_entry}
@@ -17,6 +17,7 @@ use Rattle.def_interner.specs.declared.macro_def.MacroDefId.{MacroDefId}
 use Rattle.def_interner.specs.declared.macro_def.MacroDefKind.{MacroDefKind}
 use Rattle.def_interner.specs.declared.macro_def.MacroDefKind.TheVariants.{BuiltInDerive}
 use Rattle.def_interner.specs.Session.{Session, StructItem, UnionItem, EnumItem}
+use Rattle.def_modules.specs.declared.map.HelpersRange.{HelpersRange}
 use Rattle.def_modules.specs.Equality.{position_eq}
 use Rattle.def_modules.specs.Maps.{with_module, with_renamed_helpers}
 use Rattle.def_modules.specs.MapState.{MapState}
@@ -40,14 +41,19 @@ known_derive oracle _ = None
 abbrev pub deferred_derive : Oracle → MacroDefId → Option ℕ
 deferred_derive oracle found = cond oracle.builtin_derive_fast_path (known_derive oracle found.kind) None
 
--- how a derive is deferred: one level deeper than its attribute
-abbrev pub deferral : MacroDirective → WrittenDerive → MacroCallId → ℕ → DeferredDerive
-deferral directive written call n =
+-- the helpers of a position in one map that stand behind those in another
+abbrev pub added_helpers : MapState → MapState → InFile FileAstId → HelpersRange
+added_helpers before after position = record { start = length (before.helpers position); end = length (after.helpers position) }
+
+-- how a derive is deferred: one level deeper than its attribute, with the helpers that it added
+abbrev pub deferral : MacroDirective → WrittenDerive → MacroCallId → ℕ → HelpersRange → DeferredDerive
+deferral directive written call n helpers =
     record {
       derive = n;
       attr_id = written.id;
       pos = written.pos;
       call = call;
+      helpers = helpers;
       module_id = directive.scope;
       container = directive.container;
       depth = deeper directive.depth;
@@ -104,11 +110,11 @@ abbrev pub last_of : Option BuiltinDeriveImplId → List BuiltinDeriveImplId →
 last_of before [] = before
 last_of before (id ∷ ids) = last_of (Some id) ids
 
--- a map in which an impl stands at a derive's place, and the helpers that its call gave are the impl's
+-- a map in which an impl stands at a derive's place, and the helpers that it added are the impl's
 abbrev pub naming_impl : MapState → ModuleId → InFile FileAstId → DeferredDerive → Option BuiltinDeriveImplId → MapState
 naming_impl m at position derive None = m
 naming_impl m at position derive (Some id) =
-    with_renamed_helpers (with_module m at.index (called_at position derive.attr_id derive.pos (Right id))) position derive.call id
+    with_renamed_helpers (with_module m at.index (called_at position derive.attr_id derive.pos (Right id))) position derive.helpers id
 
 -- a map in which a deferred derive gave these impls: they are recorded, and the last stands for the derive
 abbrev pub giving_impls : MapState → ModuleId → InFile FileAstId → DeferredDerive → List BuiltinDeriveImplId → MapState

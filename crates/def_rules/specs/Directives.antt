@@ -18,7 +18,7 @@ use Rattle.def_rules.specs.Attributes.{AttrUse, HasNoExpander, PassesOver, Reads
 use Rattle.def_rules.specs.Calls.{answer_by, call_query, expansion_effect, with_invocations}
 use Rattle.def_rules.specs.declared.diagnostics.DefDiagnosticKind.{DefDiagnosticKind}
 use Rattle.def_rules.specs.declared.diagnostics.DefDiagnosticKind.TheVariants.{MacroError}
-use Rattle.def_rules.specs.Deferred.{deferral, deferred_derive, deferring, expanding_deferred}
+use Rattle.def_rules.specs.Deferred.{added_helpers, deferral, deferred_derive, deferring, expanding_deferred}
 use Rattle.def_rules.specs.Derives.{derive_call, derive_directive, derive_macro, derive_paths, derived, derives_from, may_derive, with_list, with_shown_helpers}
 use Rattle.def_rules.specs.Items.{node_at}
 use Rattle.def_rules.specs.State.{State, Effect, Task, TryDerive, Visit, followed_by, only, with_map, world}
@@ -152,10 +152,14 @@ turn_effect s before directive behind (Replaces call) = only (replaced_state s b
 turn_effect s before directive behind (WalksItem derives written) =
     followed_by (walked_state s before directive behind written) (tries directive derives ++ Visit (item_site s directive written) written.item ∷ [])
 
+-- with the helpers of its macro a derive is deferred
+abbrev pub deferred_state : State → MapState → MacroDirective → WrittenDerive → MacroCallId → ℕ → State
+deferred_state s helped directive written call n =
+    deferring (with_map s helped) directive.position (deferral directive written call n (added_helpers s.map helped directive.position))
+
 -- a derive that was given a call at once is deferred, or the call is recorded and its expansion is to be walked
 abbrev pub called_state : Oracle → State → MacroDirective → WrittenDerive → MacroDefId → MacroCallId → Option ℕ → State
-called_state oracle s directive written found call (Some n) =
-    deferring (with_map s (with_shown_helpers oracle s.map directive found call)) directive.position (deferral directive written call n)
+called_state oracle s directive written found call (Some n) = deferred_state s (with_shown_helpers oracle s.map directive found call) directive written call n
 called_state oracle s directive written found call None = expanding (derived oracle s directive written found call) s.macros (derive_directive directive written) call
 
 -- a derive of an attribute is tried: where its macro is found it is called, else it waits

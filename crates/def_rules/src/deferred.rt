@@ -1,10 +1,11 @@
 //! Builtin derives that are not expanded.
 
 use def_ids::{ItemContainerId, ModuleId};
+use def_modules::HelpersRange;
 use item_tree::{AttrId, MacroCallId};
 
 /// A builtin derive that is not expanded, since its impls are known: its number, the number of its
-/// attribute and its place in the list, its call, and where its expansion would stand. It is the
+/// attribute and its place in the list, its call, its helpers, and where its expansion would stand. It is the
 /// `DeferredBuiltinDerive` of rust-analyzer's collector.
 #[derive(Clone, Copy, Drop)]
 pub struct DeferredDerive {
@@ -14,6 +15,8 @@ pub struct DeferredDerive {
     /// The place of the derive's path in the attribute's list.
     pub pos: usize,
     pub call: MacroCallId,
+    /// Those of the item's helpers that it added.
+    pub helpers: HelpersRange,
     pub module_id: ModuleId,
     pub container: ItemContainerId,
     /// How deep in expansions its own would lie.

@@ -174,7 +174,7 @@ names_of_root : answered.content.names (module_at 0) ≡ derive ∷ t ∷ []
 names_of_root = refl
 
 -- the list is recorded at the item, with the attribute's call and the derive's
-recorded : map (λ m. m.derives (position 2) (record { 0 = 0 })) answered.map.modules ≡ Some (record { call = record { 0 = 0 }; calls = Some (Left derived) ∷ [] }) ∷ []
+recorded : map (λ m. m.derives (position 2) (record { 0 = 0 })) answered.map.modules ≡ (record { call = record { 0 = 0 }; calls = Some (Left derived) ∷ [] } ∷ []) ∷ []
 recorded = refl
 
 nothing_is_reported : answered.diagnostics ≡ []

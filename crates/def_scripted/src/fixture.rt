@@ -122,6 +122,8 @@ pub struct CallText<'t> {
     pub err: Option<u32>,
     /// Whether its answer names no call.
     pub is_silent: bool,
+    /// The earlier call that answers in its place, if one does. Then it has no text.
+    pub same: Option<usize>,
 }
 
 impl<'t> CallText<'t> {
@@ -136,6 +138,7 @@ impl<'t> CallText<'t> {
             by: CalledBy::Call,
             err: None,
             is_silent: false,
+            same: None,
         }
     }
 }

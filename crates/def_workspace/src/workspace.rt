@@ -239,14 +239,18 @@ impl Workspace {
         }
     }
 
-    /// Adds a macro call, and the items of its expansion. Some calls were made for the arguments of
-    /// others.
+    /// Adds a macro call, and the items of its expansion, unless it is answered as an earlier one is.
+    /// Some calls were made for the arguments of others.
     pub fn add_call(
         &mut self,
         call: MacroCallId,
         text: &CallText<'_>,
         inner: &[InnerText],
     ) -> Result<(), Fault> {
+        if let Some(same) = text.same {
+            self.add_answer(MacroCallId(same), text, inner)?;
+            return Ok(());
+        }
         self.add_answer(call, text, inner)?;
         if text.is_include {
             self.db.add_include(call)?;

@@ -217,8 +217,11 @@ fn write_derive(
 /// Writes the derive attributes of a module.
 fn write_derives(index: usize, scope: ItemScope<'_>, out: &mut Vec<u8>) -> io::Result<()> {
     if let Some(derives) = scope.derives() {
-        for (key, derive) in derives.iter() {
-            write_derive(index, *key, derive.calls.as_slice(), out)?;
+        for (key, records) in derives.iter() {
+            write_derive(index, *key, records.first.calls.as_slice(), out)?;
+            for later in records.later.as_slice() {
+                write_derive(index, *key, later.calls.as_slice(), out)?;
+            }
         }
     }
     Ok(())

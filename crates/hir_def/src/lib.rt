@@ -34,8 +34,9 @@ pub use def_map::{
     ReachedFixedPoint, Resolutions, ResolveMode, ResolvePathResult, Table, UnnamedTraits,
 };
 pub use def_modules::{
-    DeriveCall, DeriveHelper, DeriveKey, DeriveMacroInvocation, ExternPreludeEntry, Invocation,
-    LocalDefMap, ModuleData, ModuleOrigin, Position, RareParts, ScopeData, UnstableFeatures,
+    DeriveCall, DeriveHelper, DeriveKey, DeriveMacroInvocation, DeriveRecords, ExternPreludeEntry,
+    Invocation, LocalDefMap, ModuleData, ModuleOrigin, Position, RareParts, ScopeData,
+    UnstableFeatures,
 };
 
 // The oracle: its trait, what it is asked and answers, and a database to fill.

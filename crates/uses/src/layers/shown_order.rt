@@ -2,8 +2,8 @@
 
 use def_ids::{Edition, MacroId, MacroRulesId};
 use def_map::{
-    DefMap, DeriveKey, DeriveMacroInvocation, MapData, ModuleData, ModuleOrigin, Position,
-    Visibility,
+    DefMap, DeriveKey, DeriveMacroInvocation, DeriveRecords, MapData, ModuleData, ModuleOrigin,
+    Position, Visibility,
 };
 use item_tree::{AttrId, Crate, FileAstId, FileId, HirFileId, MacroCallId, Name, Seq};
 use std::alloc::{AllocError, Global};
@@ -47,7 +47,7 @@ fn write_derives(alloc: Global, map: &mut MapData, key: usize) -> Result<(), All
         calls: Vec::new(alloc),
     };
     let DeriveKey { position, attr } = derive_of(key);
-    map.set_derive(0, position, attr, derive)
+    map.init_derive_attribute(0, position, attr, derive)
 }
 
 /// Writes keys, some of them again.
@@ -68,7 +68,7 @@ fn has_key<K: PartialEq + Copy, V>(entry: Option<(&K, &V)>, key: K) -> bool {
 }
 
 /// The derive attribute of a module at a place.
-fn derive_at(module: &ModuleData, place: usize) -> Option<(&DeriveKey, &DeriveMacroInvocation)> {
+fn derive_at(module: &ModuleData, place: usize) -> Option<(&DeriveKey, &DeriveRecords)> {
     let rare = module.scope.rare.as_ref()?;
     rare.derives.get_index(place)
 }

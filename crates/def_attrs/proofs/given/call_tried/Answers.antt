@@ -1,10 +1,13 @@
-use Rattle.std.proofs.Common.{◌≡◌, ◌++◌, ◌∷◌, [], map, Result, Ok, Err, ap, sym, ◌∙◌}
+use Rattle.std.proofs.Common.{◌≡◌, ◌++◌, ◌∷◌, [], length, map, Result, Ok, Err, ap, sym, ◌∙◌}
 use Rattle.std.proofs.lemmas.List.{map-append}
 use Rattle.std.specs.Result.{OnOk}
 use Rattle.def_attrs.specs.Shown.{with_derives}
 use Rattle.def_calls.specs.Shown.{expansion_shown, macro_directive_of, written_derive_of}
-use Rattle.def_rules.specs.Deferred.{with_deferred}
-use Rattle.def_rules.specs.Derives.{derive_directive}
+use Rattle.def_modules.specs.declared.map.HelpersRange.{HelpersRange}
+use Rattle.def_modules.specs.Maps.{map_state}
+use Rattle.def_modules.specs.MapState.{MapState}
+use Rattle.def_rules.specs.Deferred.{added_helpers, deferral, with_deferred}
+use Rattle.def_rules.specs.Derives.{derive_directive, with_shown_helpers}
 use Rattle.def_rules.specs.Directives.{called_state, expansion_of}
 use Rattle.def_rules.specs.State.{State}
 use Rattle.def_attrs.proofs.given.call_tried.Goals as goal
@@ -34,8 +37,16 @@ returns-in_ok-call-in-Some g c =
     let oracle = g.D.SourceDatabase.oracle c.args.db.now in
     let d = macro_directive_of c.args.directive.now in
     let written = written_derive_of c.args.found.written in
+    let call = c.in_ok-call-in-Some.call in
+    let n = c.in-Some.derive in
     let given = c.in_ok-call-in-Some.ensures in
+    let was : MapState = map_state c.args.def_map.now in
+    let helped : MapState = with_shown_helpers oracle was d c.args.found.macro_def call in
+    let helpers : HelpersRange = record { start = c.derive_helper_count-start.result; end = c.derive_helper_count-end.result } in
+    let ended = c.derive_helper_count-end.ensures ∙ ap (λ (m : MapState). length (m.helpers d.position)) given.1 in
+    let added : helpers ≡ added_helpers was helped d.position = λ i. record { start = c.derive_helper_count-start.ensures i; end = ended i } in
+    let deferred = c.deferral-deferral.ensures ∙ ap (deferral d written call n) added in
     on_ok c.defer.result c.defer.ensures (λ more s.
     let before : State = with_derives s c.args.def_map.now c.args.deferred.now c.args.expansions.now.items in
-    (λ i. record before { map = given.1 i; deferred = (more ∙ ap (with_deferred before.deferred d.position) c.deferral-deferral.ensures) i })
+    (λ i. record before { map = given.1 i; deferred = (more ∙ ap (with_deferred before.deferred d.position) deferred) i })
     ∙ (λ i. called_state oracle before d written c.args.found.macro_def (given.0 i) ((sym c.in-Some.is ∙ c.deferred_derive.ensures) i)))

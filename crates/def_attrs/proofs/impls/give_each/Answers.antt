@@ -38,4 +38,4 @@ returns-in-Some-clause-given g c =
     let traits = (g.D.SourceDatabase.oracle c.args.db.now).derive_traits derive.derive in
     let gave = subst (λ ts. GaveFor old s at c.args.item.adt derive ts c.traits.last m n) (take_all c.traits.derived-index items (omega (arith, c.traits-test.false)) ∙ c.derive_traits-derived-items.ensures) c.traits.invariant in
     gave_all at c.args.item.adt derive old s position traits c.traits.last (Some id) m n (map_state c.rename_derive_helpers.new.self) gave c.in-Some.is
-    (c.rename_derive_helpers.ensures ∙ ap (λ x. with_renamed_helpers x position derive.call id) c.set_derive_call.ensures)
+    (c.rename_derive_helpers.ensures ∙ ap (λ x. with_renamed_helpers x position derive.helpers id) c.set_derive_call.ensures)
