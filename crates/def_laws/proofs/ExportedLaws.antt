@@ -27,6 +27,7 @@ module _ {oracle : Oracle} where
   performs_first : (task : Task) (tasks : List Task) (s t u : State) → ArePlain (task ∷ []) → ArePlain tasks → Performs oracle (task ∷ []) s t → Performs oracle tasks t u → Performs oracle (task ∷ tasks) s u
   performs_first task tasks s t u first others p q = record {
     runs = λ rest. runs_trans (p.runs (tasks ++ rest)) (q.runs rest);
+    calm = λ rest before. (p.calm (tasks ++ rest) before, q.calm rest (p.runs (tasks ++ rest) before).0);
     keeps = λ followed stands sound. q.keeps (plain_followed (target_of t.map.id t.targets) tasks others) (stands_then stands) (p.keeps (plain_followed (target_of s.map.id s.targets) (task ∷ []) first) (stands_first tasks stands) sound);
     raised = λ rest stands sound before importer slot left kept raised.
         q.raised rest (stands_then stands) (p.keeps (plain_followed (target_of s.map.id s.targets) (task ∷ []) first) (stands_first tasks stands) sound) (p.runs (tasks ++ rest) before).0 importer slot
@@ -41,12 +42,14 @@ module _ {oracle : Oracle} where
   takes_by : (at : ModuleId) (name : Name) (function : FunctionId) (s : State) (takes : Bool) → takes_out s at name function ≡ takes → Performs oracle (TakeOut at name function ∷ []) s (taken_out s at name function takes).state
   takes_by at name function s true known = record {
     runs = λ rest. runs_task (TakeOut at name function) rest s (taken_out s at name function true) (ap (taken_out s at name function) (sym known));
+    calm = λ rest before. tt;
     keeps = λ followed stands sound. sound_taken s.content at name Values (and_parts (leaves_out s at) _ known).0 sound;
     raised = λ rest stands sound before importer slot left kept raised. raised_taken s.content at name Values (order s) importer slot raised;
     waits = waits_alike refl refl refl refl;
   }
   takes_by at name function s false known = record {
     runs = λ rest. runs_task (TakeOut at name function) rest s (taken_out s at name function false) (ap (taken_out s at name function) (sym known));
+    calm = λ rest before. tt;
     keeps = λ followed stands sound. sound;
     raised = λ rest stands sound before importer slot left kept raised. raised;
     waits = waits_alike refl refl refl refl;

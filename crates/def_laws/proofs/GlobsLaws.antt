@@ -22,7 +22,7 @@ use Rattle.def_rules.specs.Recording.{edge_tasks, glob_def, glob_edge, glob_id, 
 use Rattle.def_rules.specs.State.{State, AddEdge, Import, only, order, put_each, with_content, world}
 use Rattle.def_laws.proofs.EdgeLaws.{glob_raised, glob_sound}
 use Rattle.def_laws.proofs.StepsLaws.{performs_listed, performs_none}
-use Rattle.def_laws.proofs.WaveLaws.{runs_task, runs_trans, runs_wave}
+use Rattle.def_laws.proofs.WaveLaws.{calm_wave, runs_task, runs_trans, runs_wave}
 
 -- no glob was recorded yet
 pub no_targets : {S : Type 0} (m : IndexMap GlobId (List Def) S) → m.entries ≡ [] → get glob_eq m ≡ (λ glob. None)
@@ -60,6 +60,7 @@ module _ (oracle : Oracle) (s t u : State) (glob : EdgeTo Visibility) (source : 
       with_edge : Performs oracle (put_each glob.importer Brought ++ AddEdge source glob ∷ []) s (with_content wave (with_recorded (order wave) wave.content source glob))
       with_edge = record {
         runs = λ rest. runs_trans (runs_wave glob.importer Brought s t.content brought.travels (AddEdge source glob ∷ []) rest) (runs_task (AddEdge source glob) rest wave (only (with_content wave (with_recorded (order wave) wave.content source glob))) refl);
+        calm = λ rest before. (calm_wave oracle glob.importer Brought s t.content brought.travels (AddEdge source glob ∷ []) rest before, tt);
         keeps = λ followed stands sound. glob_sound oracle s wave glob source Brought now own refl stands sound followed;
         raised = λ rest stands sound before importer slot left kept. glob_raised oracle s wave glob source Brought now own refl stands sound rest before importer slot kept.0 left;
         waits = record { macros = refl; expansions = refl; deferred = refl; is_proc_macro = refl };

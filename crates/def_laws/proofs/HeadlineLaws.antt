@@ -13,7 +13,7 @@ use Rattle.def_rules.specs.Rounds.{round_limit}
 use Rattle.def_rules.specs.Settled.{IsSettled}
 use Rattle.def_rules.specs.Start.{first_tasks, seeded_state, start, started}
 use Rattle.def_rules.specs.State.{Setting, State, Moment, order}
-use Rattle.def_laws.specs.Runs.{Collects, HoldRounds, at}
+use Rattle.def_laws.specs.Runs.{Collects, HoldRounds, LeaveInTurn, at}
 use Rattle.def_rules.specs.Steps.{Reaches}
 use Rattle.def_laws.proofs.CensoredLaws.{censored_closed, censored_coherent, censored_raised}
 use Rattle.def_laws.proofs.LeftOutLaws.{leaves_alike, left_out_along}
@@ -23,15 +23,15 @@ use Rattle.def_laws.proofs.EveryNamespaceLaws.{every_namespace_along}
 use Rattle.def_laws.proofs.FailedLaws.{none_failed_along}
 use Rattle.def_laws.proofs.StaysLaws.{explicit_stays_along}
 
--- where a run from the seeded map leads to an end at which nothing is left to do, and either it holds more rounds than the limit or no import or macro gives anything, what is answered of that end,
+-- where a run from the seeded map leads to an end at which nothing is left to do, macros leave in turn in it, and either it holds more rounds than the limit or no import or macro gives anything, what is answered of that end,
 -- with its macros reported, is right
 pub answers : (w : Setting) (before after : Session) (answer : Answer) (t : State) (limit_met : Bool)
     (collects : Collects w.oracle (first_tasks w.oracle w.seeded w.tree) (started w.oracle w.tree (seeded_state w before)) [] t)
-    → (rounds : ℕ) → HoldRounds collects.runs rounds → (limit_met ≡ true → round_limit < rounds) → (limit_met ≡ false → IsAtRest w.oracle t)
+    → LeaveInTurn collects.runs → (rounds : ℕ) → HoldRounds collects.runs rounds → (limit_met ≡ true → round_limit < rounds) → (limit_met ≡ false → IsAtRest w.oracle t)
     → t.expansions ≡ [] → t.session ≡ after → NoneFailed w.seeded
     → IsSoundWith (first_tasks w.oracle w.seeded w.tree) (started w.oracle w.tree (seeded_state w before)) → IsSoundWith [] t
     → IsFinished (with_macro_reports w.oracle t) limit_met answer → Answers w before after answer
-answers w before after answer t limit_met collects rounds holds over rest expanded session clean begun ended finished =
+answers w before after answer t limit_met collects in_turn rounds holds over rest expanded session clean begun ended finished =
     record {
       run = record { end = end; runs = runs; done = refl; expanded = expanded };
       session = session;
@@ -48,6 +48,7 @@ answers w before after answer t limit_met collects rounds holds over rest expand
       declared = declared_along runs refl refl;
       was_put = was_put_along runs refl refl;
       explicit_stays = λ a b run. explicit_stays_along run.goes_on;
+      in_turn = in_turn [];
       limit = λ met. record { rounds = rounds; holds = holds []; more = over (sym finished.limit ∙ met) };
       settled = λ met. settled (rest (sym finished.limit ∙ met));
       every_namespace = λ met. every_namespace_along runs refl refl refl (rest (sym finished.limit ∙ met)).imports;

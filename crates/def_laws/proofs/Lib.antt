@@ -42,6 +42,7 @@ pub mod RecordedLaws
 pub mod EveryNamespaceLaws
 pub mod PassLaws
 pub mod RoundsLaws
+pub mod InTurnLaws
 pub mod CensoredLaws
 pub mod HeadlineLaws
 pub mod GlobsLaws

@@ -44,16 +44,17 @@ use Rattle.def_rules.specs.Waiting.{Attr, Derive, Expansion, FnLike, MacroDirect
 use Rattle.std.specs.Prelude.{IsPermutation}
 use Rattle.std.proofs.lemmas.List.Sorted.{Contains-permutation, IsPermutation-refl, IsPermutation-sym, IsPermutation-trans, sum_by-IsPermutation}
 use Rattle.def_rules.specs.Fallback.{FallbackStep, IsStuck, attr_reported, given_up}
+use Rattle.def_rules.specs.InTurn.{LeavesOf}
 use Rattle.def_rules.specs.Steps.{Step, asks, expands, falls_back, one, reorders}
 use Rattle.def_laws.specs.Depths.{AreVisitsBelow, OnlyInvokes, Queues, WaitsAlike, deferred_work, depth_rank, expansion_work, kind_rank, macro_rank, macro_work, visit_rank, waiting_work}
 use Rattle.def_laws.specs.Own.{IsOwn, Stands}
 use Rattle.def_laws.specs.Performs.{Tried}
-use Rattle.def_laws.specs.Runs.{Collects, Leads, at}
+use Rattle.def_laws.specs.Runs.{Collects, CollectsCalmly, Leads, LeaveOf, at}
 use Rattle.def_laws.proofs.DeferredLaws.{deferring_work, expanded_work, none_work}
 use Rattle.def_laws.proofs.FootprintLaws.{waits_alike}
 use Rattle.def_laws.proofs.DepthsLaws.{above_deepest, deeper_is, deeper_last, item_ranks, visit_rank_is, walk_lies}
 use Rattle.def_laws.specs.Work.{weight}
-use Rattle.def_laws.proofs.StepsLaws.{collects_refl, collects_trans, footprint_raised, footprint_sound}
+use Rattle.def_laws.proofs.StepsLaws.{calmly_led, calmly_refl, calmly_trans, footprint_raised, footprint_sound}
 use Rattle.def_laws.proofs.TurnsLaws.{TryFootprint, TurnFootprint, asks_footprint, expands_footprint, falls_footprint, told_same, tries_footprint, waiting_with}
 use Rattle.def_laws.proofs.WaveLaws.{runs_task}
 use Rattle.def_laws.proofs.WorkLaws.{lighter, weight_is}
@@ -219,6 +220,14 @@ module _ (oracle : Oracle) (s : State) (effect : Effect) (turn : TurnFootprint s
     raised = λ stands sound before importer slot left kept raised. footprint_raised [] u turn.scope turn.depth effect turn.foot (stands_then stands) importer slot kept.order raised;
   }
 
+  -- what leaves in it, leaves in its step
+  leave_turn : (waited : List MacroDirective) → ((before : List Event) → LeavesOf waited (step before)) → LeaveOf waited collects_turn.runs
+  unfolding collects_turn
+  leave_turn waited leave = leave
+
+  calmly_turn : ((before : List Event) → LeavesOf [] (step before)) → CollectsCalmly oracle [] s (effect.tasks ++ []) effect.state
+  calmly_turn leave = record { collects = collects_turn; calm = leave_turn [] leave }
+
 -- What waits by its weight
 
 weight_grows : (rank : ℕ) (kind : MacroDirectiveKind) → weight rank ≤ weight (rank + kind_rank kind)
@@ -335,16 +344,19 @@ module _ (oracle : Oracle) (s : State) (d : MacroDirective) (written : WrittenDe
     }
 
     -- one is tried
-    collects_try : Collects oracle (TryDerive d written ∷ rest) s rest tried.state
-    collects_try = subst (λ (tasks : List Task). Collects oracle (TryDerive d written ∷ rest) s (tasks ++ rest) tried.state) foot.ends (record {
-      runs = runs_task (TryDerive d written) rest s tried (ap (tried_effect oracle s d written) (sym is));
-      keeps = λ stands sound. footprint_sound (TryDerive d written ∷ rest) beside d.scope d.depth tried (foot.foot d.depth) (try_stands stands) sound;
-      raised = λ stands sound before importer slot left kept raised. footprint_raised (TryDerive d written ∷ rest) beside d.scope d.depth tried (foot.foot d.depth) (try_stands stands) importer slot kept.order raised;
+    collects_try : CollectsCalmly oracle (TryDerive d written ∷ rest) s rest tried.state
+    collects_try = subst (λ (tasks : List Task). CollectsCalmly oracle (TryDerive d written ∷ rest) s (tasks ++ rest) tried.state) foot.ends (record {
+      collects = record {
+        runs = runs_task (TryDerive d written) rest s tried (ap (tried_effect oracle s d written) (sym is));
+        keeps = λ stands sound. footprint_sound (TryDerive d written ∷ rest) beside d.scope d.depth tried (foot.foot d.depth) (try_stands stands) sound;
+        raised = λ stands sound before importer slot left kept raised. footprint_raised (TryDerive d written ∷ rest) beside d.scope d.depth tried (foot.foot d.depth) (try_stands stands) importer slot kept.order raised;
+      };
+      calm = λ before. tt;
     })
 
 -- none is tried
 pub tried_none : (oracle : Oracle) (d : MacroDirective) (s : State) → Tried oracle d [] s s
-tried_none oracle d s = record { collects = λ rest. collects_refl rest s; more = []; macros = sym (append-nil s.macros); work = omega arith }
+tried_none oracle d s = record { collects = λ rest. calmly_refl rest s; more = []; macros = sym (append-nil s.macros); work = omega arith }
 
 -- one more is
 pub tried_more : (oracle : Oracle) (d : MacroDirective) → d.depth ≤ deepest → (derives : List WrittenDerive) (written : WrittenDerive) (s t u : State) (found : Option MacroDefId) → Tried oracle d derives s t
@@ -353,9 +365,9 @@ tried_more oracle d deep derives written s t u found before is now = record {
   collects = λ rest.
       let order : tries d (derives ++ written ∷ []) ++ rest ≡ tries d derives ++ TryDerive d written ∷ rest =
       ap (λ tasks. tasks ++ rest) (map-append (λ w. TryDerive d w) derives (written ∷ [])) ∙ append_assoc (tries d derives) (TryDerive d written ∷ []) rest in
-      subst (λ tasks. Collects oracle tasks s rest u) (sym order)
-      (subst (λ x. Collects oracle (tries d derives ++ TryDerive d written ∷ rest) s rest x) (sym now)
-      (collects_trans (before.collects (TryDerive d written ∷ rest)) (collects_try oracle t d written rest found is)));
+      subst (λ tasks. CollectsCalmly oracle tasks s rest u) (sym order)
+      (subst (λ x. CollectsCalmly oracle (tries d derives ++ TryDerive d written ∷ rest) s rest x) (sym now)
+      (calmly_trans (before.collects (TryDerive d written ∷ rest)) (collects_try oracle t d written rest found is)));
   more = before.more ++ tried_waits oracle t d written found;
   macros =
       ap (λ (x : State). x.macros) now
@@ -406,16 +418,22 @@ module _ (oracle : Oracle) (s : State) (before : List MacroDirective) (d : Macro
   unfoldable pub collects_asked : Collects oracle [] s ((effect_by given.turn).tasks ++ []) (effect_by given.turn).state
   collects_asked = collects_turn oracle s (effect_by given.turn) (asks_footprint oracle s (effect_by given.turn) asked) (λ earlier. asks (effect_by given.turn) refl asked refl)
 
-  collects_by : (turn : Turn) → given.turn ≡ turn → Collects oracle [] s ((effect_by turn).tasks ++ []) (effect_by turn).state
-  collects_by turn is = subst (λ x. Collects oracle [] s ((effect_by x).tasks ++ []) (effect_by x).state) is collects_asked
+  -- it leaves, or stays
+  pub leave_asked : (waited : List MacroDirective) → Contains waited d → LeaveOf waited collects_asked.runs
+  unfolding collects_asked collects_turn
+  leave_asked waited waits = λ earlier leaves. waits
+
+  stays_calmly : given.turn ≡ Stays → LeaveOf [] collects_asked.runs
+  unfolding collects_asked collects_turn
+  stays_calmly is = λ earlier leaves. absurd (leaves is)
 
   -- what follows its turn, by what was told
-  pub rest_by : (turn : Turn) → given.turn ≡ turn → (t : State) → Collects oracle ((effect_by turn).tasks ++ []) (effect_by turn).state [] t → Collects oracle ((effect_by given.turn).tasks ++ []) (effect_by given.turn).state [] t
-  rest_by turn is t rest = subst (λ x. Collects oracle ((effect_by x).tasks ++ []) (effect_by x).state [] t) (sym is) rest
+  pub rest_by : (turn : Turn) → given.turn ≡ turn → (t : State) → CollectsCalmly oracle ((effect_by turn).tasks ++ []) (effect_by turn).state [] t → CollectsCalmly oracle ((effect_by given.turn).tasks ++ []) (effect_by given.turn).state [] t
+  rest_by turn is t rest = subst (λ x. CollectsCalmly oracle ((effect_by x).tasks ++ []) (effect_by x).state [] t) (sym is) rest
 
   -- where it stays, only calls for its arguments are recorded
-  pub collects_stays : given.turn ≡ Stays → Collects oracle [] s [] given.state
-  collects_stays is = collects_by Stays is
+  pub collects_stays : given.turn ≡ Stays → CollectsCalmly oracle [] s [] given.state
+  collects_stays is = subst (λ x. CollectsCalmly oracle [] s ((effect_by x).tasks ++ []) (effect_by x).state) is (record { collects = collects_asked; calm = stays_calmly is })
 
   call_stays : (answer : Result CallAnswer UnresolvedMacro) → OnlyInvokes s (call_told s d answer).state
   call_stays (Ok answer) = invokes_calls s d.scope answer.inner
@@ -509,9 +527,9 @@ module _ (oracle : Oracle) (s : State) (before : List MacroDirective) (d : Macro
 
     module _ (u t : State) (tried : Tried oracle d derives passed u) (leads : Leads oracle (again ∷ []) u [] t) where
       -- its derives were tried, and its item was walked
-      pub walked_rest : Collects oracle ((effect_by (WalksItem derives written)).tasks ++ []) passed [] t
+      pub walked_rest : CollectsCalmly oracle ((effect_by (WalksItem derives written)).tasks ++ []) passed [] t
       walked_rest =
-          subst (λ tasks. Collects oracle tasks passed [] t) (sym (append-nil (tries d derives ++ again ∷ []))) (collects_trans (tried.collects (again ∷ [])) leads.collects)
+          subst (λ tasks. CollectsCalmly oracle tasks passed [] t) (sym (append-nil (tries d derives ++ again ∷ []))) (calmly_trans (tried.collects (again ∷ [])) (calmly_led leads))
 
       -- what was queued stands behind the others
       abbrev pub queued : List MacroDirective
@@ -551,12 +569,12 @@ module _ (oracle : Oracle) (s : State) (before : List MacroDirective) (d : Macro
 
   module _ (u t : State) (tried : Tried oracle d [] given_up_state u) (leads : Leads oracle (Visit (item_site (attr_reported s d written) d written) written.item ∷ []) u [] t) where
     -- where a state is stuck it may be, and its item is walked
-    pub collects_given_up : IsStuck oracle s → Collects oracle [] s [] t
+    pub collects_given_up : IsStuck oracle s → CollectsCalmly oracle [] s [] t
     collects_given_up stuck =
         let effect : Effect = given_up s before d behind written in
         let step : FallbackStep oracle s effect = record { before = before; directive = d; behind = behind; written = written; stands = stands; is_attr = is_attr; stuck = stuck; is = refl } in
-        let turn : Collects oracle [] s (effect.tasks ++ []) effect.state = collects_turn oracle s effect (falls_footprint oracle s effect step) (λ earlier. falls_back effect refl step refl) in
-        collects_trans turn (collects_trans (tried.collects (Visit (item_site (attr_reported s d written) d written) written.item ∷ [])) leads.collects)
+        let turn : CollectsCalmly oracle [] s (effect.tasks ++ []) effect.state = calmly_turn oracle s effect (falls_footprint oracle s effect step) (λ earlier. falls_back effect refl step refl) (λ earlier. tt) in
+        calmly_trans turn (calmly_trans (tried.collects (Visit (item_site (attr_reported s d written) d written) written.item ∷ [])) (calmly_led leads))
 
     -- and less waits
     pub given_up_lighter : d.depth ≤ deepest → length t.macros < 2 ^ 64 → waiting_work t < waiting_work s
@@ -575,11 +593,14 @@ module _ (oracle : Oracle) (s : State) (before : List MacroDirective) (d : Macro
         omega (arith, less, now, more, was, kept, fewer, some)
 
 -- The macros that wait are put into another order, and as much waits
-pub collects_ordered : (oracle : Oracle) (s : State) (macros : List MacroDirective) → IsPermutation s.macros macros → Collects oracle [] s [] (record s { macros = macros })
+pub collects_ordered : (oracle : Oracle) (s : State) (macros : List MacroDirective) → IsPermutation s.macros macros → CollectsCalmly oracle [] s [] (record s { macros = macros })
 collects_ordered oracle s macros same = record {
-  runs = λ earlier. (earlier, one (reorders macros same refl));
-  keeps = λ stands sound. sound;
-  raised = λ stands sound earlier importer slot left kept raised. raised;
+  collects = record {
+    runs = λ earlier. (earlier, one (reorders macros same refl));
+    keeps = λ stands sound. sound;
+    raised = λ stands sound earlier importer slot left kept raised. raised;
+  };
+  calm = λ earlier. tt;
 }
 
 pub ordered_work : (s : State) (macros : List MacroDirective) → IsPermutation s.macros macros → waiting_work (record s { macros = macros }) ≡ waiting_work s
@@ -618,13 +639,13 @@ module _ (oracle : Oracle) (s t : State) (e : Expansion) (rest : List Expansion)
 
   module _ (begun : State) (opened : expansion_effect oracle without e ≡ followed_by begun inner) (leads : Leads oracle inner begun [] t) where
     -- an expansion had its turn, and was walked
-    pub collects_expanded : Collects oracle [] s [] t
+    pub collects_expanded : CollectsCalmly oracle [] s [] t
     collects_expanded =
         let effect : Effect = expansion_effect oracle without e in
-        let turn : Collects oracle [] s (effect.tasks ++ []) effect.state = collects_turn oracle s effect (expands_footprint oracle s effect stepped) (λ earlier. expands effect refl stepped refl) in
-        let first_tasks : Collects oracle [] s inner begun =
-        subst (λ tasks. Collects oracle [] s tasks begun) (append-nil inner) (subst (λ (x : Effect). Collects oracle [] s (x.tasks ++ []) x.state) opened turn) in
-        collects_trans first_tasks leads.collects
+        let turn : CollectsCalmly oracle [] s (effect.tasks ++ []) effect.state = calmly_turn oracle s effect (expands_footprint oracle s effect stepped) (λ earlier. expands effect refl stepped refl) (λ earlier. tt) in
+        let first_tasks : CollectsCalmly oracle [] s inner begun =
+        subst (λ tasks. CollectsCalmly oracle [] s tasks begun) (append-nil inner) (subst (λ (x : Effect). CollectsCalmly oracle [] s (x.tasks ++ []) x.state) opened turn) in
+        calmly_trans first_tasks (calmly_led leads)
 
     -- and less waits
     pub expanded_lighter : e.depth ≤ deepest → length t.macros < 2 ^ 64 → waiting_work t < waiting_work s

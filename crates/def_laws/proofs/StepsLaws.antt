@@ -32,8 +32,8 @@ use Rattle.def_rules.specs.Items.{diagnostic, node_at, noted_in}
 use Rattle.def_rules.specs.Rules.{VisitsAt, VisitsEnabled, VisitsNode}
 use Rattle.def_rules.specs.State.{State, Effect, Site, Task, Bring, Enter, Visit, Rearranges, entered, only, order, put_each, reported, with_content}
 use Rattle.def_rules.specs.Steps.{Does, StandsNear, one, rearranges, records}
-use Rattle.def_rules.specs.Waiting.{Deferrals}
-use Rattle.def_laws.specs.Runs.{Collects, Leads}
+use Rattle.def_rules.specs.Waiting.{Deferrals, MacroDirective}
+use Rattle.def_laws.specs.Runs.{Collects, CollectsCalmly, Leads, LeaveOf}
 use Rattle.def_laws.proofs.DepthsLaws.{lie_both, lie_last, queues_alike, queues_trans, recorded_lies}
 use Rattle.def_laws.proofs.FootprintLaws.{Footprint, VisitFootprint, deferred_with, visits_footprint, waits_alike}
 use Rattle.def_laws.proofs.LargerLaws.{larger_with_module}
@@ -43,7 +43,7 @@ use Rattle.def_laws.proofs.RaisedLaws.{raised_larger}
 use Rattle.def_laws.proofs.SoundLaws.{sound_larger, sound_wave}
 use Rattle.def_laws.proofs.StandsLaws.{import_sound, stands_along, stands_first}
 use Rattle.def_laws.proofs.TargetsLaws.{puts_nowhere}
-use Rattle.def_laws.proofs.WaveLaws.{runs_refl, runs_task, runs_trans, runs_wave, wave_raised}
+use Rattle.def_laws.proofs.WaveLaws.{calm_wave, runs_refl, runs_task, runs_trans, runs_wave, wave_raised}
 
 -- names stay sound where something is done in a module of the map, and places stay raised that the step keeps
 pub footprint_sound : (tasks : List Task) (s : State) (scope : ModuleId) (depth : ℕ) (effect : Effect) → Footprint s scope depth effect → KeepsSound tasks s effect.state
@@ -91,8 +91,17 @@ module _ {oracle : Oracle} where
   unfoldable pub collects_refl : (tasks : List Task) (s : State) → Collects oracle tasks s tasks s
   collects_refl tasks s = record { runs = runs_refl tasks s; keeps = λ stands sound. sound; raised = λ stands sound before importer slot left kept raised. raised }
 
+-- no macro leaves in it
+pub leave_refl : (oracle : Oracle) (waited : List MacroDirective) (tasks : List Task) (s : State) → LeaveOf waited (collects_refl {oracle = oracle} tasks s).runs
+unfolding collects_refl
+leave_refl oracle waited tasks s = λ before. tt
+
+module _ {oracle : Oracle} where
+  abbrev pub calmly_refl : (tasks : List Task) (s : State) → CollectsCalmly oracle tasks s tasks s
+  calmly_refl tasks s = record { collects = collects_refl tasks s; calm = leave_refl oracle [] tasks s }
+
   pub leads_refl : (tasks : List Task) (s : State) → Leads oracle tasks s tasks s
-  leads_refl tasks s = record { collects = collects_refl tasks s; expansions = refl; deferred = omega arith; queues = λ rank lie. (lie, queues_alike rank s s (waits_alike refl refl refl refl)) }
+  leads_refl tasks s = record { collects = collects_refl tasks s; calm = leave_refl oracle [] tasks s; expansions = refl; deferred = omega arith; queues = λ rank lie. (lie, queues_alike rank s s (waits_alike refl refl refl refl)) }
 
   -- a run goes on with another
   unfoldable pub collects_trans : {ts us vs : List Task} {s t u : State} → Collects oracle ts s us t → Collects oracle us t vs u → Collects oracle ts s vs u
@@ -104,9 +113,22 @@ module _ {oracle : Oracle} where
         (p.raised stands sound before importer slot left kept.0 raised);
   }
 
+  -- and macros leave in it as in both
+  pub leave_trans : (waited : List MacroDirective) {ts us vs : List Task} {s t u : State} (p : Collects oracle ts s us t) (q : Collects oracle us t vs u) → LeaveOf waited p.runs → LeaveOf waited q.runs → LeaveOf waited (collects_trans p q).runs
+  unfolding collects_trans
+  leave_trans waited p q first second = λ before. (first before, second (p.runs before).0)
+
+  pub calmly_trans : {ts us vs : List Task} {s t u : State} → CollectsCalmly oracle ts s us t → CollectsCalmly oracle us t vs u → CollectsCalmly oracle ts s vs u
+  calmly_trans p q = record { collects = collects_trans p.collects q.collects; calm = leave_trans [] p.collects q.collects p.calm q.calm }
+
+  -- one in which no macro has its turn
+  abbrev pub calmly_led : {tasks tasks' : List Task} {s t : State} → Leads oracle tasks s tasks' t → CollectsCalmly oracle tasks s tasks' t
+  calmly_led leads = record { collects = leads.collects; calm = leads.calm }
+
   pub leads_trans : {ts us vs : List Task} {s t u : State} → Leads oracle ts s us t → Leads oracle us t vs u → Leads oracle ts s vs u
   leads_trans {s = s} {t = t} {u = u} p q = record {
     collects = collects_trans p.collects q.collects;
+    calm = leave_trans [] p.collects q.collects p.calm q.calm;
     expansions = q.expansions ∙ p.expansions;
     deferred = let first = p.deferred in let second = q.deferred in omega (arith, first, second);
     queues = λ rank lie. let first = p.queues rank lie in let second = q.queues rank first.0 in (second.0, queues_trans rank s t u first.1 second.1);
@@ -124,6 +146,7 @@ module _ {oracle : Oracle} where
       keeps = λ stands sound. done.keeps followed (stands_first rest stands) sound;
       raised = λ stands sound. done.raised rest (stands_first rest stands) sound;
     };
+    calm = done.calm rest;
     expansions = done.waits.expansions;
     deferred = same_lighter s t done.waits.deferred;
     queues = λ rank lie. (lie_last rank tasks rest lie, queues_alike rank s t done.waits);
@@ -142,6 +165,7 @@ module _ {oracle : Oracle} where
           keeps = λ stands sound. footprint_sound (Visit site id ∷ rest) u site.scope site.depth effect foot (stands_then stands) sound;
           raised = λ stands sound before importer slot left kept raised. footprint_raised (Visit site id ∷ rest) u site.scope site.depth effect foot (stands_then stands) importer slot kept.order raised;
         };
+        calm = λ before. tt;
         expansions = foot.queued.expansions;
         deferred = let lighter = visit.lighter in let same = ap deferred_work foot.queued.deferred in omega (arith, lighter, same);
         queues = λ rank lie. (
@@ -158,6 +182,7 @@ module _ {oracle : Oracle} where
       keeps = λ stands sound. import_sound oracle s effect step stands.state sound;
       raised = λ stands sound before importer slot left kept raised. import_raised s effect step importer slot raised;
     };
+    calm = λ before. tt;
     expansions = ap (λ (e : Effect). e.state.expansions) step.is;
     deferred = same_lighter s effect.state (ap (λ (e : Effect). e.state.deferred) step.is);
     queues = λ rank lie. (
@@ -174,6 +199,7 @@ module _ {oracle : Oracle} where
       keeps = λ stands sound. subst IsSound (sym same.rest) sound;
       raised = λ stands sound before importer slot left kept raised. subst (λ x. IsRaisedIn x importer slot) (sym same.rest) raised;
     };
+    calm = λ before. tt;
     expansions = (rearranged_alike s t same).expansions;
     deferred = same_lighter s t (rearranged_alike s t same).deferred;
     queues = λ rank lie. (lie, queues_alike rank s t (rearranged_alike s t same));
@@ -183,6 +209,7 @@ module _ {oracle : Oracle} where
   performs_wave : (place : ModuleId) (list : List (Entry Visibility)) (s : State) (c : Content Visibility) → Travels (order s) place list s.content c → Performs oracle (put_each place list ++ []) s (with_content s c)
   performs_wave place list s c travels = record {
     runs = runs_wave place list s c travels [];
+    calm = calm_wave oracle place list s c travels [];
     keeps = λ followed stands sound.
         sound_wave s.map s.targets place list s.content c travels sound (puts_nowhere (target_of s.map.id s.targets) place list (subst (AreFollowed (target_of s.map.id s.targets)) (append-nil (put_each place list)) followed));
     raised = λ rest stands sound before importer slot left kept. wave_raised importer slot oracle place list s c travels [] rest before kept left sound;
@@ -200,12 +227,13 @@ module _ {oracle : Oracle} where
 
   -- nothing is performed
   pub performs_none : (s : State) → Performs oracle [] s s
-  performs_none s = record { runs = λ rest. runs_refl rest s; keeps = λ followed stands sound. sound; raised = λ rest stands sound before importer slot left kept raised. raised; waits = waits_alike refl refl refl refl }
+  performs_none s = record { runs = λ rest. runs_refl rest s; calm = λ rest before. tt; keeps = λ followed stands sound. sound; raised = λ rest stands sound before importer slot left kept raised. raised; waits = waits_alike refl refl refl refl }
 
   -- the imports are put into another order
   pub performs_rearranged : (s t : State) → Rearranges s t → Performs oracle [] s t
   performs_rearranged s t same = record {
     runs = λ rest before. (before, one (rearranges t same refl));
+    calm = λ rest before. tt;
     keeps = λ followed stands sound. subst IsSound (sym same.rest) sound;
     raised = λ rest stands sound before importer slot left kept raised. subst (λ x. IsRaisedIn x importer slot) (sym same.rest) raised;
     waits = rearranged_alike s t same;
@@ -219,6 +247,7 @@ module _ {oracle : Oracle} where
       keeps = λ stands sound. sound;
       raised = λ stands sound before importer slot left kept raised. raised;
     };
+    calm = λ before. tt;
     expansions = refl;
     deferred = omega arith;
     queues = λ rank lie. (lie.1, queues_alike rank s (entered s at directory) (waits_alike refl refl refl refl));
@@ -234,6 +263,7 @@ module _ {oracle : Oracle} where
           keeps = λ stands sound. sound_larger stands.state sound (larger_with_module s.map into.index (brought (textual_at s.map from.index)));
           raised = λ stands sound before importer slot left kept raised. raised;
         };
+        calm = λ before. tt;
         expansions = refl;
         deferred = omega arith;
         queues = λ rank lie. (lie.1, queues_alike rank s t (waits_alike refl refl refl refl));

@@ -21,7 +21,7 @@ use Rattle.def_rules.specs.Targets.{leaves_out}
 use Rattle.def_laws.specs.Travels.{Travels}
 use Rattle.def_rules.specs.State.{State, Effect, Event, Task, Put, AddEdge, order, put_each, with_content}
 use Rattle.def_rules.specs.Steps.{Does, IsKeptAlong, KeepsPlace, here, one, join, copies, performs, put_effect}
-use Rattle.def_laws.specs.Runs.{Runs}
+use Rattle.def_laws.specs.Runs.{LeaveOf, Runs}
 
 module _ {oracle : Oracle} where
   abbrev pub runs_refl : (tasks : List Task) (s : State) → Runs oracle tasks s tasks s
@@ -55,6 +55,20 @@ module _ {oracle : Oracle} where
   abbrev pub runs_wave : (place : ModuleId) (list : List (Entry Visibility)) (s : State) (c : Content Visibility) → Travels (order s) place list s.content c → (more rest : List Task)
       → Runs oracle ((put_each place list ++ more) ++ rest) s (more ++ rest) (with_content s c)
   runs_wave place list s c travels more rest = runs_trans (runs_put_each place list more rest s) (runs_copies s _ _ (more ++ rest) travels.updates)
+
+-- No macro leaves in it
+
+module _ (oracle : Oracle) where
+  calm_put_each : (place : ModuleId) (list : List (Entry Visibility)) (more rest : List Task) (s : State) → LeaveOf [] (runs_put_each {oracle = oracle} place list more rest s)
+  calm_put_each place [] more rest s before = tt
+  calm_put_each place (entry ∷ list) more rest s before = (tt, calm_put_each place list more rest (put_effect s place entry).state _)
+
+  calm_copies : (s : State) (slots : List Slot) (def_of : Slot → Def) (tasks : List Task) {c d : Content Visibility} (copies : Waves.Copies (order s) slots def_of c d) → LeaveOf [] (runs_copies {oracle = oracle} s slots def_of tasks copies)
+  calm_copies s slots def_of tasks (Waves.none {c = c}) before = tt
+  calm_copies s slots def_of tasks (Waves.more {c = c} {d = d} source edge slot index earlier there within def) before = (calm_copies s slots def_of tasks earlier before, tt)
+
+  pub calm_wave : (place : ModuleId) (list : List (Entry Visibility)) (s : State) (c : Content Visibility) (travels : Travels (order s) place list s.content c) (more rest : List Task) → LeaveOf [] (runs_wave {oracle = oracle} place list s c travels more rest)
+  calm_wave place list s c travels more rest before = (calm_put_each place list more rest s before, calm_copies s _ _ (more ++ rest) travels.updates _)
 
 -- What a run keeps of a place
 

@@ -18,7 +18,7 @@ use Rattle.def_laws.specs.Followed.{AreFollowed}
 use Rattle.def_laws.specs.Sound.{IsSound, KeepsSound}
 use Rattle.def_laws.specs.Own.{Stands}
 use Rattle.def_rules.specs.Targets.{target_of}
-use Rattle.def_laws.specs.Runs.{Collects, Leads, Runs, StaysRaised}
+use Rattle.def_laws.specs.Runs.{CollectsCalmly, Leads, LeaveOf, Runs, StaysRaised}
 use Rattle.def_laws.specs.Work.{weight}
 use Rattle.item_tree.specs.declared.items.ImportKind.TheVariants as kind
 use Rattle.def_ids.specs.declared.ids.Def.{Def}
@@ -32,6 +32,7 @@ target_state s glob given = record s { targets = targets_after kind.Glob glob gi
 -- these tasks are performed, whatever is to be done behind them; names stay sound where the edges of globs are among the tasks, and nothing is queued
 pub record Performs (oracle : Oracle) (tasks : List Task) (s t : State) : Type 0 where
   pub runs : (rest : List Task) → Runs oracle (tasks ++ rest) s rest t
+  pub calm : (rest : List Task) → LeaveOf [] (runs rest)
   pub keeps : AreFollowed (target_of s.map.id s.targets) tasks → KeepsSound tasks s t
   pub raised : (rest : List Task) → Stands tasks s → IsSound s → StaysRaised (runs rest)
   pub waits : WaitsAlike s t
@@ -67,7 +68,7 @@ pub record IsHandled (oracle : Oracle) (s t : State) (site : Site) (item : ItemN
 
 -- derives of an attribute were tried: each waits, or its expansion does
 pub record Tried (oracle : Oracle) (d : MacroDirective) (derives : List WrittenDerive) (s t : State) : Type 0 where
-  pub collects : (rest : List Task) → Collects oracle (tries d derives ++ rest) s rest t
+  pub collects : (rest : List Task) → CollectsCalmly oracle (tries d derives ++ rest) s rest t
   pub more : List MacroDirective
   pub macros : t.macros ≡ s.macros ++ more
   pub work : waiting_work t ≤ waiting_work s + length derives * (2 * weight (depth_rank d.depth))

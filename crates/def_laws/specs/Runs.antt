@@ -8,6 +8,7 @@ use Rattle.def_laws.specs.Depths.{AreVisitsBelow, Queues, deferred_work}
 use Rattle.def_laws.specs.Sound.{IsRaisedIn, IsSound, KeepsSound}
 use Rattle.def_laws.specs.Own.{Stands}
 use Rattle.def_rules.specs.Steps.{Reaches, IsKeptAlong}
+use Rattle.def_rules.specs.InTurn.{AllLeaveOf, LeavesInTurn}
 use Rattle.def_rules.specs.Targets.{leaves_out}
 use Rattle.def_rules.specs.Rounds.{InRound, IsRound, Rounds}
 use Rattle.def_rules.specs.Waiting.{MacroDirective}
@@ -25,15 +26,25 @@ abbrev pub StaysRaised : {oracle : Oracle} {tasks : List Task} {s : State} {task
 StaysRaised {s = s} {t = t} runs = (before : List Event) (importer : ModuleId) (slot : Slot) → leaves_out s importer ≡ false → IsKeptAlong (runs before).1 importer slot
     → IsRaisedIn s importer slot → IsRaisedIn t importer slot
 
+-- no macro leaves in a run, by being asked, but one of these
+abbrev pub LeaveOf : {oracle : Oracle} {tasks : List Task} {s : State} {tasks' : List Task} {t : State} → List MacroDirective → Runs oracle tasks s tasks' t → Type 0
+LeaveOf waited runs = (before : List Event) → AllLeaveOf waited (runs before).1
+
 -- so does a run of whole waves: names that are closed and coherent along the globs stay so, and places stay raised
 pub record Collects (oracle : Oracle) (tasks : List Task) (s : State) (tasks' : List Task) (t : State) : Type 0 where
   pub runs : Runs oracle tasks s tasks' t
   pub keeps : KeepsSound tasks s t
   pub raised : Stands tasks s → IsSound s → StaysRaised runs
 
--- and no expansion comes or goes, what is deferred weighs no more, and what is queued ranks lower than what is visited, where no macro or expansion has its turn
+-- and no macro leaves in it
+pub record CollectsCalmly (oracle : Oracle) (tasks : List Task) (s : State) (tasks' : List Task) (t : State) : Type 0 where
+  pub collects : Collects oracle tasks s tasks' t
+  pub calm : LeaveOf [] collects.runs
+
+-- nor has a macro or expansion its turn: no expansion comes or goes, what is deferred weighs no more, and what is queued ranks lower than what is visited
 pub record Leads (oracle : Oracle) (tasks : List Task) (s : State) (tasks' : List Task) (t : State) : Type 0 where
   pub collects : Collects oracle tasks s tasks' t
+  pub calm : LeaveOf [] collects.runs
   pub expansions : t.expansions ≡ s.expansions
   pub deferred : deferred_work t.deferred ≤ deferred_work s.deferred
   pub queues : (rank : ℕ) → AreVisitsBelow rank tasks → AreVisitsBelow rank tasks' × Queues rank s t
@@ -41,6 +52,10 @@ pub record Leads (oracle : Oracle) (tasks : List Task) (s : State) (tasks' : Lis
 -- turns of macros in a run: these of its beginning had none yet, and whether one has left
 abbrev pub InTurns : {oracle : Oracle} {s : State} {tasks : List Task} {t : State} → Runs oracle [] s tasks t → List MacroDirective → Bool → Type 0
 InTurns {oracle = oracle} {s = s} {tasks = tasks} {t = t} runs left moved = (before : List Event) → InRound oracle (at [] s before) (at tasks t (runs before).0) (runs before).1 left moved
+
+-- in a run macros leave in turn
+abbrev pub LeaveInTurn : {oracle : Oracle} {tasks : List Task} {s : State} {tasks' : List Task} {t : State} → Runs oracle tasks s tasks' t → Type 0
+LeaveInTurn {oracle = oracle} {tasks = tasks} {s = s} {tasks' = tasks'} {t = t} runs = (before : List Event) → LeavesInTurn oracle (at tasks s before) (at tasks' t (runs before).0) (runs before).1
 
 -- a run is a round
 abbrev pub AreRound : {oracle : Oracle} {s t : State} → Runs oracle [] s [] t → Type 0

@@ -9,6 +9,7 @@ use Rattle.def_rules.specs.Targets.{is_censored, leaves_out, target_of}
 use Rattle.def_rules.specs.State.{Setting, Moment, order}
 use Rattle.def_rules.specs.Steps.{IsKeptAlong, Reaches}
 use Rattle.def_rules.specs.Rounds.{IsOverLimit}
+use Rattle.def_rules.specs.InTurn.{LeavesInTurn}
 use Rattle.def_rules.specs.Start.{start}
 use Rattle.def_rules.specs.Settled.{IsDeclared, WasPut, ExplicitStays, IsSettled, HasEveryNamespace}
 use Rattle.def_rules.specs.Report.{Answer, IsAnswerOf, report}
@@ -46,6 +47,8 @@ pub record Answers (w : Setting) (before after : Session) (answer : Answer) : Ty
   pub was_put : WasPut run.end.events run.end.state.content
   -- no explicit binding is ever replaced, and none removed but the function of a procedural macro
   pub explicit_stays : (a b : Moment) → IsOnRun w before run.end a b → ExplicitStays a b
+  -- each macro that leaves what waits, by being asked, had waited where its part of the run began, at a moment at which no import was ready
+  pub in_turn : LeavesInTurn w.oracle (start w before) run.end run.runs
   -- the limit was met only where the run holds more rounds than that
   pub limit : answer.outcome.limit_met ≡ true → IsOverLimit w.oracle (start w before) run.end run.runs
   pub settled : answer.outcome.limit_met ≡ false → IsSettled w.oracle run.end.state

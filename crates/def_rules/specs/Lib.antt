@@ -16,6 +16,7 @@ pub mod Imports
 pub mod Recording
 pub mod Fallback
 pub mod Rounds
+pub mod InTurn
 pub mod Globs
 pub mod Targets
 pub mod ProcMacros
