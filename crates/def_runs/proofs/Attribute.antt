@@ -14,6 +14,8 @@ use Rattle.def_interner.specs.Session.{Session, AddsLocations, MacroLoc}
 use Rattle.def_bindings.specs.declared.bindings.Namespace.TheVariants.{Types, Values}
 use Rattle.def_rules.specs.Directives.{Stays, told}
 use Rattle.def_rules.specs.Headline.{Answers}
+use Rattle.def_rules.specs.Fallback.{IsQuiet}
+use Rattle.def_rules.specs.InTurn.{LeavesInTurn, parts}
 use Rattle.def_rules.specs.Report.{Answer, IsOutcome}
 use Rattle.def_rules.specs.Start.{start}
 use Rattle.def_rules.specs.State.{Setting, Moment, PutExplicit}
@@ -21,7 +23,7 @@ use Rattle.def_rules.specs.Waiting.{Attr, Expansion, MacroDirective}
 use Rattle.def_rules.specs.Steps.{Reaches, join, one, performs}
 use Rattle.def_runs.proofs.Called.{declared, expansion, foo, s, t}
 use Rattle.def_runs.proofs.Exported.{marked_with}
-use Rattle.def_runs.proofs.RowLemmas.{answer_of, answers_without, expansion_taken, macro_asked, no_targets}
+use Rattle.def_runs.proofs.RowLemmas.{answer_of, answers_without, asked_in_turn, expansion_taken, macro_asked, no_targets, none_leave_in_turn, quiet_without}
 use Rattle.def_runs.proofs.Rows.{crate_of, knowing, module_at, no_session, position, session_with, unchanged}
 use Rattle.def_runs.proofs.Textual.{foo_loc}
 use Rattle.def_runs.proofs.Trees.{items, node, root_file, tree_with, unit_struct}
@@ -132,9 +134,18 @@ shown = record { imports = refl; macros = refl; edges = λ source. refl; targets
 abbrev answered : Answer
 answered = answer_of setting.oracle last.state nothing_left
 
+-- where it is asked, nothing else moves
+quiet : IsQuiet setting.oracle walked_to.state
+quiet = quiet_without setting.oracle walked_to.state refl refl (λ source. refl)
+
+-- so it leaves in turn
+in_turn : LeavesInTurn setting.oracle (start setting no_session) last ran
+unfolding ran expansion_taken
+in_turn = parts (none_leave_in_turn walked.1 refl) (parts (asked_in_turn setting.oracle walked_to waiting [] refl refl quiet) (none_leave_in_turn expanded.1 refl))
+
 -- what is answered of this crate
 attribute_answers : Answers setting no_session session answered
-attribute_answers = answers_without setting no_session last nothing_left ran refl refl refl refl refl shown (λ source. refl) refl
+attribute_answers = answers_without setting no_session last nothing_left ran in_turn refl refl refl refl refl shown (λ source. refl) refl
 
 -- S is bound, and T is not
 s_is_bound : (answered.content.binding (module_at 0) s Types ≡ Some (declared 0)) × (answered.content.binding (module_at 0) s Values ≡ Some (declared 0))

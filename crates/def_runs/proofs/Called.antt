@@ -26,11 +26,12 @@ use Rattle.def_oracle.specs.declared.source_database.CallAnswer.{CallAnswer}
 use Rattle.def_oracle.specs.declared.source_database.UnresolvedMacro.{UnresolvedMacro}
 use Rattle.def_oracle.specs.Queries.{PlainCall}
 use Rattle.def_rules.specs.Headline.{Answers}
+use Rattle.def_rules.specs.InTurn.{LeavesInTurn}
 use Rattle.def_rules.specs.Report.{Answer, IsOutcome}
 use Rattle.def_rules.specs.Start.{start}
 use Rattle.def_rules.specs.State.{Setting, Moment}
 use Rattle.def_rules.specs.Steps.{Reaches, join, one, performs}
-use Rattle.def_runs.proofs.RowLemmas.{answer_of, answers_without, no_targets}
+use Rattle.def_runs.proofs.RowLemmas.{answer_of, answers_without, no_targets, none_leave_in_turn}
 use Rattle.def_runs.proofs.Rows.{crate_of, knowing, loc, module_at, no_session, position, session_with, unchanged}
 use Rattle.def_runs.proofs.Trees.{items, named, node, tree_with, unit_struct}
 use Rattle.def_runs.proofs.Vectors.{nothing_left}
@@ -126,9 +127,13 @@ shown = record { imports = refl; macros = refl; edges = λ source. refl; targets
 abbrev pub answered : Answer
 answered = answer_of setting.oracle last.state nothing_left
 
+-- no macro is asked
+in_turn : LeavesInTurn setting.oracle (start setting no_session) last walked.1
+in_turn = none_leave_in_turn walked.1 refl
+
 -- what is answered of this crate
 called_answers : Answers setting no_session session answered
-called_answers = answers_without setting no_session last nothing_left walked.1 refl refl refl refl refl shown (λ source. refl) refl
+called_answers = answers_without setting no_session last nothing_left walked.1 in_turn refl refl refl refl refl shown (λ source. refl) refl
 
 -- struct 0, of the root, as its expansion says
 abbrev pub declared : ℕ → Binding Visibility

@@ -20,6 +20,8 @@ use Rattle.def_interner.specs.declared.macro_def.MacroDefKind.TheVariants.{Decla
 use Rattle.def_interner.specs.Session.{Session, AddsLocations, ItemKind, ItemLoc, MacroLoc, StructItem}
 use Rattle.def_rules.specs.Directives.{Stays, told}
 use Rattle.def_rules.specs.Headline.{Answers}
+use Rattle.def_rules.specs.Fallback.{IsQuiet}
+use Rattle.def_rules.specs.InTurn.{LeavesInTurn, parts}
 use Rattle.def_rules.specs.Report.{Answer, IsOutcome}
 use Rattle.def_rules.specs.Start.{start}
 use Rattle.def_rules.specs.State.{Setting, Moment}
@@ -27,7 +29,7 @@ use Rattle.def_rules.specs.Waiting.{Attr, Expansion, MacroDirective}
 use Rattle.def_rules.specs.Steps.{Reaches, join, one, performs}
 use Rattle.def_runs.proofs.Called.{foo, of_foo, t}
 use Rattle.def_runs.proofs.Exported.{marked_with}
-use Rattle.def_runs.proofs.RowLemmas.{answer_of, answers_without, expansion_taken, macro_asked, no_targets}
+use Rattle.def_runs.proofs.RowLemmas.{answer_of, answers_without, asked_in_turn, expansion_taken, macro_asked, no_targets, none_leave_in_turn, quiet_without}
 use Rattle.def_runs.proofs.Rows.{crate_of, knowing, loc, module_at, no_session, position, session_with, unchanged}
 use Rattle.def_runs.proofs.Textual.{foo_loc}
 use Rattle.def_runs.proofs.Trees.{items, named, node, root_file, tree_with, unit_struct}
@@ -165,9 +167,18 @@ shown = record { imports = refl; macros = refl; edges = λ source. refl; targets
 abbrev answered : Answer
 answered = answer_of setting.oracle last.state nothing_left
 
+-- where it is asked, nothing else moves
+quiet : IsQuiet setting.oracle walked_to.state
+quiet = quiet_without setting.oracle walked_to.state refl refl (λ source. refl)
+
+-- so it leaves in turn
+in_turn : LeavesInTurn setting.oracle (start setting no_session) last ran
+unfolding ran expansion_taken
+in_turn = parts (none_leave_in_turn walked.1 refl) (parts (asked_in_turn setting.oracle walked_to waiting [] refl refl quiet) (parts (none_leave_in_turn tried.1 refl) (none_leave_in_turn expanded.1 refl)))
+
 -- what is answered of this crate
 derived_answers : Answers setting no_session session answered
-derived_answers = answers_without setting no_session last nothing_left ran refl refl refl refl refl shown (λ source. refl) refl
+derived_answers = answers_without setting no_session last nothing_left ran in_turn refl refl refl refl refl shown (λ source. refl) refl
 
 -- both names are bound, and nothing else is
 names_of_root : answered.content.names (module_at 0) ≡ derive ∷ t ∷ []

@@ -6,11 +6,12 @@ use Rattle.def_bindings.specs.Content.{empty}
 use Rattle.def_modules.specs.declared.module_data.ModuleOrigin.TheVariants.{CrateRoot}
 use Rattle.def_modules.specs.Scopes.{empty_module}
 use Rattle.def_rules.specs.Headline.{Answers}
+use Rattle.def_rules.specs.InTurn.{LeavesInTurn}
 use Rattle.def_rules.specs.Report.{Answer, IsOutcome}
 use Rattle.def_rules.specs.Start.{start}
 use Rattle.def_rules.specs.State.{Setting, Moment}
 use Rattle.def_rules.specs.Steps.{Reaches, one, performs}
-use Rattle.def_runs.proofs.RowLemmas.{answer_of, answers_without, no_targets}
+use Rattle.def_runs.proofs.RowLemmas.{answer_of, answers_without, no_targets, none_leave_in_turn}
 use Rattle.def_runs.proofs.Rows.{crate_of, no_session}
 use Rattle.def_runs.proofs.Trees.{tree_with}
 use Rattle.def_runs.proofs.Vectors.{nothing_left}
@@ -38,9 +39,13 @@ shown = record { imports = refl; macros = refl; edges = λ source. refl; targets
 abbrev pub answered : Answer
 answered = answer_of setting.oracle last.state nothing_left
 
+-- no macro is asked
+in_turn : LeavesInTurn setting.oracle (start setting no_session) last ran.1
+in_turn = none_leave_in_turn ran.1 refl
+
 -- what is answered of a crate without items
 empty_answers : Answers setting no_session no_session answered
-empty_answers = answers_without setting no_session last nothing_left ran.1 refl refl refl refl refl shown (λ source. refl) refl
+empty_answers = answers_without setting no_session last nothing_left ran.1 in_turn refl refl refl refl refl shown (λ source. refl) refl
 
 -- it is one module, the crate's root, with nothing in it
 one_module : answered.map.modules ≡ empty_module None CrateRoot Public ∷ []

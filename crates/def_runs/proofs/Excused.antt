@@ -15,11 +15,12 @@ use Rattle.def_rules.specs.declared.diagnostics.DefDiagnosticKind.TheVariants.{U
 use Rattle.def_rules.specs.declared.outcome.LeftImport.{LeftImport}
 use Rattle.def_rules.specs.declared.outcome.Outcome.{Outcome}
 use Rattle.def_rules.specs.Headline.{Answers}
+use Rattle.def_rules.specs.InTurn.{LeavesInTurn}
 use Rattle.def_rules.specs.Report.{Answer, IsOutcome}
 use Rattle.def_rules.specs.Start.{start}
 use Rattle.def_rules.specs.State.{Setting, Moment, Import}
 use Rattle.def_rules.specs.Steps.{Reaches, join, one, performs}
-use Rattle.def_runs.proofs.RowLemmas.{answer_of, answers_without, no_targets}
+use Rattle.def_runs.proofs.RowLemmas.{answer_of, answers_without, no_targets, none_leave_in_turn}
 use Rattle.def_runs.proofs.Rows.{crate_of, grown, import_of, loc, module_at, no_session, not_recorded, position, session_with, unchanged}
 use Rattle.def_runs.proofs.Trees.{items, named, node, tree_with, use_one}
 use Rattle.def_runs.proofs.Vectors.{vec_of}
@@ -107,9 +108,13 @@ shown = record { imports = refl; macros = refl; edges = λ source. refl; targets
 abbrev answered : Answer
 answered = answer_of setting.oracle last.state three_left
 
+-- no macro is asked
+in_turn : LeavesInTurn setting.oracle (start setting no_session) last walked.1
+in_turn = none_leave_in_turn walked.1 refl
+
 -- what is answered of this crate
 excused_answers : Answers setting no_session session answered
-excused_answers = answers_without setting no_session last three_left walked.1 refl refl refl refl refl shown (λ source. refl) refl
+excused_answers = answers_without setting no_session last three_left walked.1 in_turn refl refl refl refl refl shown (λ source. refl) refl
 
 nothing_is_bound : answered.content ≡ empty
 nothing_is_bound = refl

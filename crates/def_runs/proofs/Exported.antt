@@ -21,12 +21,13 @@ use Rattle.def_bindings.specs.declared.visibility.Visibility.TheVariants.{Public
 use Rattle.def_modules.specs.Maps.{textual_at}
 use Rattle.def_rules.specs.declared.diagnostics.DefDiagnosticKind.TheVariants.{UnimplementedBuiltinMacro}
 use Rattle.def_rules.specs.Headline.{Answers}
+use Rattle.def_rules.specs.InTurn.{LeavesInTurn}
 use Rattle.def_rules.specs.Report.{Answer, IsOutcome}
 use Rattle.def_rules.specs.Start.{start}
 use Rattle.def_rules.specs.State.{Setting, Moment}
 use Rattle.def_rules.specs.Steps.{Reaches, join, one, performs}
 use Rattle.def_runs.proofs.HandedOn.{m}
-use Rattle.def_runs.proofs.RowLemmas.{answer_of, answers_without, no_targets}
+use Rattle.def_runs.proofs.RowLemmas.{answer_of, answers_without, no_targets, none_leave_in_turn}
 use Rattle.def_runs.proofs.Rows.{crate_of, module_at, no_session, position, unchanged}
 use Rattle.def_runs.proofs.Textual.{foo, foo_loc, the_macro}
 use Rattle.def_runs.proofs.Trees.{inline_mod, items, node, tree_with}
@@ -82,9 +83,13 @@ shown = record { imports = refl; macros = refl; edges = λ source. refl; targets
 abbrev answered : Answer
 answered = answer_of setting.oracle last.state nothing_left
 
+-- no macro is asked
+in_turn : LeavesInTurn setting.oracle (start setting no_session) last run.1
+in_turn = none_leave_in_turn run.1 refl
+
 -- what is answered of this crate
 exported_answers : Answers setting no_session session answered
-exported_answers = answers_without setting no_session last nothing_left run.1 refl refl refl refl refl shown (λ source. refl) refl
+exported_answers = answers_without setting no_session last nothing_left run.1 in_turn refl refl refl refl refl shown (λ source. refl) refl
 
 -- macro 0 by rules, public, by declaration
 abbrev held : Binding Visibility

@@ -8,6 +8,7 @@ use Rattle.def_interner.specs.Session.{Session, AddsLocations}
 use Rattle.def_bindings.specs.declared.bindings.Namespace.TheVariants.{Types, Values}
 use Rattle.def_rules.specs.Fallback.{IsStuck, attr_diagnostic}
 use Rattle.def_rules.specs.Headline.{Answers}
+use Rattle.def_rules.specs.InTurn.{LeavesInTurn}
 use Rattle.def_rules.specs.Report.{Answer, IsOutcome}
 use Rattle.def_rules.specs.Settled.{IsNoAttribute}
 use Rattle.def_rules.specs.Start.{start}
@@ -16,7 +17,7 @@ use Rattle.def_rules.specs.Waiting.{Attr, MacroDirective, WrittenAttr}
 use Rattle.def_rules.specs.Steps.{Reaches, falls_back, join, one, performs}
 use Rattle.def_runs.proofs.Called.{declared, foo, s}
 use Rattle.def_runs.proofs.Exported.{marked_with}
-use Rattle.def_runs.proofs.RowLemmas.{answer_of, answers_without, no_targets, stuck_without}
+use Rattle.def_runs.proofs.RowLemmas.{answer_of, answers_without, no_targets, none_leave_in_turn, stuck_without}
 use Rattle.def_runs.proofs.Rows.{crate_of, module_at, no_session, position, session_with, unchanged}
 use Rattle.def_runs.proofs.Trees.{items, node, root_file, tree_with, unit_struct}
 use Rattle.def_runs.proofs.Vectors.{nothing_left}
@@ -89,9 +90,14 @@ shown = record { imports = refl; macros = refl; edges = λ source. refl; targets
 abbrev answered : Answer
 answered = answer_of setting.oracle last.state nothing_left
 
+-- no macro is asked
+in_turn : LeavesInTurn setting.oracle (start setting no_session) last ran
+unfolding ran
+in_turn = none_leave_in_turn ran refl
+
 -- what is answered of this crate
 given_up_answers : Answers setting no_session session answered
-given_up_answers = answers_without setting no_session last nothing_left ran refl refl refl refl refl shown (λ source. refl) refl
+given_up_answers = answers_without setting no_session last nothing_left ran in_turn refl refl refl refl refl shown (λ source. refl) refl
 
 -- S is bound, and its attribute reported
 s_is_bound : (answered.content.binding (module_at 0) s Types ≡ Some (declared 0)) × (answered.content.binding (module_at 0) s Values ≡ Some (declared 0))

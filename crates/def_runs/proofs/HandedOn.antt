@@ -15,11 +15,12 @@ use Rattle.def_interner.specs.Session.{Session, AddsLocations, ItemKind, ItemLoc
 use Rattle.def_bindings.specs.declared.bindings.Namespace.TheVariants.{Types, Macros}
 use Rattle.def_modules.specs.Maps.{textual_at}
 use Rattle.def_rules.specs.Headline.{Answers}
+use Rattle.def_rules.specs.InTurn.{LeavesInTurn}
 use Rattle.def_rules.specs.Report.{Answer, IsOutcome}
 use Rattle.def_rules.specs.Start.{start}
 use Rattle.def_rules.specs.State.{Setting, Moment, Import}
 use Rattle.def_rules.specs.Steps.{Reaches, join, one, performs}
-use Rattle.def_runs.proofs.RowLemmas.{answer_of, answers_without, import_recorded, no_targets}
+use Rattle.def_runs.proofs.RowLemmas.{answer_of, answers_without, import_recorded, no_targets, none_leave_in_turn}
 use Rattle.def_runs.proofs.Rows.{crate_of, import_of, knowing, loc, module_at, module_in_root, no_session, not_recorded, position, session_with, unchanged}
 use Rattle.def_runs.proofs.Textual.{as_bar, bar, foo, foo_loc, imported, of_foo, the_macro}
 use Rattle.def_runs.proofs.Trees.{inline_mod, items, named, node, tree_with}
@@ -116,9 +117,14 @@ shown = record { imports = refl; macros = refl; edges = λ source. refl; targets
 abbrev answered : Answer
 answered = answer_of setting.oracle last.state nothing_left
 
+-- no macro is asked
+in_turn : LeavesInTurn setting.oracle (start setting no_session) last ran
+unfolding ran import_recorded
+in_turn = none_leave_in_turn ran refl
+
 -- what is answered of this crate
 handed_on_answers : Answers setting no_session session answered
-handed_on_answers = answers_without setting no_session last nothing_left ran refl refl refl refl refl shown (λ source. refl) refl
+handed_on_answers = answers_without setting no_session last nothing_left ran in_turn refl refl refl refl refl shown (λ source. refl) refl
 
 -- both modules have the macro, and neither binds its name
 in_both : (textual_at answered.map 0 foo ≡ the_macro ∷ []) × (textual_at answered.map 1 foo ≡ the_macro ∷ [])

@@ -27,3 +27,4 @@ pub mod Derived
 pub mod Unresolved
 pub mod GivenUp
 pub mod NoRounds
+pub mod LeftInTurn

@@ -9,11 +9,12 @@ use Rattle.def_bindings.specs.declared.bindings.Namespace.TheVariants.{Types, Va
 use Rattle.def_bindings.specs.declared.visibility.Visibility.{Visibility}
 use Rattle.def_bindings.specs.declared.visibility.Visibility.TheVariants.{Public}
 use Rattle.def_rules.specs.Headline.{Answers}
+use Rattle.def_rules.specs.InTurn.{LeavesInTurn}
 use Rattle.def_rules.specs.Report.{Answer, IsOutcome}
 use Rattle.def_rules.specs.Start.{start}
 use Rattle.def_rules.specs.State.{Setting, Moment, PutExplicit}
 use Rattle.def_rules.specs.Steps.{Reaches, join, one, performs}
-use Rattle.def_runs.proofs.RowLemmas.{answer_of, answers_without, no_targets}
+use Rattle.def_runs.proofs.RowLemmas.{answer_of, answers_without, no_targets, none_leave_in_turn}
 use Rattle.def_runs.proofs.Rows.{crate_of, grown, loc, module_at, no_session, session_with, unchanged}
 use Rattle.def_runs.proofs.Trees.{items, named, node, tree_with, unit_struct}
 use Rattle.def_runs.proofs.Vectors.{nothing_left}
@@ -54,9 +55,13 @@ shown = record { imports = refl; macros = refl; edges = λ source. refl; targets
 abbrev pub answered : Answer
 answered = answer_of setting.oracle last.state nothing_left
 
+-- no macro is asked
+in_turn : LeavesInTurn setting.oracle (start setting no_session) last ran.1
+in_turn = none_leave_in_turn ran.1 refl
+
 -- what is answered of this crate
 one_struct_answers : Answers setting no_session session answered
-one_struct_answers = answers_without setting no_session last nothing_left ran.1 refl refl refl refl refl shown (λ source. refl) refl
+one_struct_answers = answers_without setting no_session last nothing_left ran.1 in_turn refl refl refl refl refl shown (λ source. refl) refl
 
 -- struct 0, public, by declaration
 abbrev pub held : Binding Visibility

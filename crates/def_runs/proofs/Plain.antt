@@ -17,13 +17,14 @@ use Rattle.def_rules.specs.declared.diagnostics.DefDiagnosticKind.TheVariants.{U
 use Rattle.def_rules.specs.declared.outcome.LeftImport.{LeftImport}
 use Rattle.def_rules.specs.declared.outcome.Outcome.{Outcome}
 use Rattle.def_rules.specs.Headline.{Answers}
+use Rattle.def_rules.specs.InTurn.{LeavesInTurn}
 use Rattle.def_rules.specs.Imports.{unresolved_imports}
 use Rattle.def_rules.specs.Recording.{NoneReady}
 use Rattle.def_rules.specs.Report.{Answer, IsOutcome}
 use Rattle.def_rules.specs.Start.{start}
 use Rattle.def_rules.specs.State.{Setting, Moment, Import, ImportDirective}
 use Rattle.def_rules.specs.Steps.{Reaches, join, one, performs}
-use Rattle.def_runs.proofs.RowLemmas.{answer_of, answers_without, import_recorded, no_targets, settled_by_test}
+use Rattle.def_runs.proofs.RowLemmas.{answer_of, answers_without, import_recorded, no_targets, none_leave_in_turn, settled_by_test}
 use Rattle.def_runs.proofs.Rows.{crate_of, grown, import_of, loc, module_at, module_in_root, no_session, not_recorded, position, recorded_from, session_with, unchanged}
 use Rattle.def_runs.proofs.Trees.{inline_mod, items, named, node, tree_with, unit_struct, use_one}
 use Rattle.def_runs.proofs.Vectors.{vec_of}
@@ -133,9 +134,14 @@ shown = record { imports = refl; macros = refl; edges = λ source. refl; targets
 abbrev pub answered : Answer
 answered = answer_of setting.oracle last.state one_left
 
+-- no macro is asked
+in_turn : LeavesInTurn setting.oracle (start setting no_session) last ran
+unfolding ran import_recorded
+in_turn = none_leave_in_turn ran refl
+
 -- what is answered of this crate
 plain_answers : Answers setting no_session session answered
-plain_answers = answers_without setting no_session last one_left ran refl refl refl refl refl shown (λ source. refl) refl
+plain_answers = answers_without setting no_session last one_left ran in_turn refl refl refl refl refl shown (λ source. refl) refl
 
 -- module 1 is `a`, in the root
 two_modules : map (λ m. m.name) answered.map.modules ≡ None ∷ Some a ∷ []

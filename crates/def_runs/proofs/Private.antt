@@ -22,13 +22,14 @@ use Rattle.def_bindings.specs.declared.visibility.Visibility.TheVariants.{Module
 use Rattle.def_bindings.specs.Puts.{copied}
 use Rattle.def_rules.specs.declared.outcome.Outcome.{Outcome}
 use Rattle.def_rules.specs.Headline.{Answers}
+use Rattle.def_rules.specs.InTurn.{LeavesInTurn}
 use Rattle.def_rules.specs.Report.{Answer, IsOutcome}
 use Rattle.def_rules.specs.Start.{start}
 use Rattle.def_rules.specs.State.{Setting, Moment, Import, order, with_content, with_state}
 use Rattle.def_rules.specs.Steps.{Reaches, join, one, performs}
 use Rattle.def_rules.specs.Targets.{leaves_out, target_of}
 use Rattle.def_runs.proofs.OutcomeLemmas.{edges_listed, listed, targets_listed}
-use Rattle.def_runs.proofs.RowLemmas.{answer_of, answers, copied_along, import_recorded}
+use Rattle.def_runs.proofs.RowLemmas.{answer_of, answers, copied_along, import_recorded, none_leave_in_turn}
 use Rattle.def_runs.proofs.Rows.{bound, crate_of, glob_of_use, grown, import_of, loc, module_at, module_in_root, no_session, not_recorded, session_with, unchanged}
 use Rattle.def_runs.proofs.TableLemmas.{closed_by_test, coherent_by_test, raised_by_test}
 use Rattle.def_runs.proofs.Tables.{Bound, IsTable, Leaving}
@@ -147,10 +148,15 @@ shown = record { imports = refl; macros = refl; edges = edges_listed leaving ref
 abbrev answered : Answer
 answered = answer_of setting.oracle last.state outcome
 
+-- no macro is asked
+in_turn : LeavesInTurn setting.oracle (start setting no_session) last ran
+unfolding ran import_recorded copied_along
+in_turn = none_leave_in_turn ran refl
+
 -- what is answered of this crate
 private_answers : Answers setting no_session session answered
 private_answers =
-    answers setting no_session last outcome ran refl refl refl refl refl shown
+    answers setting no_session last outcome ran in_turn refl refl refl refl refl shown
     (closed_by_test rows leaving last.state.content is_table (order last.state) (leaves_out last.state) refl)
     (coherent_by_test rows leaving last.state.content is_table (order last.state) (leaves_out last.state) (target_of last.state.map.id last.state.targets) refl)
     (raised_by_test rows leaving last.state.content is_table (order last.state) refl)

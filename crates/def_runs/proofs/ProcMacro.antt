@@ -26,6 +26,7 @@ use Rattle.def_bindings.specs.Content.{Content}
 use Rattle.def_oracle.specs.declared.source_database.CrateData.{CrateData}
 use Rattle.def_laws.proofs.LeftOutLaws.{censors_alike, left_out_along}
 use Rattle.def_rules.specs.Headline.{Answers}
+use Rattle.def_rules.specs.InTurn.{LeavesInTurn}
 use Rattle.def_rules.specs.ProcMacros.{censored_binding, crate_only, is_declared_macro}
 use Rattle.def_rules.specs.Report.{Answer, IsOutcome}
 use Rattle.def_rules.specs.Start.{start}
@@ -33,7 +34,7 @@ use Rattle.def_rules.specs.State.{Setting, Moment, PutExplicit, TookOut}
 use Rattle.def_rules.specs.Steps.{Reaches, join, one, performs}
 use Rattle.def_rules.specs.Targets.{is_censored}
 use Rattle.def_runs.proofs.Exported.{marked_with}
-use Rattle.def_runs.proofs.RowLemmas.{answer_of, answers_without, no_targets}
+use Rattle.def_runs.proofs.RowLemmas.{answer_of, answers_without, no_targets, none_leave_in_turn}
 use Rattle.def_runs.proofs.Rows.{crate_of, knowing, loc, module_at, no_session, position, session_with, unchanged}
 use Rattle.def_runs.proofs.Trees.{items, named, node, tree_with, unit_struct}
 use Rattle.def_runs.proofs.Vectors.{nothing_left}
@@ -126,9 +127,14 @@ shown = record { imports = refl; macros = refl; edges = λ source. refl; targets
 abbrev pub answered : Answer
 answered = answer_of setting.oracle last.state nothing_left
 
+-- no macro is asked
+in_turn : LeavesInTurn setting.oracle (start setting no_session) last ran
+unfolding ran
+in_turn = none_leave_in_turn ran refl
+
 -- what is answered of this crate
 proc_macro_answers : Answers setting no_session session answered
-proc_macro_answers = answers_without setting no_session last nothing_left ran refl refl refl refl refl shown (λ source. refl) refl
+proc_macro_answers = answers_without setting no_session last nothing_left ran in_turn refl refl refl refl refl shown (λ source. refl) refl
 
 -- each by declaration: function 0, procedural macro 0, and struct 0
 abbrev pub of_function : Visibility → Binding Visibility

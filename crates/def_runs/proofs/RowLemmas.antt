@@ -28,10 +28,11 @@ use Rattle.def_rules.specs.Recording.{ImportStep, NoneReady, import_effect}
 use Rattle.def_rules.specs.Report.{Answer, AreTargets, IsOutcome, marked, report}
 use Rattle.def_rules.specs.Start.{start}
 use Rattle.def_rules.specs.State.{Setting, State, Effect, Moment, ImportDirective, Rearranges, after, order, with_content, with_state}
-use Rattle.def_rules.specs.Fallback.{FallbackStep, IsStuck}
+use Rattle.def_rules.specs.Fallback.{FallbackStep, IsQuiet, IsStuck}
+use Rattle.def_rules.specs.InTurn.{AllLeaveOf, LeavesInTurn, empty, part}
 use Rattle.def_rules.specs.Settled.{IsNoAttribute, IsSettled}
 use Rattle.def_rules.specs.Waiting.{Attr, Derive, Expansion, FnLike, MacroDirective, MacroDirectiveKind}
-use Rattle.def_rules.specs.Steps.{Reaches, one, asks, copies, expands, records}
+use Rattle.def_rules.specs.Steps.{Reaches, Step, here, one, join, asks, copies, expands, falls_back, performs, rearranges, records, reorders}
 use Rattle.def_laws.proofs.CensoredLaws.{censored_closed, censored_coherent, censored_raised}
 use Rattle.def_rules.specs.ProcMacros.{censored}
 use Rattle.def_rules.specs.Targets.{leaves_out, target_of}
@@ -46,7 +47,7 @@ abbrev pub moment_after : Oracle → Moment → ImportDirective → List ImportD
 moment_after oracle a directive rest = after a [] (import_effect oracle a.state directive rest (answer_now oracle a.state directive.import))
 
 -- the first import that waits is recorded
-pub import_recorded : (oracle : Oracle) (a : Moment) (directive : ImportDirective) (rest : List ImportDirective) → a.tasks ≡ [] → a.state.expansions ≡ [] → a.state.imports ≡ directive ∷ rest
+unfoldable pub import_recorded : (oracle : Oracle) (a : Moment) (directive : ImportDirective) (rest : List ImportDirective) → a.tasks ≡ [] → a.state.expansions ≡ [] → a.state.imports ≡ directive ∷ rest
     → is_ready directive.recorded (answer_now oracle a.state directive.import) ≡ true
     → Reaches oracle a (moment_after oracle a directive rest)
 import_recorded oracle a directive rest idle expanded first ready =
@@ -58,7 +59,7 @@ abbrev pub moment_asked : Oracle → Moment → MacroDirective → List MacroDir
 moment_asked oracle a directive rest = after a [] (turn_effect (told oracle a.state directive).state [] directive rest (told oracle a.state directive).turn)
 
 -- the first macro that waits is asked
-pub macro_asked : (oracle : Oracle) (a : Moment) (directive : MacroDirective) (rest : List MacroDirective) → a.tasks ≡ [] → a.state.macros ≡ directive ∷ rest
+unfoldable pub macro_asked : (oracle : Oracle) (a : Moment) (directive : MacroDirective) (rest : List MacroDirective) → a.tasks ≡ [] → a.state.macros ≡ directive ∷ rest
     → Reaches oracle a (moment_asked oracle a directive rest)
 macro_asked oracle a directive rest idle first = one (asks _ idle (record { before = []; directive = directive; behind = rest; stands = first; is = refl }) refl)
 
@@ -67,12 +68,12 @@ abbrev pub moment_expanded : Oracle → Moment → Expansion → List Expansion 
 moment_expanded oracle a expansion rest = after a [] (expansion_effect oracle (record a.state { expansions = rest }) expansion)
 
 -- the first expansion has its turn
-pub expansion_taken : (oracle : Oracle) (a : Moment) (expansion : Expansion) (rest : List Expansion) → a.tasks ≡ [] → a.state.expansions ≡ expansion ∷ rest
+unfoldable pub expansion_taken : (oracle : Oracle) (a : Moment) (expansion : Expansion) (rest : List Expansion) → a.tasks ≡ [] → a.state.expansions ≡ expansion ∷ rest
     → Reaches oracle a (moment_expanded oracle a expansion rest)
 expansion_taken oracle a expansion rest idle first = one (expands _ idle (record { before = []; expansion = expansion; behind = rest; stands = first; is = refl }) refl)
 
 -- one slot is copied along an edge
-pub copied_along : (oracle : Oracle) (a : Moment) (source : ModuleId) (index : ℕ) (edge : EdgeTo Visibility) (slot : Slot) → slice_get (a.state.content.edges source) index ≡ Some edge
+unfoldable pub copied_along : (oracle : Oracle) (a : Moment) (source : ModuleId) (index : ℕ) (edge : EdgeTo Visibility) (slot : Slot) → slice_get (a.state.content.edges source) index ≡ Some edge
     → Reaches oracle a (with_state a (with_content a.state (copied (order a.state) source edge slot a.state.content)))
 copied_along oracle a source index edge slot stands = one (copies _ (record { source = source; index = index; edge = edge; slot = slot; stands = stands; after = refl }) refl)
 
@@ -156,6 +157,39 @@ settled_by_tests w before end runs done ready passes =
       deferred = none_deferred_along w before end runs done otherwise;
     }
 
+-- whether no macro is asked in a step, as a test that computes
+abbrev pub asks_none : {oracle : Oracle} {a b : Moment} → Step oracle a b → Bool
+asks_none (asks effect idle turn is) = false
+asks_none _ = true
+
+-- nor in a run
+abbrev pub all_ask_none : {oracle : Oracle} {a b : Moment} → Reaches oracle a b → Bool
+all_ask_none here = true
+all_ask_none (one step) = asks_none step
+all_ask_none (join first second) = all_ask_none first && all_ask_none second
+
+-- none leaves where the test says so
+none_leaves : {oracle : Oracle} {a b : Moment} (run : Reaches oracle a b) → all_ask_none run ≡ true → AllLeaveOf [] run
+none_leaves here passes = tt
+none_leaves (one (asks effect idle turn is)) passes = absurd cc
+none_leaves (one (performs task rest effect first does is)) passes = tt
+none_leaves (one (copies content copy is)) passes = tt
+none_leaves (one (reorders macros same is)) passes = tt
+none_leaves (one (rearranges state same is)) passes = tt
+none_leaves (one (records effect idle step is)) passes = tt
+none_leaves (one (expands effect idle step is)) passes = tt
+none_leaves (one (falls_back effect idle step is)) passes = tt
+none_leaves (join first second) passes = let both = and_parts (all_ask_none first) (all_ask_none second) passes in (none_leaves first both.0, none_leaves second both.1)
+
+pub none_leave_in_turn : {oracle : Oracle} {a b : Moment} (run : Reaches oracle a b) → all_ask_none run ≡ true → LeavesInTurn oracle a b run
+none_leave_in_turn run passes = empty run (none_leaves run passes)
+
+-- one that is asked where nothing moves but macros had waited there
+pub asked_in_turn : (oracle : Oracle) (a : Moment) (directive : MacroDirective) (rest : List MacroDirective) (idle : a.tasks ≡ []) (first : a.state.macros ≡ directive ∷ rest) → IsQuiet oracle a.state
+    → LeavesInTurn oracle a (moment_asked oracle a directive rest) (macro_asked oracle a directive rest idle first)
+unfolding macro_asked
+asked_in_turn oracle a directive rest idle first quiet = part _ idle quiet (λ leaves. subst (λ ds. Contains ds directive) (sym first) (first_in directive rest))
+
 -- nothing waits for its turn: no import, no macro and no expansion, nor any derive for its item
 abbrev pub NoneWaits : State → Type 0
 NoneWaits s = (s.imports ≡ []) × (s.macros ≡ []) × (s.expansions ≡ []) × (s.deferred ≡ [])
@@ -213,15 +247,15 @@ abbrev pub answer_of : Oracle → State → Outcome → Answer
 answer_of oracle end outcome =
     record { map = marked end.map (unresolved_imports end.imports); content = censored end; local = end.local; outcome = outcome; diagnostics = report oracle end }
 
--- the answer of a run's end is right where names are closed, coherent and raised at the end, no expansion is left, no import is ready and no macro is given a call
-pub answers : (w : Setting) (before : Session) (end : Moment) (outcome : Outcome) → Reaches w.oracle (start w before) end → end.tasks ≡ [] → end.state.expansions ≡ []
+-- the answer of a run's end is right where macros leave in turn in the run, names are closed, coherent and raised at the end, no expansion is left, no import is ready and no macro is given a call
+pub answers : (w : Setting) (before : Session) (end : Moment) (outcome : Outcome) (runs : Reaches w.oracle (start w before) end) → LeavesInTurn w.oracle (start w before) end runs → end.tasks ≡ [] → end.state.expansions ≡ []
     → none_is_ready w.oracle end.state ≡ true → each_stays w.oracle end.state ≡ true
     → outcome.limit_met ≡ false → IsOutcome end.state outcome
     → IsClosed (order end.state) (leaves_out end.state) end.state.content
     → IsCoherent (order end.state) (leaves_out end.state) (target_of end.state.map.id end.state.targets) end.state.content
     → ((importer : ModuleId) (slot : Slot) → IsRaisedAt (order end.state) end.state.content importer slot)
     → Answers w before end.state.session (answer_of w.oracle end.state outcome)
-answers w before end outcome runs done expanded ready given unmet shown closed coherent raised =
+answers w before end outcome runs in_turn done expanded ready given unmet shown closed coherent raised =
     let settled = settled_by_test w.oracle end.state ready in
     record {
       run = record { end = end; runs = runs; done = done; expanded = expanded };
@@ -233,6 +267,7 @@ answers w before end outcome runs done expanded ready given unmet shown closed c
       declared = declared_along runs refl refl;
       was_put = was_put_along runs refl refl;
       explicit_stays = λ a b run. explicit_stays_along run.goes_on;
+      in_turn = in_turn;
       limit = λ met. absurd (true≢false (sym met ∙ unmet));
       settled = λ unmet. settled_by_tests w before end runs done ready given;
       every_namespace = λ unmet. every_namespace_along runs refl refl done settled;
@@ -255,20 +290,24 @@ raised_without : (o : Order Visibility) (c : Content Visibility) → NoEdge c �
 raised_without o c none importer slot source index edge at =
     let at_none = sym (ap (λ es. slice_get es index) (none source)) ∙ at in absurd cc
 
--- a state without edges is stuck where no expansion is to be walked and the tests say so
+-- in a state without edges nothing moves but macros where no expansion is to be walked and the test says so
+pub quiet_without : (oracle : Oracle) (s : State) → s.expansions ≡ [] → none_is_ready oracle s ≡ true → NoEdge s.content → IsQuiet oracle s
+quiet_without oracle s bare ready none = record { closed = closed_without (order s) (leaves_out s) s.content none; imports = settled_by_test oracle s ready; expansions = bare }
+
+-- and it is stuck where each macro stays
 pub stuck_without : (oracle : Oracle) (s : State) → s.expansions ≡ [] → none_is_ready oracle s ≡ true → all_stay oracle s ≡ true → NoEdge s.content → IsStuck oracle s
 stuck_without oracle s bare ready stay none = record {
-  quiet = record { closed = closed_without (order s) (leaves_out s) s.content none; imports = settled_by_test oracle s ready; expansions = bare };
+  quiet = quiet_without oracle s bare ready none;
   macros = all_stay_by_test oracle s stay;
 }
 
 -- so the answer of a run in which no glob was recorded is right where no expansion is left, no import is ready and no macro is given a call
-pub answers_without : (w : Setting) (before : Session) (end : Moment) (outcome : Outcome) → Reaches w.oracle (start w before) end → end.tasks ≡ [] → end.state.expansions ≡ []
+pub answers_without : (w : Setting) (before : Session) (end : Moment) (outcome : Outcome) (runs : Reaches w.oracle (start w before) end) → LeavesInTurn w.oracle (start w before) end runs → end.tasks ≡ [] → end.state.expansions ≡ []
     → none_is_ready w.oracle end.state ≡ true → each_stays w.oracle end.state ≡ true
     → outcome.limit_met ≡ false → IsOutcome end.state outcome → NoEdge end.state.content → end.state.targets ≡ (λ glob. None)
     → Answers w before end.state.session (answer_of w.oracle end.state outcome)
-answers_without w before end outcome runs done expanded ready given unmet shown none no_target =
-    answers w before end outcome runs done expanded ready given unmet shown
+answers_without w before end outcome runs in_turn done expanded ready given unmet shown none no_target =
+    answers w before end outcome runs in_turn done expanded ready given unmet shown
     (closed_without (order end.state) (leaves_out end.state) end.state.content none)
     (coherent_without (order end.state) (leaves_out end.state) end.state.content end.state no_target)
     (raised_without (order end.state) end.state.content none)

@@ -22,13 +22,14 @@ use Rattle.def_bindings.specs.declared.visibility.Visibility.{Visibility}
 use Rattle.def_bindings.specs.declared.visibility.Visibility.TheVariants.{Module as In}
 use Rattle.def_modules.specs.Maps.{textual_at}
 use Rattle.def_rules.specs.Headline.{Answers}
+use Rattle.def_rules.specs.InTurn.{LeavesInTurn}
 use Rattle.def_rules.specs.Imports.{unresolved_imports}
 use Rattle.def_rules.specs.Recording.{NoneReady}
 use Rattle.def_rules.specs.Report.{Answer, IsOutcome}
 use Rattle.def_rules.specs.Start.{start}
 use Rattle.def_rules.specs.State.{Setting, Moment, Import, ImportDirective, Recorded, PutExplicit}
 use Rattle.def_rules.specs.Steps.{Reaches, join, one, performs}
-use Rattle.def_runs.proofs.RowLemmas.{answer_of, answers_without, import_recorded, no_targets, settled_by_test}
+use Rattle.def_runs.proofs.RowLemmas.{answer_of, answers_without, import_recorded, no_targets, none_leave_in_turn, settled_by_test}
 use Rattle.def_runs.proofs.Rows.{crate_of, import_of, knowing, loc, module_at, no_session, not_recorded, position, recorded_from, session_with, unchanged}
 use Rattle.def_runs.proofs.Trees.{items, named, node, tree_with}
 use Rattle.def_runs.proofs.Vectors.{nothing_left}
@@ -141,9 +142,14 @@ shown = record { imports = refl; macros = refl; edges = λ source. refl; targets
 abbrev pub answered : Answer
 answered = answer_of setting.oracle last.state nothing_left
 
+-- no macro is asked
+in_turn : LeavesInTurn setting.oracle (start setting no_session) last ran
+unfolding ran import_recorded
+in_turn = none_leave_in_turn ran refl
+
 -- what is answered of this crate
 textual_answers : Answers setting no_session session answered
-textual_answers = answers_without setting no_session last nothing_left ran refl refl refl refl refl shown (λ source. refl) refl
+textual_answers = answers_without setting no_session last nothing_left ran in_turn refl refl refl refl refl shown (λ source. refl) refl
 
 -- macro 0 by rules
 abbrev pub the_macro : MacroId
