@@ -77,7 +77,7 @@ module _ (w : Setting) (before : Session) (s : State) (same : s ≡ seeded_state
       → u ≡ with_macro_reports w.oracle t → IsFinished u limit_met answer → Answers w before after answer
   collected_answers after t u answer limit_met ended sound expanded session reported finished =
       let ends : Ends w.oracle (first_tasks w.oracle w.seeded w.tree) (started w.oracle w.tree (seeded_state w before)) limit_met t = subst (λ x. Ends w.oracle (first_tasks w.oracle x.map w.tree) (started w.oracle w.tree x) limit_met t) same ended in
-      answers w before after answer t limit_met ends.run ends.rounds ends.holds ends.limit ends.rest
+      answers w before after answer t limit_met ends.run ends.in_turn ends.rounds ends.holds ends.limit ends.rest
       expanded session (none_seeded w.seeded given fresh) (begins_sound w before given fresh) sound (subst (λ x. IsFinished x limit_met answer) reported finished)
 
 -- a run that begins with a session begins with one that is the same

@@ -7,9 +7,10 @@ use Rattle.def_rules.specs.Calls.{deepest}
 use Rattle.def_rules.specs.Fallback.{IsStuck, attr_reported}
 use Rattle.def_rules.specs.State.{State, Visit}
 use Rattle.def_rules.specs.Waiting.{Attr, MacroDirective, WrittenAttr}
-use Rattle.def_laws.specs.Runs.{Leads}
+use Rattle.def_laws.specs.Runs.{CollectsCalmly, Leads}
+use Rattle.def_laws.proofs.InTurnLaws.{turn_empty}
 use Rattle.def_laws.proofs.PassLaws.{collects_given_up, collects_ordered, given_up_lighter, given_up_state, ordered_work, tried_none}
-use Rattle.def_laws.proofs.StepsLaws.{collects_trans}
+use Rattle.def_laws.proofs.StepsLaws.{calmly_trans}
 use Rattle.def_rounds.specs.Rounds.{GivesUp}
 
 -- An item is given up
@@ -22,9 +23,13 @@ module _ (oracle : Oracle) (s s' t : State) (before : List MacroDirective) (d : 
   walked : Leads oracle (Visit (item_site (attr_reported s d written) d written) written.item ∷ []) given_up [] t
   walked = subst (λ x. Leads oracle (Visit (item_site x d written) written.item ∷ []) x [] t) passed leads
 
+  gave_up_run : IsStuck oracle s → CollectsCalmly oracle [] s [] (record t { macros = macros })
+  gave_up_run stuck = calmly_trans (collects_given_up oracle s before d behind written stands is_attr given_up t (tried_none oracle d given_up) walked stuck) (collects_ordered oracle t macros same)
+
   pub gave_up : IsStuck oracle s → d.depth ≤ deepest → length t.macros < 2 ^ 64 → GivesUp oracle s (record t { macros = macros })
   gave_up stuck most few = record {
-    run = collects_trans (collects_given_up oracle s before d behind written stands is_attr given_up t (tried_none oracle d given_up) walked stuck) (collects_ordered oracle t macros same);
+    run = (gave_up_run stuck).collects;
+    in_turn = turn_empty (gave_up_run stuck);
     fewer =
         let less = given_up_lighter oracle s before d behind written stands is_attr given_up t (tried_none oracle d given_up) walked most few in
         let as_much = ordered_work t macros same in

@@ -5,7 +5,7 @@ use Rattle.std.specs.Prelude.{IfOk, IsPermutation, OnOk, filter, not}
 use Rattle.std.specs.declared.collections.VecDeque.{VecDeque}
 use Rattle.std.specs.declared.alloc.Global.{Global}
 use Rattle.std.proofs.lemmas.List.{flat_map_more, get_or_default, length-map}
-use Rattle.std.proofs.lemmas.List.Elements.{All-append, All-cons, All-contains, All-nil}
+use Rattle.std.proofs.lemmas.List.Elements.{All-append, All-cons, All-contains, All-nil, Contains-append_right}
 use Rattle.std.proofs.lemmas.List.Sorted.{IsPermutation-filter_both, IsPermutation-map, IsPermutation-sym, IsPermutation-to_front}
 use Rattle.std.proofs.lemmas.Option.{slice_get-get_or}
 use Rattle.def_calls.specs.declared.directives.Expansion.{Expansion}
@@ -25,11 +25,12 @@ use Rattle.def_rules.specs.State.{State, world}
 use Rattle.def_rules.specs.Waiting as waits
 use Rattle.def_laws.specs.Depths.{waiting_work}
 use Rattle.def_laws.specs.Performs.{IsExpanded}
-use Rattle.def_laws.specs.Runs.{Collects, InTurns}
+use Rattle.def_laws.specs.Runs.{Collects, CollectsCalmly, InTurns, LeaveOf}
 use Rattle.def_laws.specs.Sound.{IsSoundWith}
-use Rattle.def_laws.proofs.PassLaws.{collects_asked, collects_expanded, collects_ordered, expanded_lighter, expansions_same, invokes_ordered, invokes_refl, invokes_trans, none_ready_same, turn_same, work_same}
+use Rattle.def_laws.proofs.InTurnLaws.{leave_on, turn_part}
+use Rattle.def_laws.proofs.PassLaws.{collects_asked, collects_expanded, collects_ordered, expanded_lighter, expansions_same, invokes_ordered, invokes_refl, invokes_trans, leave_asked, none_ready_same, turn_same, work_same}
 use Rattle.def_laws.proofs.RoundsLaws.{round_made, turns_begin, turns_leave, turns_on, turns_stay}
-use Rattle.def_laws.proofs.StepsLaws.{collects_refl, collects_sound, collects_trans}
+use Rattle.def_laws.proofs.StepsLaws.{calmly_trans, collects_refl, collects_sound, collects_trans, leave_refl, leave_trans}
 use Rattle.def_calls.proofs.WaitingLemmas.{macros_all, macros_more}
 use Rattle.def_oracle.specs.declared.source_database.CallAnswer.{CallAnswer}
 use Rattle.def_oracle.specs.declared.source_database.UnresolvedMacro.{UnresolvedMacro}
@@ -73,6 +74,8 @@ pub no_turns : (oracle : Oracle) (s : State) → HadTurns oracle s s.macros fals
 no_turns oracle s = record {
   run = collects_refl [] s;
   turns = turns_begin s;
+  waited = λ d there. there;
+  leave = leave_refl oracle s.macros [] s;
   rest = [];
   macros = sym (append-nil s.macros);
   fewer = λ yes. absurd (true≢false (sym yes));
@@ -87,6 +90,10 @@ module _ (oracle : Oracle) (start s t : State) (left : List waits.MacroDirective
   no_more so_far false is = let same = work_same oracle start s (so_far.still is) in omega (arith, same)
 
 module _ (oracle : Oracle) (start s t : State) (d : waits.MacroDirective) (left : List waits.MacroDirective) (moved : Bool) (so_far : HadTurns oracle start (d ∷ left) moved s) where
+  -- those behind it waited too
+  waited_behind : (x : waits.MacroDirective) → Contains left x → Contains start.macros x
+  waited_behind x there = so_far.waited x (Contains-append_right (d ∷ []) left x there)
+
   -- one leaves
   pub turns_left : HasLeft oracle s t → HadTurns oracle start left true t
   turns_left has =
@@ -95,9 +102,13 @@ module _ (oracle : Oracle) (start s t : State) (d : waits.MacroDirective) (left 
       let others : has.others ≡ left ++ so_far.rest = cc in
       let turns : InTurns so_far.run.runs (has.first ∷ left) moved = subst (λ x. InTurns so_far.run.runs (x ∷ left) moved) same so_far.turns in
       let asked = collects_asked oracle s [] has.first has.others has.stands in
+      let waited : Contains start.macros has.first = subst (λ x. Contains start.macros x) same (so_far.waited d (0, omega arith, refl)) in
+      let leave : LeaveOf start.macros asked.runs = leave_asked oracle s [] has.first has.others has.stands start.macros waited in
       record {
-        run = collects_trans (collects_trans so_far.run asked) has.rest;
-        turns = turns_on (collects_trans so_far.run asked) (turns_leave so_far.run has.first turns has.others has.stands has.turn) has.rest;
+        run = collects_trans (collects_trans so_far.run asked) has.rest.collects;
+        turns = turns_on (collects_trans so_far.run asked) (turns_leave so_far.run has.first turns has.others has.stands has.turn) has.rest.collects;
+        waited = waited_behind;
+        leave = leave_on start.macros (collects_trans so_far.run asked) has.rest (leave_trans start.macros so_far.run asked so_far.leave leave);
         rest = so_far.rest ++ has.more;
         macros = has.macros ∙ ap (λ ds. ds ++ has.more) others ∙ append_assoc left so_far.rest has.more;
         fewer = λ yes. let most = no_more oracle start s t (d ∷ left) moved so_far moved refl in let less = has.fewer in omega (arith, less, most);
@@ -115,8 +126,10 @@ module _ (oracle : Oracle) (start s t : State) (d : waits.MacroDirective) (left 
       let waits : Contains s.macros has.first = subst (λ ds. Contains ds has.first) (sym has.stands) (0, omega arith, refl) in
       let as_much = work_same oracle s t has.asked.only in
       record {
-        run = collects_trans so_far.run has.asked.run;
-        turns = turns_on so_far.run (turns_stay so_far.run has.first turns waits has.asked.turn) has.asked.run;
+        run = collects_trans so_far.run has.asked.run.collects;
+        turns = turns_on so_far.run (turns_stay so_far.run has.first turns waits has.asked.turn) has.asked.run.collects;
+        waited = waited_behind;
+        leave = leave_on start.macros so_far.run has.asked.run so_far.leave;
         rest = so_far.rest ++ has.first ∷ [];
         macros = has.macros ∙ ap (λ ds. ds ++ has.first ∷ []) others ∙ append_assoc left so_far.rest (has.first ∷ []);
         fewer = λ yes. let less = so_far.fewer yes in omega (arith, less, as_much);
@@ -145,7 +158,7 @@ stays_behind oracle s u t d others stands asked same is =
       stands = stands;
       asked = subst (OnlyAsked oracle s d) (sym is) (record {
         turn = asked.turn;
-        run = collects_trans asked.run (collects_ordered oracle u (others ++ d ∷ []) order);
+        run = calmly_trans asked.run (collects_ordered oracle u (others ++ d ∷ []) order);
         only = invokes_trans s u (record u { macros = others ++ d ∷ [] }) asked.only (invokes_ordered u (others ++ d ∷ []) order);
       });
       macros = ap (λ (x : rules.State). x.macros) is;
@@ -162,11 +175,15 @@ asked_first_order old new is =
 
 -- where all had their turns and none left, the state is stuck
 module _ (oracle : Oracle) (s t : State) (sound : IsSoundWith [] s) (ready : NoneReady oracle s) (bare : s.expansions ≡ []) where
+  at_first : IsQuiet oracle s
+  at_first = record { closed = sound.sound.closed; imports = ready; expansions = bare }
+
   pub gets_stuck : HadTurns oracle s [] false t → GetsStuck oracle s t
   gets_stuck turns =
       let still = turns.still refl in
       record {
         run = turns.run;
+        in_turn = turn_part turns.run at_first turns.leave;
         stuck = record {
           quiet = record { closed = (collects_sound turns.run sound).sound.closed; imports = none_ready_same oracle s t still ready; expansions = expansions_same oracle s t still ∙ bare };
           macros = record {
@@ -177,13 +194,14 @@ module _ (oracle : Oracle) (s t : State) (sound : IsSoundWith [] s) (ready : Non
       }
 
   -- where one left, what is done behind the turns makes a round of them
-  pub makes_round : HadTurns oracle s [] true t → (u v : State) → Collects oracle [] t [] u → waiting_work u ≤ waiting_work t → Collects oracle [] u [] v → waiting_work v ≤ waiting_work u → MakesRound oracle s v
+  pub makes_round : HadTurns oracle s [] true t → (u v : State) → CollectsCalmly oracle [] t [] u → waiting_work u ≤ waiting_work t → CollectsCalmly oracle [] u [] v → waiting_work v ≤ waiting_work u → MakesRound oracle s v
   makes_round turns u v ordered as_much walked no_more =
-      let quiet : IsQuiet oracle s = record { closed = sound.sound.closed; imports = ready; expansions = bare } in
-      let first = collects_trans turns.run ordered in
+      let first : Collects oracle [] s [] u = collects_trans turns.run ordered.collects in
+      let whole : Collects oracle [] s [] v = collects_trans first walked.collects in
       record {
-        run = collects_trans first walked;
-        round = round_made s v (collects_trans first walked) quiet (turns_on first (turns_on turns.run turns.turns ordered) walked);
+        run = whole;
+        in_turn = turn_part whole at_first (leave_on s.macros first walked (leave_on s.macros turns.run ordered turns.leave));
+        round = round_made s v whole at_first (turns_on first (turns_on turns.run turns.turns ordered.collects) walked.collects);
         fewer = let less = turns.fewer refl in omega (arith, less, as_much, no_more);
       }
 
@@ -191,7 +209,7 @@ module _ (oracle : Oracle) (s t : State) (sound : IsSoundWith [] s) (ready : Non
 
 module _ (oracle : Oracle) (s t : rules.State) (e : Expansion) (rest : List Expansion) (first : s.expansions ≡ expansion_shown e ∷ map expansion_shown rest)
     (walked : IsExpanded oracle (expansion_shown e) (record s { expansions = map expansion_shown rest }) t) where
-  pub walked_run : Collects oracle [] s [] t
+  pub walked_run : CollectsCalmly oracle [] s [] t
   walked_run = collects_expanded oracle s t (expansion_shown e) (map expansion_shown rest) walked.inner first walked.begun walked.opened walked.leads
 
   pub walked_fewer : e.depth < 2 ^ 32 → length t.macros < 2 ^ 64 → waiting_work t < waiting_work s

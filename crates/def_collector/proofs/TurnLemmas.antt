@@ -18,9 +18,9 @@ use Rattle.def_rules.specs.State.{State, Task, Visit, world}
 use Rattle.def_rules.specs.Waiting.{Attr, Derive, FnLike, MacroDirective, WrittenAttr, WrittenCall, WrittenDerive}
 use Rattle.def_laws.specs.Depths.{OnlyInvokes, waiting_work}
 use Rattle.def_laws.specs.Performs.{Tried}
-use Rattle.def_laws.specs.Runs.{Collects, Leads}
+use Rattle.def_laws.specs.Runs.{CollectsCalmly, Leads}
 use Rattle.def_laws.proofs.PassLaws.{collects_stays, derived_lighter, given_lighter, invokes_refl, only_invokes, queued, queued_behind, replaced_lighter, rest_by, walked_lighter, walked_rest}
-use Rattle.def_laws.proofs.StepsLaws.{collects_refl}
+use Rattle.def_laws.proofs.StepsLaws.{calmly_refl}
 
 -- What is answered
 
@@ -65,7 +65,7 @@ module _ (oracle : Oracle) (s s' t : State) (d : MacroDirective) (given : Told) 
   pub turn_stayed : given.turn ≡ Stays → IsAsked oracle s d false t
   turn_stayed which = had_stayed oracle s d t (record {
     turn = was Stays which;
-    run = subst (λ u. Collects oracle [] s [] u) (sym (now Stays which)) (collects_stays oracle s [] d turned.others stands (was Stays which));
+    run = subst (λ u. CollectsCalmly oracle [] s [] u) (sym (now Stays which)) (collects_stays oracle s [] d turned.others stands (was Stays which));
     only = subst (OnlyInvokes s) (sym (now Stays which)) (only_invokes oracle s [] d turned.others stands (was Stays which));
   })
 
@@ -80,7 +80,7 @@ module _ (oracle : Oracle) (s s' t : State) (d : MacroDirective) (given : Told) 
         others = turned.others;
         stands = stands;
         turn = λ stays. cc (told_so, stays);
-        rest = rest_by oracle s [] d turned.others stands (GivesCall call) told_so t (subst (λ x. Collects oracle [] u [] x) (sym is_now) (collects_refl [] u));
+        rest = rest_by oracle s [] d turned.others stands (GivesCall call) told_so t (subst (λ x. CollectsCalmly oracle [] u [] x) (sym is_now) (calmly_refl [] u));
         more = [];
         macros = ap (λ (x : State). x.macros) is_now ∙ sym (append-nil turned.others);
         fewer = subst (λ u. waiting_work u < waiting_work s) (sym is_now) (given_lighter oracle s [] d turned.others stands call);
@@ -97,7 +97,7 @@ module _ (oracle : Oracle) (s s' t : State) (d : MacroDirective) (given : Told) 
         others = turned.others;
         stands = stands;
         turn = λ stays. cc (told_so, stays);
-        rest = rest_by oracle s [] d turned.others stands (Replaces call) told_so t (subst (λ x. Collects oracle [] u [] x) (sym is_now) (collects_refl [] u));
+        rest = rest_by oracle s [] d turned.others stands (Replaces call) told_so t (subst (λ x. CollectsCalmly oracle [] u [] x) (sym is_now) (calmly_refl [] u));
         more = [];
         macros = ap (λ (x : State). x.macros) is_now ∙ sym (append-nil turned.others);
         fewer = subst (λ u. waiting_work u < waiting_work s) (sym is_now) (replaced_lighter oracle s [] d turned.others stands call);
@@ -134,7 +134,7 @@ module _ (oracle : Oracle) (s t : State) (d : MacroDirective) (written : Written
           others = others;
           stands = stands;
           turn = λ stays. cc (turn, stays);
-          rest = rest_by oracle s [] d others stands (GivesDerive given_call) turn t (subst (λ x. Collects oracle [] u [] x) (sym here) (collects_refl [] u));
+          rest = rest_by oracle s [] d others stands (GivesDerive given_call) turn t (subst (λ x. CollectsCalmly oracle [] u [] x) (sym here) (calmly_refl [] u));
           more = [];
           macros = ap (λ (x : State). x.macros) here ∙ sym (append-nil others);
           fewer = subst (λ u. waiting_work u < waiting_work s) (sym here) (derived_lighter oracle s [] d others stands given_call);

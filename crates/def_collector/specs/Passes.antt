@@ -1,5 +1,5 @@
 -- What the items of a walk wait for, and what turns of imports and macros leave.
-use Rattle.std.specs.Prelude.{◌≡◌, ◌≢◌, ◌<◌, Bool, true, false, All, List, [], ◌∷◌, ◌++◌, Option, Some}
+use Rattle.std.specs.Prelude.{◌≡◌, ◌≢◌, ◌<◌, Bool, true, false, All, List, [], ◌∷◌, ◌++◌, Contains, Option, Some}
 use Rattle.item_tree.specs.declared.attrs.Attr.{Attr}
 use Rattle.tree_ids.specs.declared.ids.AttrId.{AttrId}
 use Rattle.tree_ids.specs.declared.ids.ModItemId.{ModItemId}
@@ -14,7 +14,7 @@ use Rattle.def_rules.specs.State.{State, Effect, Site, Visit}
 use Rattle.def_rules.specs.Waiting.{MacroDirective, WrittenAttr, WrittenDerive}
 use Rattle.def_laws.specs.Depths.{OnlyInvokes, waiting_work}
 use Rattle.def_laws.specs.Performs.{Tried}
-use Rattle.def_laws.specs.Runs.{Collects, InTurns, Leads}
+use Rattle.def_laws.specs.Runs.{Collects, CollectsCalmly, InTurns, Leads, LeaveOf}
 use Rattle.def_collector.specs.declared.collector.DefCollector.{DefCollector}
 use Rattle.def_collector.specs.Collector.{state_of}
 use Rattle.def_steps.specs.declared.directive.ImportDirective.{ImportDirective}
@@ -36,7 +36,7 @@ pub record Awaits (oracle : Oracle) (s : State) (site : Site) (id : ModItemId) (
 -- one that waits first was asked, and stays: only calls were recorded
 pub record OnlyAsked (oracle : Oracle) (s : State) (d : MacroDirective) (t : State) : Type 0 where
   pub turn : (told oracle s d).turn ≡ Stays
-  pub run : Collects oracle [] s [] t
+  pub run : CollectsCalmly oracle [] s [] t
   pub only : OnlyInvokes s t
 
 -- what the turn of one that waits first leads to
@@ -49,7 +49,7 @@ pub record HasLeft (oracle : Oracle) (s t : State) : Type 0 where
   pub others : List MacroDirective
   pub stands : s.macros ≡ first ∷ others
   pub turn : (told oracle s first).turn ≢ Stays
-  pub rest : Collects oracle ((asked_effect oracle s first others).tasks ++ []) (asked_effect oracle s first others).state [] t
+  pub rest : CollectsCalmly oracle ((asked_effect oracle s first others).tasks ++ []) (asked_effect oracle s first others).state [] t
   pub more : List MacroDirective
   pub macros : t.macros ≡ others ++ more
   pub fewer : waiting_work t < waiting_work s
@@ -72,10 +72,12 @@ pub record HadTurn (oracle : Oracle) (s : State) (moved : Bool) (t : State) : Ty
   pub stayed : moved ≡ false → HasStayed oracle s t
   pub left : moved ≡ true → HasLeft oracle s t
 
--- macros that wait had turns in a row, but for these: one left, and less waits, or all stay, and only calls were recorded
+-- macros that wait had turns in a row, but for these, and no other macro left: one left, and less waits, or all stay, and only calls were recorded
 pub record HadTurns (oracle : Oracle) (s : State) (left : List MacroDirective) (moved : Bool) (t : State) : Type 0 where
   pub run : Collects oracle [] s [] t
   pub turns : InTurns run.runs left moved
+  pub waited : (d : MacroDirective) → Contains left d → Contains s.macros d
+  pub leave : LeaveOf s.macros run.runs
   pub rest : List MacroDirective
   pub macros : t.macros ≡ left ++ rest
   pub fewer : moved ≡ true → waiting_work t < waiting_work s

@@ -10,7 +10,7 @@ ghost use Rattle.def_collector.specs.Passes.{HadTurn, HadTurns, IsAsked, IsWalke
 ghost use Rattle.def_rounds.specs.Rounds.{GetsStuck, MakesRound};
 ghost use Rattle.def_laws.specs.Depths.{waiting_work};
 ghost use Rattle.def_laws.specs.Performs.{IsExpanded, Tried};
-ghost use Rattle.def_laws.specs.Runs.{Collects, Leads};
+ghost use Rattle.def_laws.specs.Runs.{CollectsCalmly, Leads};
 ghost use Rattle.def_laws.specs.Sound.{IsSoundWith};
 ghost use Rattle.def_rules.specs.Attributes.{ReadsDerives, ReplacesItem, activated, item_site};
 ghost use Rattle.def_rules.specs.Derives as rule;
@@ -429,7 +429,7 @@ fn walk_expansions<'a, D: SourceDatabase>(
     db: &'a D,
     session: &mut Interner,
 ) -> Result<(), AllocError>
-    ensures run { OnOk result (Collects (D.oracle db.now)
+    ensures run { OnOk result (CollectsCalmly (D.oracle db.now)
         [] (state_of collector.old session.old) [] (state_of collector.new session.new)) }
     ensures expanded { OnOk result (collector.new.expansions.items ≡ []) }
     ensures fewer { OnOk result (waiting_work (state_of collector.new session.new) ≤ waiting_work (state_of collector.old session.old)) }

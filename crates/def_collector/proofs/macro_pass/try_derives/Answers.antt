@@ -1,4 +1,5 @@
 use Rattle.std.proofs.Common.{get_or, take, refl, subst, sym, ◌∙◌, arith}
+use Rattle.std.proofs.lemmas.List.{take_all}
 use Rattle.def_calls.specs.Shown.{macro_directive_of}
 use Rattle.def_collector.specs.Collector.{state_of}
 use Rattle.def_laws.specs.Performs.{Tried}
@@ -30,3 +31,13 @@ derives-preserved g c =
       tried = subst (λ derives. Tried oracle d derives start t) (sym more) one;
       dirs = c.try_derive.ensures.dirs ∙ c.derives.invariant.dirs;
     }
+
+pub returns-clause-tried : goal.returns-clause-tried
+returns-clause-tried g c =
+    let oracle = g.D.SourceDatabase.oracle c.args.db.now in
+    let d = macro_directive_of c.args.directive in
+    let start : State = state_of c.args.collector.now c.args.session.now in
+    let t : State = state_of c.derives.collector c.args.session.now in
+    let paths = c.args.list.paths.now in
+    let all = take_all c.derives.pos paths (omega (arith, c.derives-test.false, c.derives.auto.pos-end)) in
+    subst (λ ps. Tried oracle d (derives_from c.args.list.written.attr_id c.args.list.call 0 ps) start t) all c.derives.invariant.tried

@@ -3,13 +3,13 @@ use Rattle.def_calls.specs.Shown.{expansion_shown}
 use Rattle.def_collector.specs.Collector.{state_of}
 use Rattle.def_interner.specs.Session.{session_of}
 use Rattle.def_interner.specs.SessionLaws.{adds_refl, adds_trans}
-use Rattle.def_laws.proofs.StepsLaws.{collects_refl, collects_trans}
+use Rattle.def_laws.proofs.StepsLaws.{calmly_refl, calmly_trans}
 use Rattle.def_rules.specs.State.{State}
 use Rattle.def_collector.proofs.MacroPassLemmas.{few_macros, walked_fewer, walked_run}
 use Rattle.def_collector.proofs.macro_pass.walk_expansions.Goals as goal
 
 pub expansions-init : goal.expansions-init
-expansions-init g c = record { run = collects_refl [] (state_of c.args.collector.now c.args.session.now); fewer = omega arith; adds = adds_refl (session_of c.args.session.now) }
+expansions-init g c = record { run = calmly_refl [] (state_of c.args.collector.now c.args.session.now); fewer = omega arith; adds = adds_refl (session_of c.args.session.now) }
 
 pub expansions-preserved : goal.expansions-preserved
 expansions-preserved g c =
@@ -23,7 +23,7 @@ expansions-preserved g c =
     let less = walked_fewer oracle s t e rest first walked c.walk_expansion.ensures.depth (few_macros c.walk_expansion.new.collector.unresolved_macros) in
     let before = c.expansions.invariant.fewer in
     record {
-      run = collects_trans c.expansions.invariant.run (walked_run oracle s t e rest first walked);
+      run = calmly_trans c.expansions.invariant.run (walked_run oracle s t e rest first walked);
       fewer = omega (arith, less, before);
       adds = adds_trans (session_of c.args.session.now) (session_of c.expansions.session) (session_of c.walk_expansion.new.session) c.expansions.invariant.adds c.walk_expansion.ensures.session;
     }

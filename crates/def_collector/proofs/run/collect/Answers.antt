@@ -5,7 +5,8 @@ use Rattle.def_interner.specs.SessionLaws.{adds_trans}
 use Rattle.def_laws.proofs.ResultLaws.{if_ok}
 use Rattle.def_laws.specs.Runs.{HoldRounds}
 use Rattle.def_laws.proofs.RoundsLaws.{holds_both, holds_none}
-use Rattle.def_laws.proofs.StepsLaws.{collects_sound, collects_trans}
+use Rattle.def_laws.proofs.InTurnLaws.{turn_both, turn_empty}
+use Rattle.def_laws.proofs.StepsLaws.{calmly_led, collects_sound, collects_trans}
 use Rattle.def_collector.proofs.run.collect.Goals as goal
 
 pub resolution_loop-requires-clause-sound : goal.resolution_loop-requires-clause-sound
@@ -16,10 +17,11 @@ resolution_loop-requires-clause-bare g c = c.in_ok-seed_with_top_level.ensures.r
 
 pub returns-clause-ends : goal.returns-clause-ends
 returns-clause-ends g c = if_ok c.resolution_loop.result c.resolution_loop.ensures.ends (λ limit_met later.
-    let first = c.in_ok-seed_with_top_level.ensures.run.collects in
+    let seeded = c.in_ok-seed_with_top_level.ensures.run in
+    let first = seeded.collects in
     let run = collects_trans first later.run in
     let same : 0 + later.rounds ≡ later.rounds = omega arith in
-    record { run = run; rounds = later.rounds; holds = subst (λ n. HoldRounds run.runs n) same (holds_both first later.run (holds_none first) later.holds); limit = later.limit; rest = later.rest })
+    record { run = run; in_turn = turn_both first later.run (turn_empty (calmly_led seeded)) later.in_turn; rounds = later.rounds; holds = subst (λ n. HoldRounds run.runs n) same (holds_both first later.run (holds_none first) later.holds); limit = later.limit; rest = later.rest })
 
 pub returns-clause-session : goal.returns-clause-session
 returns-clause-session g c =
