@@ -46,7 +46,7 @@ had_left oracle s d t left = record { stayed = λ no. absurd (true≢false no); 
 
 -- where nothing is done, it stays
 pub had_nothing : (oracle : Oracle) (s : State) (d : MacroDirective) → (told oracle s d).turn ≡ Stays → IsAsked oracle s d false s
-had_nothing oracle s d turn = had_stayed oracle s d s (record { turn = turn; run = collects_refl [] s; only = invokes_refl s })
+had_nothing oracle s d turn = had_stayed oracle s d s (record { turn = turn; run = calmly_refl [] s; only = invokes_refl s })
 
 module _ (oracle : Oracle) (s s' t : State) (d : MacroDirective) (given : Told) (is : given ≡ told oracle s d) (alike : s'.macros ≡ s.macros) (turned : IsTurned s' d given t) where
   stands : s.macros ≡ d ∷ turned.others

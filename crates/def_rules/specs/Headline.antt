@@ -47,7 +47,7 @@ pub record Answers (w : Setting) (before after : Session) (answer : Answer) : Ty
   pub was_put : WasPut run.end.events run.end.state.content
   -- no explicit binding is ever replaced, and none removed but the function of a procedural macro
   pub explicit_stays : (a b : Moment) → IsOnRun w before run.end a b → ExplicitStays a b
-  -- each macro that leaves what waits, by being asked, had waited where its part of the run began, at a moment at which no import was ready
+  -- each macro that leaves what waits, by being asked, had waited where its part of the run began, at a moment at which nothing moved but macros
   pub in_turn : LeavesInTurn w.oracle (start w before) run.end run.runs
   -- the limit was met only where the run holds more rounds than that
   pub limit : answer.outcome.limit_met ≡ true → IsOverLimit w.oracle (start w before) run.end run.runs
