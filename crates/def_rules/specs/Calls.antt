@@ -26,6 +26,7 @@ use Rattle.def_paths.specs.OuterMaps.{first_of_each_map}
 use Rattle.def_paths.specs.Paths.{macro_named, map_of, scope}
 use Rattle.def_sources.specs.Sources.{World}
 use Rattle.tree_ids.specs.declared.ids.ModItemId.{ModItemId}
+use Rattle.def_rules.specs.declared.inner_calls.InnerCall.{InnerCall}
 use Rattle.def_rules.specs.Items.{node_at, position_of, top_items, walk}
 use Rattle.def_rules.specs.State.{State, Effect, only, followed_by, Site, with_map, world}
 use Rattle.def_rules.specs.Waiting.{Expansion, MacroDirective, MacroDirectiveKind, FnLike, WrittenCall}
@@ -139,6 +140,23 @@ invoking at (call ∷ calls) m = invoking at calls (with_module m at (with_invoc
 -- so the state
 abbrev pub with_invocations : State → ModuleId → List (InFile FileAstId × MacroCallId) → State
 with_invocations s at calls = with_map s (invoking at.index calls s.map)
+
+-- a call that was made in a module, until it is recorded
+abbrev pub inner_call : ModuleId → InFile FileAstId × MacroCallId → InnerCall
+inner_call at made = record { module_id = at; position = made.0; call = made.1 }
+
+-- the state in which these calls are to be recorded too
+abbrev pub with_inner_calls : State → ModuleId → List (InFile FileAstId × MacroCallId) → State
+with_inner_calls s at calls = record s { inner_calls = s.inner_calls ++ map (inner_call at) calls }
+
+-- the map in which these are recorded, in order
+abbrev pub recording_inner : List InnerCall → MapState → MapState
+recording_inner [] m = m
+recording_inner (made ∷ calls) m = recording_inner calls (with_module m made.module_id.index (with_invocation made.position made.call))
+
+-- the state in which all are recorded that were to be
+abbrev pub inner_recorded : State → State
+inner_recorded s = record s { map = recording_inner s.inner_calls s.map; inner_calls = [] }
 
 -- what a call at a position is asked with, by how deep its expansion would lie
 abbrev pub call_query : MapState → InFile FileAstId → ℕ → WrittenCall → PlainCall

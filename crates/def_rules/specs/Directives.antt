@@ -15,7 +15,7 @@ use Rattle.def_sources.specs.declared.per_ns.MacroSubNs.TheVariants as sub
 use Rattle.def_paths.specs.Paths.{resolver}
 use Rattle.def_sources.specs.Sources.{World}
 use Rattle.def_rules.specs.Attributes.{AttrUse, HasNoExpander, PassesOver, ReadsDerives, ReplacesItem, activated, attr_macro, attr_query, attr_use, directive_reported, is_helper, item_site, passed_over}
-use Rattle.def_rules.specs.Calls.{answer_by, call_query, expansion_effect, with_invocations}
+use Rattle.def_rules.specs.Calls.{answer_by, call_query, expansion_effect, with_inner_calls, with_invocations}
 use Rattle.def_rules.specs.declared.diagnostics.DefDiagnosticKind.{DefDiagnosticKind}
 use Rattle.def_rules.specs.declared.diagnostics.DefDiagnosticKind.TheVariants.{MacroError}
 use Rattle.def_rules.specs.Deferred.{added_helpers, deferral, deferred_derive, deferring, expanding_deferred}
@@ -58,9 +58,9 @@ abbrev pub given_turn : Option MacroCallId → Turn
 given_turn None = Stays
 given_turn (Some call) = GivesCall call
 
--- the calls that were made for a call's arguments are recorded, also where it stays
+-- the calls that were made for a call's arguments are to be recorded, also where it stays
 abbrev pub call_told : State → MacroDirective → Result CallAnswer UnresolvedMacro → Told
-call_told s directive (Ok answer) = record { state = with_invocations s directive.scope answer.inner; turn = given_turn answer.value }
+call_told s directive (Ok answer) = record { state = with_inner_calls s directive.scope answer.inner; turn = given_turn answer.value }
 call_told s directive (Err unresolved) = record { state = s; turn = Stays }
 
 -- a list of derives is recorded with the attribute's call, and its paths are to be tried
@@ -176,8 +176,9 @@ pub record MacroStep (oracle : Oracle) (s : State) (effect : Effect) : Type 0 wh
   pub stands : s.macros ≡ before ++ directive ∷ behind
   pub is : effect ≡ turn_effect (told oracle s directive).state before directive behind (told oracle s directive).turn
 
--- an expansion has its turn: it is walked, or dropped
+-- where no call is left to be recorded, an expansion has its turn: it is walked, or dropped
 pub record ExpansionStep (oracle : Oracle) (s : State) (effect : Effect) : Type 0 where
+  pub recorded : s.inner_calls ≡ []
   pub before : List Expansion
   pub expansion : Expansion
   pub behind : List Expansion

@@ -7,15 +7,15 @@ use Rattle.def_rules.specs.declared.diagnostics.DefDiagnosticKind.TheVariants.{U
 use Rattle.def_rules.specs.declared.outcome.LeftMacroKind.TheVariants.{Attr as LeftAttr}
 use Rattle.def_rules.specs.Directives.{AllStay, WalksItem, turn_effect}
 use Rattle.def_rules.specs.Recording.{NoneReady}
-use Rattle.def_rules.specs.State.{State, Effect, order, reported}
+use Rattle.def_rules.specs.State.{State, Effect, IsBare, order, reported}
 use Rattle.def_rules.specs.Targets.{leaves_out}
 use Rattle.def_rules.specs.Waiting.{Attr, MacroDirective, WrittenAttr}
 
--- nothing moves but macros that wait: what is bound has travelled along the globs, no import is ready, and no expansion is left to be walked
+-- nothing moves but macros that wait: what is bound has travelled along the globs, no import is ready, no call is left to be recorded, and no expansion to be walked
 pub record IsQuiet (oracle : Oracle) (s : State) : Type 0 where
   pub closed : IsClosed (order s) (leaves_out s) s.content
   pub imports : NoneReady oracle s
-  pub expansions : s.expansions ≡ []
+  pub bare : IsBare s
 
 -- nor do these: each macro that waits stays
 pub record IsStuck (oracle : Oracle) (s : State) : Type 0 where

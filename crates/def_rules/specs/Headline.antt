@@ -6,7 +6,7 @@ use Rattle.def_bindings.specs.declared.bindings.Slot.{Slot}
 use Rattle.def_bindings.specs.Closure.{IsClosed, IsCoherent}
 use Rattle.def_globs.specs.Raised.{IsRaisedAt}
 use Rattle.def_rules.specs.Targets.{is_censored, leaves_out, target_of}
-use Rattle.def_rules.specs.State.{Setting, Moment, order}
+use Rattle.def_rules.specs.State.{IsBare, Setting, Moment, order}
 use Rattle.def_rules.specs.Steps.{IsKeptAlong, Reaches}
 use Rattle.def_rules.specs.Rounds.{IsOverLimit}
 use Rattle.def_rules.specs.InTurn.{LeavesInTurn}
@@ -18,9 +18,9 @@ use Rattle.def_rules.specs.Report.{Answer, IsAnswerOf, report}
 pub record Run (w : Setting) (before : Session) : Type 0 where
   pub end : Moment
   pub runs : Reaches w.oracle (start w before) end
-  -- every reached item is handled, and no expansion is left to be walked
+  -- every reached item is handled, no call is left to be recorded, and no expansion to be walked
   pub done : end.tasks ≡ []
-  pub expanded : end.state.expansions ≡ []
+  pub bare : IsBare end.state
 
 -- one moment of the run comes before another
 pub record IsOnRun (w : Setting) (before : Session) (end a b : Moment) : Type 0 where

@@ -18,7 +18,7 @@ use Rattle.def_oracle.specs.Oracle.{Oracle}
 use Rattle.def_paths.specs.Answers.{variants_of}
 use Rattle.def_sources.specs.Sources.{World}
 use Rattle.def_paths.specs.Paths.{for_import, map_of, question}
-use Rattle.def_rules.specs.State.{State, Effect, followed_by, Import, ImportDirective, NsSet, Task, AddEdge, Recorded, noting, put_each, world, order}
+use Rattle.def_rules.specs.State.{State, Effect, IsBare, followed_by, Import, ImportDirective, NsSet, Task, AddEdge, Recorded, noting, put_each, world, order}
 use Rattle.def_rules.specs.Globs.{Targets, module_entries, variant_entries, with_target}
 use Rattle.def_rules.specs.Imports.{answer_now, bound_name, import_vis, is_foreign, is_ready, kept_after, kept_item, named_entries}
 
@@ -121,9 +121,9 @@ abbrev pub import_effect : Oracle → State → ImportDirective → List ImportD
 import_effect oracle s directive rest answer =
     noting (Recorded directive.import (is_foreign answer)) (record_effect oracle (after_import s directive rest answer) directive.import answer)
 
--- where no expansion is left to be walked, one import that is ready is recorded with what its path gives now
+-- where no call is left to be recorded, and no expansion to be walked, one import that is ready is recorded with what its path gives now
 pub record ImportStep (oracle : Oracle) (s : State) (effect : Effect) : Type 0 where
-  pub expanded : s.expansions ≡ []
+  pub bare : IsBare s
   pub directive : ImportDirective
   pub rest : List ImportDirective
   pub stands : IsPermutation s.imports (directive ∷ rest)

@@ -40,6 +40,7 @@ seeded_state w session =
       active = λ position. [];
       deferred = [];
       macros = [];
+      inner_calls = [];
       expansions = [];
       diagnostics = [];
     }

@@ -32,6 +32,7 @@ use Rattle.def_sources.specs.Sources.{World}
 use Rattle.def_modules.specs.Updates.{set_where}
 use Rattle.def_readings.specs.Directories.{Directory}
 use Rattle.def_rules.specs.declared.diagnostics.DefDiagnostic.{DefDiagnostic}
+use Rattle.def_rules.specs.declared.inner_calls.InnerCall.{InnerCall}
 use Rattle.def_rules.specs.Globs.{Targets}
 use Rattle.def_rules.specs.Waiting.{Deferrals, Expansion, MacroDirective, WrittenDerive}
 
@@ -93,9 +94,16 @@ pub record State : Type 0 where
   pub deferred : Deferrals
   -- the macro calls, items and derives that wait for their macros
   pub macros : List MacroDirective
+  -- the calls that were made for the arguments of those that were asked, and are to be recorded
+  pub inner_calls : List InnerCall
   -- the expansions that are to be walked, of what waited
   pub expansions : List Expansion
   pub diagnostics : List DefDiagnostic
+
+-- a state in which no call is to be recorded that was made for arguments, and no expansion is to be walked
+pub record IsBare (s : State) : Type 0 where
+  pub inner_calls : s.inner_calls ≡ []
+  pub expansions : s.expansions ≡ []
 
 -- where the items of a list stand: their module, what contains them, the tree that holds them, how deep in expansions of macros, and the directory of their modules' files
 pub record Site : Type 0 where

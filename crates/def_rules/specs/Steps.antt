@@ -17,6 +17,7 @@ use Rattle.def_globs.specs.Globs.{with_recorded}
 use Rattle.def_globs.specs.Raised.{KeepsDef}
 use Rattle.def_rules.specs.ProcMacros.{taken_out, takes_out}
 use Rattle.def_rules.specs.State.{State, Effect, Task, Enter, Visit, TryDerive, Put, AddEdge, Bring, TakeOut, Event, PutExplicit, Moment, after, entered, only, with_state, with_content, order, Rearranges, world}
+use Rattle.def_rules.specs.Calls.{inner_recorded}
 use Rattle.def_rules.specs.Derives.{derive_macro}
 use Rattle.def_rules.specs.Directives.{ExpansionStep, MacroStep, tried_effect}
 use Rattle.def_rules.specs.Fallback.{FallbackStep}
@@ -57,7 +58,7 @@ pub record Copies (s : State) (content : Content Visibility) : Type 0 where
   pub stands : slice_get (s.content.edges source) index ≡ Some edge
   pub after : content ≡ copied (order s) source edge slot s.content
 
--- one step. What a rule leads to goes before the rest; no import, macro or expansion has its turn before all that is to be done is done.
+-- one step. What a rule leads to goes before the rest; no import, macro or expansion has its turn, and no call that was made for arguments is recorded, before all that is to be done is done.
 pub data Step (oracle : Oracle) (a b : Moment) : Type 0 where
   -- the first task is performed, and its own tasks come before the rest
   performs : (task : Task) (rest : List Task) (effect : Effect) → a.tasks ≡ task ∷ rest → Does oracle a.state task effect → b ≡ after a rest effect → Step oracle a b
@@ -67,11 +68,13 @@ pub data Step (oracle : Oracle) (a b : Moment) : Type 0 where
   reorders : (macros : List MacroDirective) → IsPermutation a.state.macros macros → b ≡ with_state a (record a.state { macros = macros }) → Step oracle a b
   -- so are the imports that are not resolved
   rearranges : (state : State) → Rearranges a.state state → b ≡ with_state a state → Step oracle a b
-  -- where nothing is left to do, and no expansion to be walked, an import that is ready is recorded
+  -- where nothing is left to do, no call to be recorded and no expansion to be walked, an import that is ready is recorded
   records : (effect : Effect) → a.tasks ≡ [] → ImportStep oracle a.state effect → b ≡ after a [] effect → Step oracle a b
   -- a macro that waits is asked
   asks : (effect : Effect) → a.tasks ≡ [] → MacroStep oracle a.state effect → b ≡ after a [] effect → Step oracle a b
-  -- the expansion of one that waited is walked
+  -- the calls are recorded that were made for the arguments of those that were asked
+  notes : a.tasks ≡ [] → b ≡ after a [] (only (inner_recorded a.state)) → Step oracle a b
+  -- behind them the expansion of one that waited is walked
   expands : (effect : Effect) → a.tasks ≡ [] → ExpansionStep oracle a.state effect → b ≡ after a [] effect → Step oracle a b
   -- or, where the run is stuck, an attribute is given up
   falls_back : (effect : Effect) → a.tasks ≡ [] → FallbackStep oracle a.state effect → b ≡ after a [] effect → Step oracle a b

@@ -4,8 +4,10 @@
 
 mod deferred;
 mod diagnostics;
+mod inner_calls;
 mod outcome;
 
 pub use deferred::DeferredDerive;
 pub use diagnostics::{DefDiagnostic, DefDiagnosticKind, DefDiagnostics, ExpandErrorKind};
+pub use inner_calls::InnerCall;
 pub use outcome::{Edge, LeftImport, LeftMacro, LeftMacroKind, Outcome};
