@@ -23,7 +23,8 @@ use Rattle.def_modules.specs.Maps.{pushed, with_helper, with_macro_use, with_mod
 use Rattle.def_modules.specs.MapState.{MapState, ModuleState, ShownHelper}
 use Rattle.def_modules.specs.Scopes.{called_at, with_derive_impl, declared_in, with_child, with_invocation}
 use Rattle.def_modules.specs.Updates.{update_at}
-use Rattle.def_rules.specs.Calls.{each_helped, expansion_tree, helped, invoking, replaced_by, with_helpers}
+use Rattle.def_rules.specs.declared.inner_calls.InnerCall.{InnerCall}
+use Rattle.def_rules.specs.Calls.{each_helped, expansion_tree, helped, invoking, recording_inner, replaced_by, with_helpers}
 use Rattle.def_rules.specs.Derives.{derived_map, helper_names, helper_of, with_derive_call, with_shown_helpers}
 use Rattle.def_rules.specs.Items.{node_at, top_items}
 use Rattle.def_rules.specs.Macros.{showing_helpers, taking}
@@ -63,6 +64,11 @@ pub none_failed-invoking : (at : ℕ) (calls : List (InFile FileAstId × MacroCa
 none_failed-invoking at [] m none = none
 none_failed-invoking at (call ∷ calls) m none =
     none_failed-invoking at calls (with_module m at (with_invocation call.0 call.1)) (none_failed-with_module m at (with_invocation call.0 call.1) (λ d h. h) none)
+
+pub none_failed-inner : (calls : List InnerCall) (m : MapState) → NoneFailed m → NoneFailed (recording_inner calls m)
+none_failed-inner [] m none = none
+none_failed-inner (made ∷ calls) m none =
+    none_failed-inner calls (with_module m made.module_id.index (with_invocation made.position made.call)) (none_failed-with_module m made.module_id.index (with_invocation made.position made.call) (λ d h. h) none)
 
 pub none_failed-showing_helpers : (in_block : Bool) (id : MacroId) (read : Option NameAndHelpers) (m : MapState) → NoneFailed m → NoneFailed (showing_helpers in_block id read m)
 none_failed-showing_helpers in_block id None m none = none

@@ -26,7 +26,7 @@ use Rattle.def_rules.specs.Settled.{IsDeclared, NoneTakenOut, WasPut}
 use Rattle.def_rules.specs.State.{State, Effect, Event, PutExplicit, Recorded, TookOut, Import, Moment, order}
 use Rattle.def_rules.specs.Steps.{Copies, Reaches, Step, event_of, put_event}
 use Rattle.def_laws.proofs.ListLaws.{not_empty, split_last}
-use Rattle.def_laws.proofs.MovesLaws.{Move, putting, linking, taking, doing, copying, ordering, sorting, recording, move_of}
+use Rattle.def_laws.proofs.MovesLaws.{Move, putting, linking, taking, doing, calling, copying, ordering, sorting, recording, move_of}
 use Rattle.def_laws.proofs.RunsLaws.{kept_along}
 use Rattle.def_laws.proofs.StaysLaws.{copies_keep}
 use Rattle.def_laws.proofs.TakenLaws.{bound_earlier, bound_elsewhere}
@@ -224,7 +224,8 @@ declares-move : {oracle : Oracle} (a b : Moment) → Move oracle a b → Declare
 declares-move a b (putting place entry rest first is) all = subst DeclaresAt (sym is) (declares-put (order a.state) place entry a.events a.state.content all)
 declares-move a b (linking source edge rest first is) all = subst DeclaresAt (sym is) (declares-edge a.events (order a.state) source edge a.state.content all)
 declares-move a b (taking at name function rest held first out there of is) all = subst DeclaresAt (sym is) (declares-taken a.events a.state.content at name function all)
-declares-move a b (doing gone rest scope depth macros expansions deferred effect first still own fewer foot is) all = subst DeclaresAt (sym is) (declares-same a.events effect.events a.state.content effect.state.content foot.events foot.content all)
+declares-move a b (doing gone rest scope depth macros expansions deferred inner effect first still own fewer foot is) all = subst DeclaresAt (sym is) (declares-same a.events effect.events a.state.content effect.state.content foot.events foot.content all)
+declares-move a b (calling idle is) all = subst DeclaresAt (sym is) (declares-same a.events [] a.state.content a.state.content refl refl all)
 declares-move a b (copying content copy is) all = subst DeclaresAt (sym is) (declares-copied a.state a.events content copy all)
 declares-move a b (ordering macros same is) all = subst DeclaresAt (sym is) all
 declares-move a b (sorting state same is) all = subst DeclaresAt (sym is) (subst (λ (s : State). Declares a.events s.content) (sym same.rest) all)

@@ -44,7 +44,7 @@ use Rattle.def_rules.specs.Rules.{Visits, VisitsAt, VisitsEnabled, VisitsNode}
 use Rattle.def_rules.specs.Settled.{IsNoAttribute}
 use Rattle.def_rules.specs.Start.{first_site, first_tasks, first_tree, first_walk, start}
 use Rattle.def_rules.specs.State.{Setting, State, Effect, Moment, Site, Task, Enter, Visit, TryDerive, Put, Bring, AddEdge, TakeOut, world}
-use Rattle.def_rules.specs.Steps.{Does, Reaches, Step, performs, copies, reorders, rearranges, records, asks, expands, falls_back}
+use Rattle.def_rules.specs.Steps.{Does, Reaches, Step, performs, copies, reorders, rearranges, records, asks, notes, expands, falls_back}
 use Rattle.def_rules.specs.Waiting.{Attr, Deferrals, Derive, FnLike, MacroDirective, MacroDirectiveKind, WrittenAttr, WrittenCall, WrittenDerive}
 use Rattle.def_laws.specs.Depths.{WaitsAlike}
 use Rattle.def_laws.proofs.DeferredKeysLaws.{inserted_distinct, inserted_key, position_laws, removed_without}
@@ -507,12 +507,12 @@ module _ (oracle : Oracle) where
     asks_awaited : MacroStep oracle s effect → Kept effect
     asks_awaited step =
         let t : Told = told oracle s step.directive in
-        subst Kept (sym step.is) (turn_awaited s t.state (told_same oracle s step.directive).waits step.before step.directive step.behind step.stands a t.turn (told_fits s step.directive))
+        subst Kept (sym step.is) (turn_awaited (record s { inner_calls = t.state.inner_calls }) t.state (told_same oracle s step.directive).waits step.before step.directive step.behind step.stands a t.turn (told_fits s step.directive))
 
     -- an item that is given up keeps it
     falls_awaited : FallbackStep oracle s effect → Kept effect
     falls_awaited step =
-        let alike : WaitsAlike s (attr_reported s step.directive step.written) = record { macros = refl; expansions = refl; deferred = refl; is_proc_macro = refl } in
+        let alike : WaitsAlike s (attr_reported s step.directive step.written) = record { macros = refl; inner_calls = refl; expansions = refl; deferred = refl; is_proc_macro = refl } in
         subst Kept (sym step.is) (turn_awaited s (attr_reported s step.directive step.written) alike step.before step.directive step.behind step.stands a (WalksItem [] step.written) (step.is_attr, inl refl))
 
     -- an expansion that is walked keeps it
@@ -556,6 +556,7 @@ module _ (oracle : Oracle) where
   step_awaited a b (rearranges state same is) h = subst IsAwaitedAt (sym is) (subst (λ x. IsAwaited a.tasks x) (sym same.rest) h)
   step_awaited a b (records effect idle step is) h = subst IsAwaitedAt (sym is) (records_awaited a.state effect (subst (λ tasks. IsAwaited tasks a.state) idle h) step)
   step_awaited a b (asks effect idle step is) h = subst IsAwaitedAt (sym is) (asks_awaited a.state effect (subst (λ tasks. IsAwaited tasks a.state) idle h) step)
+  step_awaited a b (notes idle is) h = subst IsAwaitedAt (sym is) (subst (λ tasks. IsAwaited tasks a.state) idle h)
   step_awaited a b (expands effect idle step is) h = subst IsAwaitedAt (sym is) (expands_awaited a.state effect (subst (λ tasks. IsAwaited tasks a.state) idle h) step)
   step_awaited a b (falls_back effect idle step is) h = subst IsAwaitedAt (sym is) (falls_awaited a.state effect (subst (λ tasks. IsAwaited tasks a.state) idle h) step)
 

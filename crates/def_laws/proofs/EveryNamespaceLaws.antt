@@ -25,12 +25,13 @@ use Rattle.def_globs.specs.Globs.{with_recorded}
 use Rattle.def_rules.specs.Imports.{answer_now, given_set, is_extended, is_foreign, is_full, is_missing}
 use Rattle.def_rules.specs.Recording.{ImportStep, NoneReady, after_import}
 use Rattle.def_rules.specs.Settled.{HasEveryNamespace}
-use Rattle.def_rules.specs.State.{State, Effect, Event, Recorded, NsSet, Import, ImportDirective, Moment, Task, Put, Rearranges, TakeOut, TookOut, order, AddEdge}
+use Rattle.def_rules.specs.Calls.{inner_recorded}
+use Rattle.def_rules.specs.State.{State, Effect, Event, Recorded, NsSet, Import, ImportDirective, Moment, Task, Put, Rearranges, TakeOut, TookOut, only, order, root, AddEdge}
 use Rattle.def_rules.specs.Steps.{Copies, Reaches, Step, put_event}
 use Rattle.def_rules.specs.Targets.{leaves_out}
 use Rattle.def_laws.proofs.FootprintLaws.{Footprint}
-use Rattle.def_laws.proofs.MovesLaws.{AreStill, Move, putting, linking, taking, doing, copying, ordering, sorting, recording, move_of}
-use Rattle.def_laws.proofs.TurnsLaws.{waiting_with}
+use Rattle.def_laws.proofs.MovesLaws.{AreStill, Move, putting, linking, taking, doing, calling, copying, ordering, sorting, recording, move_of}
+use Rattle.def_laws.proofs.TurnsLaws.{notes_footprint, waiting_with}
 use Rattle.def_laws.proofs.RunsLaws.{kept_along}
 use Rattle.def_laws.proofs.LeftOutLaws.{LeavesAlike, alike_refl, leaves_alike, move_alike}
 use Rattle.def_laws.proofs.ComingLaws.{Covers, HasSet, bound_now, covers-kept, has_ns, keeps_coming, put_keeps, take_keeps, unrecorded, still_ahead, edge_ahead}
@@ -126,8 +127,11 @@ module _ {oracle : Oracle} (start : State) where
   covers-move a b (linking source edge rest first is) all = subst (CoversAt (leaves_out start)) (sym is) (covers-edge (leaves_out start) a.state source edge rest a.events (covers-tasks (leaves_out start) a _ first all.covers))
   covers-move a b (taking at name function rest held first left there of is) all =
       subst (CoversAt (leaves_out start)) (sym is) (covers-taken (leaves_out start) a.state at name function rest a.events (sym (leaves_alike all.alike at) ∙ left) (covers-tasks (leaves_out start) a _ first all.covers))
-  covers-move a b (doing gone rest scope depth macros expansions deferred effect first still own fewer foot is) all =
-      subst (CoversAt (leaves_out start)) (sym is) (covers-footprint (leaves_out start) (waiting_with a.state macros expansions deferred) gone rest scope depth effect a.events still foot (covers-tasks (leaves_out start) a _ first all.covers))
+  covers-move a b (doing gone rest scope depth macros expansions deferred inner effect first still own fewer foot is) all =
+      subst (CoversAt (leaves_out start)) (sym is) (covers-footprint (leaves_out start) (waiting_with a.state macros expansions deferred inner) gone rest scope depth effect a.events still foot (covers-tasks (leaves_out start) a _ first all.covers))
+  covers-move a b (calling idle is) all =
+      subst (CoversAt (leaves_out start)) (sym is)
+      (covers-footprint (leaves_out start) (record a.state { inner_calls = [] }) [] [] (root a.state.map) 0 (only (inner_recorded a.state)) a.events tt (notes_footprint a.state (root a.state.map) 0) (covers-tasks (leaves_out start) a [] idle all.covers))
   covers-move a b (copying content copy is) all = subst (CoversAt (leaves_out start)) (sym is) (covers-copied (leaves_out start) a.state content a.tasks a.events copy all.covers)
   covers-move a b (ordering macros same is) all = subst (CoversAt (leaves_out start)) (sym is) all.covers
   covers-move a b (sorting state same is) all = subst (CoversAt (leaves_out start)) (sym is) (covers-rearranged (leaves_out start) a.state state a.tasks a.events same all.covers)

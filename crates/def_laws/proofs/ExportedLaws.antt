@@ -32,7 +32,7 @@ module _ {oracle : Oracle} where
     raised = λ rest stands sound before importer slot left kept raised.
         q.raised rest (stands_then stands) (p.keeps (plain_followed (target_of s.map.id s.targets) (task ∷ []) first) (stands_first tasks stands) sound) (p.runs (tasks ++ rest) before).0 importer slot
         (leaves_alike (left_out_along (p.runs tasks []).1) importer ∙ left) kept.1 (p.raised (tasks ++ rest) (stands_first tasks stands) sound before importer slot left kept.0 raised);
-    waits = waits_alike (q.waits.macros ∙ p.waits.macros) (q.waits.expansions ∙ p.waits.expansions) (q.waits.deferred ∙ p.waits.deferred) (q.waits.is_proc_macro ∙ p.waits.is_proc_macro);
+    waits = waits_alike (q.waits.macros ∙ p.waits.macros) (q.waits.expansions ∙ p.waits.expansions) (q.waits.deferred ∙ p.waits.deferred) (q.waits.is_proc_macro ∙ p.waits.is_proc_macro) (q.waits.inner_calls ∙ p.waits.inner_calls);
   }
     where
       stands_then : Stands (task ∷ tasks) s → Stands tasks t
@@ -45,14 +45,14 @@ module _ {oracle : Oracle} where
     calm = λ rest before. tt;
     keeps = λ followed stands sound. sound_taken s.content at name Values (and_parts (leaves_out s at) _ known).0 sound;
     raised = λ rest stands sound before importer slot left kept raised. raised_taken s.content at name Values (order s) importer slot raised;
-    waits = waits_alike refl refl refl refl;
+    waits = waits_alike refl refl refl refl refl;
   }
   takes_by at name function s false known = record {
     runs = λ rest. runs_task (TakeOut at name function) rest s (taken_out s at name function false) (ap (taken_out s at name function) (sym known));
     calm = λ rest before. tt;
     keeps = λ followed stands sound. sound;
     raised = λ rest stands sound before importer slot left kept raised. raised;
-    waits = waits_alike refl refl refl refl;
+    waits = waits_alike refl refl refl refl refl;
   }
 
   performs_taken : (at : ModuleId) (name : Name) (function : FunctionId) (s t : State) → t ≡ (taken_out s at name function (takes_out s at name function)).state → Performs oracle (TakeOut at name function ∷ []) s t

@@ -79,11 +79,12 @@ use Rattle.def_laws.proofs.PlainLaws.{ArePlain, own_walk, plain_both, plain_walk
 
 -- Footprints
 
--- what is queued in a module, where something of this depth is done, is of that module and ranks lower; no expansion comes or goes, and nothing that is deferred
+-- what is queued in a module, where something of this depth is done, is of that module and ranks lower; no call that is to be recorded comes or goes, nor an expansion, nor anything that is deferred
 pub record QueuesAt (scope : ModuleId) (depth : ℕ) (s t : State) : Type 0 where
   pub more : List MacroDirective
   pub macros : t.macros ≡ s.macros ++ more
   pub at : (d : MacroDirective) → Contains more d → (d.scope ≡ scope) × (macro_rank d < visit_rank depth)
+  pub inner_calls : t.inner_calls ≡ s.inner_calls
   pub expansions : t.expansions ≡ s.expansions
   pub deferred : t.deferred ≡ s.deferred
   pub is_proc_macro : t.is_proc_macro ≡ s.is_proc_macro
@@ -104,13 +105,13 @@ pub record Footprint (s : State) (scope : ModuleId) (depth : ℕ) (effect : Effe
   pub deep : (rank : ℕ) → visit_rank depth ≤ rank → AreVisitsBelow rank effect.tasks
 
 -- what waits is the same
-pub waits_alike : {s t : State} → t.macros ≡ s.macros → t.expansions ≡ s.expansions → t.deferred ≡ s.deferred → t.is_proc_macro ≡ s.is_proc_macro → WaitsAlike s t
-waits_alike macros expansions deferred is_proc_macro = record { macros = macros; expansions = expansions; deferred = deferred; is_proc_macro = is_proc_macro }
+pub waits_alike : {s t : State} → t.macros ≡ s.macros → t.expansions ≡ s.expansions → t.deferred ≡ s.deferred → t.is_proc_macro ≡ s.is_proc_macro → t.inner_calls ≡ s.inner_calls → WaitsAlike s t
+waits_alike macros expansions deferred is_proc_macro inner = record { macros = macros; inner_calls = inner; expansions = expansions; deferred = deferred; is_proc_macro = is_proc_macro }
 
 -- nothing is queued
 none_queued : (scope : ModuleId) (depth : ℕ) (s t : State) → WaitsAlike s t → QueuesAt scope depth s t
 none_queued scope depth s t alike =
-    record { more = []; macros = alike.macros ∙ sym (append-nil s.macros); at = λ d h. absurd (none_in d h); expansions = alike.expansions; deferred = alike.deferred; is_proc_macro = alike.is_proc_macro }
+    record { more = []; macros = alike.macros ∙ sym (append-nil s.macros); at = λ d h. absurd (none_in d h); inner_calls = alike.inner_calls; expansions = alike.expansions; deferred = alike.deferred; is_proc_macro = alike.is_proc_macro }
 
 known_footprint : (s : State) (scope : ModuleId) (depth : ℕ) (effect known : Effect) → effect ≡ known → Footprint s scope depth known → Footprint s scope depth effect
 known_footprint s scope depth effect known same of_known = subst (λ x. Footprint s scope depth x) (sym same) of_known
@@ -126,7 +127,7 @@ still_footprint s scope depth =
       none_failed = λ none. none;
       imports = none_added s.imports;
       at = λ d h. inl h;
-      queued = none_queued scope depth s s (waits_alike refl refl refl refl);
+      queued = none_queued scope depth s s (waits_alike refl refl refl refl refl);
       tasks = λ targets even own. tt;
       plain = tt;
       deep = λ rank low. tt;
@@ -151,7 +152,7 @@ noted_still s t scope depth content targets map imports alike =
 
 -- a directory is stored
 pub enter_footprint : (s : State) (at : ModuleId) (directory : Directory) → Footprint s at 0 (only (entered s at directory))
-enter_footprint s at directory = noted_still s (entered s at directory) at 0 refl refl refl refl (waits_alike refl refl refl refl)
+enter_footprint s at directory = noted_still s (entered s at directory) at 0 refl refl refl refl (waits_alike refl refl refl refl refl)
 
 -- what an explicit entry is put with
 put_own : (m : MapState) (scope : ModuleId) (targets : Targets) (origin : Origin) → IsExplicit origin → IsOwn m scope → IsOwn m scope × ((g : GlobId) → origin ≡ Some (Glob g) → IsRecorded targets g)
@@ -190,7 +191,7 @@ module _ (s : State) (scope : ModuleId) (depth : ℕ) where
   noted_footprint : (f : ModuleState → ModuleState) → ((d : ModuleState) → IsClean d → IsClean (f d)) → (tasks : List Task)
       → ((targets : Targets) → IsOwn (noted_in s scope f).map scope → AreOwnTasks (noted_in s scope f).map targets tasks) → ArePlain tasks → Lie tasks → Footprint s scope depth (followed_by (noted_in s scope f) tasks)
   noted_footprint f clean tasks own plain deep =
-      map_footprint (noted_in s scope f) tasks refl refl refl (waits_alike refl refl refl refl) (larger_with_module s.map scope.index f) (λ none. none_failed-with_module s.map scope.index f clean none) own plain deep
+      map_footprint (noted_in s scope f) tasks refl refl refl (waits_alike refl refl refl refl refl) (larger_with_module s.map scope.index f) (λ none. none_failed-with_module s.map scope.index f clean none) own plain deep
 
   -- a module is added, in a state with the same map
   added_footprint : (r : State) (name : Name) (vis : Visibility) (o : ModuleOrigin) (contents : List Task) → r.content ≡ s.content → r.targets ≡ s.targets → r.imports ≡ s.imports → WaitsAlike s r → r.map ≡ s.map
@@ -206,7 +207,7 @@ module _ (s : State) (scope : ModuleId) (depth : ℕ) where
         none_failed = λ none. none_failed-add_module r scope name vis o (subst NoneFailed (sym map) none);
         imports = subst (λ q. AddsNew s.imports q) (sym imports) (none_added s.imports);
         at = λ d h. inl (subst (λ q. Contains q d) imports h);
-        queued = none_queued scope depth s (add_module r scope name vis o) (waits_alike alike.macros alike.expansions alike.deferred alike.is_proc_macro);
+        queued = none_queued scope depth s (add_module r scope name vis o) (waits_alike alike.macros alike.expansions alike.deferred alike.is_proc_macro alike.inner_calls);
         tasks = λ targets even at. (put_own (add_module r scope name vis o).map scope targets None refl at, own targets at (own_next r scope name vis o (subst (λ (m : MapState). length m.parents ≡ length m.modules) (sym map) even)));
         plain = (refl, plain);
         deep = λ rank low. (tt, deep rank low);
@@ -232,7 +233,7 @@ bring_lies rank false from into = tt
 -- Rules
 
 found_footprint : (oracle : Oracle) (s : State) (site : Site) (item : ItemNode) (name : Name) (vis : Visibility) (found : FoundFile) (cfg : Option CfgExpr) → Footprint s site.scope site.depth (outline_found oracle s site item name vis found cfg)
-found_footprint oracle s site item name vis found (Some cfg) = noted_still s (reported s (diagnostic site item (UnconfiguredCode cfg))) site.scope site.depth refl refl refl refl (waits_alike refl refl refl refl)
+found_footprint oracle s site item name vis found (Some cfg) = noted_still s (reported s (diagnostic site item (UnconfiguredCode cfg))) site.scope site.depth refl refl refl refl (waits_alike refl refl refl refl refl)
 found_footprint oracle s site item name vis found None =
     let o : ModuleOrigin = origin.File item.ast_id site.tree found.0 found.1 in
     let inner : Site = inner_site s site (file_tree found) found.2 in
@@ -240,7 +241,7 @@ found_footprint oracle s site item name vis found None =
     let brings : Bool = is_macro_use (attrs_of item.attrs) || is_macro_use (tree_attrs oracle (file_tree found)) in
     let last : List Task = bring_if brings (next_module s) site.scope in
     let m : MapState = (add_module s site.scope name vis o).map in
-    added_footprint s site.scope site.depth s name vis o (first ++ last) refl refl refl (waits_alike refl refl refl refl) refl
+    added_footprint s site.scope site.depth s name vis o (first ++ last) refl refl refl (waits_alike refl refl refl refl refl) refl
     (λ targets at own. own_both m targets first last (own_walk oracle m targets inner (top_items oracle (file_tree found)) own) (bring_own m targets brings (next_module s) site.scope at))
     (plain_both first last (plain_walk oracle inner (top_items oracle (file_tree found))) (bring_plain brings (next_module s) site.scope))
     (λ rank low. lie_both rank first last (walk_lies oracle rank inner (top_items oracle (file_tree found)) low) (bring_lies rank brings (next_module s) site.scope))
@@ -248,7 +249,7 @@ found_footprint oracle s site item name vis found None =
 outline_footprint : (oracle : Oracle) (s : State) (site : Site) (item : ItemNode) (name : Name) (vis : Visibility) (found : Result FoundFile (List (List ℕ))) → Footprint s site.scope site.depth (outline_item oracle s site item name vis found)
 outline_footprint oracle s site item name vis (Ok found) = found_footprint oracle s site item name vis found (tree_cfg oracle (file_tree found))
 outline_footprint oracle s site item name vis (Err files) =
-    added_footprint s site.scope site.depth (reported s (diagnostic site item (UnresolvedModule files))) name vis _ [] refl refl refl (waits_alike refl refl refl refl) refl (λ targets at own. tt) tt (λ rank low. tt)
+    added_footprint s site.scope site.depth (reported s (diagnostic site item (UnresolvedModule files))) name vis _ [] refl refl refl (waits_alike refl refl refl refl refl) refl (λ targets at own. tt) tt (λ rank low. tt)
 
 -- what waits where it stands, also in a state with another map
 one_queued : (s : State) (site : Site) (item : ItemNode) (kind : MacroDirectiveKind) (m : MapState) → depth_rank (deeper site.depth) + kind_rank kind < visit_rank site.depth → QueuesAt site.scope site.depth s (queued (with_map s m) site item kind)
@@ -256,6 +257,7 @@ one_queued s site item kind m low = record {
   more = waiting site item kind ∷ [];
   macros = refl;
   at = λ d h. let is = only_in (waiting site item kind) d h in (ap (λ (x : MacroDirective). x.scope) is, let ranks = ap macro_rank is in omega (arith, ranks, low));
+  inner_calls = refl;
   expansions = refl;
   deferred = refl;
   is_proc_macro = refl;
@@ -284,7 +286,7 @@ expanded_footprint oracle s scope depth t e here content targets imports alike l
     by true last is = map_footprint s scope depth t [] content targets imports alike larger clean (λ targets own. tt) tt (λ rank low. tt)
     by false true is = map_footprint s scope depth t [] content targets imports alike larger clean (λ targets own. tt) tt (λ rank low. tt)
     by false false is =
-        map_footprint s scope depth u (walk oracle inner ids) content targets imports (waits_alike alike.macros alike.expansions alike.deferred alike.is_proc_macro)
+        map_footprint s scope depth u (walk oracle inner ids) content targets imports (waits_alike alike.macros alike.expansions alike.deferred alike.is_proc_macro alike.inner_calls)
         (larger_trans s.map t.map u.map larger (larger_replaced oracle e.call e.replaces t.map)) (λ none. none_failed-replaced oracle e.call e.replaces t.map (clean none))
         (λ targets own. own_walk oracle u.map targets inner ids (subst (λ at. IsOwn u.map at) (sym here) own)) (plain_walk oracle inner ids)
         (λ rank low. walk_lies oracle rank inner ids (omega (arith, low, lies)))
@@ -312,7 +314,7 @@ module _ (oracle : Oracle) (s : State) (site : Site) where
         let o : ModuleOrigin = origin.Inline item.ast_id site.tree in
         let below : Option Directory = descend site.directory (name_text s.session name) (path_attr item.attrs) in
         let brings : Bool = is_macro_use (attrs_of item.attrs) in
-        added_footprint s site.scope site.depth s name vis o (inline_contents oracle s site brings children below) refl refl refl (waits_alike refl refl refl refl) refl
+        added_footprint s site.scope site.depth s name vis o (inline_contents oracle s site brings children below) refl refl refl (waits_alike refl refl refl refl refl) refl
         (λ targets at own. inline_own (add_module s site.scope name vis o).map brings children below targets at own) (inline_plain brings children below) (inline_lies brings children below)
     contents_footprint name vis Outline = outline_footprint oracle s site item name vis _
 
@@ -350,8 +352,8 @@ module _ (oracle : Oracle) (s : State) (site : Site) where
         clean none = none_failed-with_module s.map site.scope.index (with_extern_crate id) (λ d h. h) none
 
         unknown : (n : Option Name) → Footprint s site.scope site.depth (crate_effect t site item id n vis taken None)
-        unknown None = map_footprint s site.scope site.depth (reported (with_missing None t) (diagnostic site item UnresolvedExternCrate)) [] refl refl refl (waits_alike refl refl refl refl) larger clean (λ targets own. tt) tt (λ rank low. tt)
-        unknown (Some n) = map_footprint s site.scope site.depth (reported (with_missing (Some n) t) (diagnostic site item UnresolvedExternCrate)) [] refl refl refl (waits_alike refl refl refl refl) larger clean (λ targets own. tt) tt (λ rank low. tt)
+        unknown None = map_footprint s site.scope site.depth (reported (with_missing None t) (diagnostic site item UnresolvedExternCrate)) [] refl refl refl (waits_alike refl refl refl refl refl) larger clean (λ targets own. tt) tt (λ rank low. tt)
+        unknown (Some n) = map_footprint s site.scope site.depth (reported (with_missing (Some n) t) (diagnostic site item UnresolvedExternCrate)) [] refl refl refl (waits_alike refl refl refl refl refl) larger clean (λ targets own. tt) tt (λ rank low. tt)
     crate_footprint id name vis taken (Some root) = named (is_crate_root site.scope)
       where
         t : State
@@ -367,7 +369,7 @@ module _ (oracle : Oracle) (s : State) (site : Site) where
         named false = f
         named true =
             let u : State = taking_macros true taken (naming_crate true name (record { root = root; by = Some id }) t) in
-            map_footprint s site.scope site.depth u put refl refl refl (waits_alike refl refl refl refl) (larger_trans s.map t.map u.map f.larger (larger_taking taken t.map)) (λ none. none_failed-taking taken t.map (f.none_failed none))
+            map_footprint s site.scope site.depth u put refl refl refl (waits_alike refl refl refl refl refl) (larger_trans s.map t.map u.map f.larger (larger_taking taken t.map)) (λ none. none_failed-taking taken t.map (f.none_failed none))
             (λ targets own. (put_own u.map site.scope targets (Some (ByCrate id)) refl own, tt)) (refl, tt) (λ rank low. (tt, tt))
 
     -- a macro that is no builtin after all is reported
@@ -397,10 +399,10 @@ module _ (oracle : Oracle) (s : State) (site : Site) where
           clean none = none_failed-with_module s.map site.scope.index (with_textual name id) (λ d h. h) none
 
           by : (is : Bool) → Footprint s site.scope site.depth (export_effect t is name id)
-          by false = map_footprint s site.scope site.depth t [] refl refl refl (waits_alike refl refl refl refl) larger clean (λ targets own. tt) tt (λ rank low. tt)
+          by false = map_footprint s site.scope site.depth t [] refl refl refl (waits_alike refl refl refl refl refl) larger clean (λ targets own. tt) tt (λ rank low. tt)
           by true =
               let u : State = declare t (root t.map) (def.Macro id) in
-              map_footprint s site.scope site.depth u (put_declared (root t.map) name Macros (def.Macro id) Public ∷ []) refl refl refl (waits_alike refl refl refl refl)
+              map_footprint s site.scope site.depth u (put_declared (root t.map) name Macros (def.Macro id) Public ∷ []) refl refl refl (waits_alike refl refl refl refl refl)
               (larger_trans s.map t.map u.map larger (larger_with_module t.map 0 (declared_in (def.Macro id)))) (λ none. none_failed-with_module t.map 0 (declared_in (def.Macro id)) (λ d h. h) (clean none))
               (λ targets own. (put_own u.map (root t.map) targets None refl (own_root u.map site.scope own), tt)) (refl, tt) (λ rank low. (tt, tt))
 
@@ -413,7 +415,7 @@ module _ (oracle : Oracle) (s : State) (site : Site) where
           let shown : MapState = showing_helpers in_block id read s.map in
           let t : State = item_state (record s { diagnostics = told }) site item expander id in
           let u : State = declare t site.scope (def.Macro id) in
-          map_footprint s site.scope site.depth u (put_declared site.scope name Macros (def.Macro id) vis ∷ []) refl refl refl (waits_alike refl refl refl refl)
+          map_footprint s site.scope site.depth u (put_declared site.scope name Macros (def.Macro id) vis ∷ []) refl refl refl (waits_alike refl refl refl refl refl)
           (larger_trans s.map t.map u.map (larger_trans s.map shown t.map (larger_showing in_block id read s.map) (larger_same shown t.map refl refl refl refl)) (larger_with_module t.map site.scope.index (declared_in (def.Macro id))))
           (λ none. none_failed-with_module t.map site.scope.index (declared_in (def.Macro id)) (λ d h. h) (none_failed-showing_helpers in_block id read s.map none))
           (λ targets own. (put_own u.map site.scope targets None refl own, tt)) (refl, tt) (λ rank low. (tt, tt))
@@ -433,11 +435,11 @@ module _ (oracle : Oracle) (s : State) (site : Site) where
 
         by : (value : Option MacroCallId) (error : Option ℕ) → Footprint s site.scope site.depth (told_effect oracle t site item written value error)
         by value (Some error) = queue_footprint s site.scope site.depth (queued t site item (FnLike written)) [] refl refl refl (one_queued s site item (FnLike written) t.map (call_low site written)) larger clean (λ targets own. tt) tt (λ rank low. tt)
-        by None None = map_footprint s site.scope site.depth t [] refl refl refl (waits_alike refl refl refl refl) larger clean (λ targets own. tt) tt (λ rank low. tt)
+        by None None = map_footprint s site.scope site.depth t [] refl refl refl (waits_alike refl refl refl refl refl) larger clean (λ targets own. tt) tt (λ rank low. tt)
         by (Some call) None =
             let made : List (InFile FileAstId × MacroCallId) = (position_of site item, call) ∷ [] in
             let u : State = with_invocations t site.scope made in
-            expanded_footprint oracle s site.scope site.depth u (expansion_at site call) refl refl refl refl (waits_alike refl refl refl refl)
+            expanded_footprint oracle s site.scope site.depth u (expansion_at site call) refl refl refl refl (waits_alike refl refl refl refl refl)
             (larger_trans s.map t.map u.map larger (larger_invoking site.scope.index made t.map)) (λ none. none_failed-invoking site.scope.index made t.map (clean none))
             (deeper_ranks site.depth)
 
@@ -453,7 +455,7 @@ module _ (oracle : Oracle) (s : State) (site : Site) where
         let first : MapState = with_module s.map site.scope.index of_function in
         let led : MapState = paired_at first site item function id decl.kind in
         let u : State = exporting (declare s site.scope (def.Function function)) site item function id decl.kind in
-        map_footprint s site.scope site.depth u (exported_effect s site item name vis function decl id).tasks refl refl refl (waits_alike refl refl refl refl)
+        map_footprint s site.scope site.depth u (exported_effect s site item name vis function decl id).tasks refl refl refl (waits_alike refl refl refl refl refl)
         (larger_trans s.map first u.map (larger_with_module s.map site.scope.index of_function) (larger_trans first led u.map (larger_same first led refl refl refl refl) (larger_with_module led 0 of_macro)))
         (λ none. none_failed-with_module led 0 of_macro (λ d h. h) (none_failed-with_module s.map site.scope.index of_function (λ d h. h) none))
         (λ targets own. (put_own u.map site.scope targets None refl own, (put_own u.map (root u.map) targets None refl (own_root u.map site.scope own), ((own, tt), tt)))) (refl, (refl, (tt, tt))) (λ rank low. (tt, (tt, (tt, tt))))
@@ -500,7 +502,7 @@ module _ (oracle : Oracle) (s : State) (site : Site) where
           none_failed = f.none_failed;
           imports = added_new s.imports site item id raw imports;
           at = λ p h. elim (Contains-append_cases s.imports (new_imports site item id raw imports) p h) [ inl old ↦ inl old | inr new ↦ inr (new_at id raw imports p new) ];
-          queued = none_queued site.scope site.depth s (record s { imports = s.imports ++ new_imports site item id raw imports }) (waits_alike refl refl refl refl);
+          queued = none_queued site.scope site.depth s (record s { imports = s.imports ++ new_imports site item id raw imports }) (waits_alike refl refl refl refl refl);
           tasks = f.tasks;
           plain = f.plain;
           deep = f.deep;
@@ -537,7 +539,7 @@ kind_footprint oracle s site item effect does =
       none_failed = f.none_failed;
       imports = f.imports;
       at = f.at;
-      queued = record { more = f.queued.more; macros = f.queued.macros; at = f.queued.at; expansions = f.queued.expansions; deferred = f.queued.deferred; is_proc_macro = f.queued.is_proc_macro };
+      queued = record { more = f.queued.more; macros = f.queued.macros; at = f.queued.at; inner_calls = f.queued.inner_calls; expansions = f.queued.expansions; deferred = f.queued.deferred; is_proc_macro = f.queued.is_proc_macro };
       tasks = f.tasks;
       plain = f.plain;
       deep = f.deep;
@@ -609,6 +611,7 @@ handled_footprint oracle s site item effect (session, adds, t, gives, handles) =
           more = f.queued.more;
           macros = f.queued.macros ∙ ap (λ ds. ds ++ f.queued.more) (ap (λ (x : State). x.macros) back);
           at = f.queued.at;
+          inner_calls = f.queued.inner_calls ∙ ap (λ (x : State). x.inner_calls) back;
           expansions = f.queued.expansions ∙ ap (λ (x : State). x.expansions) back;
           deferred = f.queued.deferred;
           is_proc_macro = f.queued.is_proc_macro ∙ ap (λ (x : State). x.is_proc_macro) back;
@@ -639,7 +642,7 @@ enabled_footprint oracle s site id item None is effect does = handled_footprint 
 
 node_footprint : (oracle : Oracle) (s : State) (site : Site) (id : ModItemId) (item : ItemNode) (cfg : Option CfgExpr) (effect : Effect) → VisitsNode oracle s site id item cfg effect → VisitFootprint s site effect
 node_footprint oracle s site id item (Some cfg) effect does =
-    foot_visit s site effect (known_footprint s site.scope site.depth effect _ does (noted_still s (reported s (diagnostic site item (UnconfiguredCode cfg))) site.scope site.depth refl refl refl refl (waits_alike refl refl refl refl)))
+    foot_visit s site effect (known_footprint s site.scope site.depth effect _ does (noted_still s (reported s (diagnostic site item (UnconfiguredCode cfg))) site.scope site.depth refl refl refl refl (waits_alike refl refl refl refl refl)))
 node_footprint oracle s site id item None effect does = enabled_footprint oracle s site id item (awaited_attr oracle s site id item) refl effect does
 
 at_footprint : (oracle : Oracle) (s : State) (site : Site) (id : ModItemId) (item : Option ItemNode) (effect : Effect) → VisitsAt oracle s site id item effect → VisitFootprint s site effect

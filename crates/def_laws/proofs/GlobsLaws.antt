@@ -63,7 +63,7 @@ module _ (oracle : Oracle) (s t u : State) (glob : EdgeTo Visibility) (source : 
         calm = λ rest before. (calm_wave oracle glob.importer Brought s t.content brought.travels (AddEdge source glob ∷ []) rest before, tt);
         keeps = λ followed stands sound. glob_sound oracle s wave glob source Brought now own refl stands sound followed;
         raised = λ rest stands sound before importer slot left kept. glob_raised oracle s wave glob source Brought now own refl stands sound rest before importer slot kept.0 left;
-        waits = record { macros = refl; expansions = refl; deferred = refl; is_proc_macro = refl };
+        waits = record { macros = refl; inner_calls = refl; expansions = refl; deferred = refl; is_proc_macro = refl };
       }
 
 module _ (oracle : Oracle) (s t : State) (p : Import) (answer : ResolvePathResult) where

@@ -12,7 +12,7 @@ use Rattle.def_laws.specs.Finished.{NoneFailed, IsAtRest, IsFinished}
 use Rattle.def_rules.specs.Rounds.{round_limit}
 use Rattle.def_rules.specs.Settled.{IsSettled}
 use Rattle.def_rules.specs.Start.{first_tasks, seeded_state, start, started}
-use Rattle.def_rules.specs.State.{Setting, State, Moment, order}
+use Rattle.def_rules.specs.State.{IsBare, Setting, State, Moment, order}
 use Rattle.def_laws.specs.Runs.{Collects, HoldRounds, LeaveInTurn, at}
 use Rattle.def_rules.specs.Steps.{Reaches}
 use Rattle.def_laws.proofs.CensoredLaws.{censored_closed, censored_coherent, censored_raised}
@@ -28,12 +28,12 @@ use Rattle.def_laws.proofs.StaysLaws.{explicit_stays_along}
 pub answers : (w : Setting) (before after : Session) (answer : Answer) (t : State) (limit_met : Bool)
     (collects : Collects w.oracle (first_tasks w.oracle w.seeded w.tree) (started w.oracle w.tree (seeded_state w before)) [] t)
     → LeaveInTurn collects.runs → (rounds : ℕ) → HoldRounds collects.runs rounds → (limit_met ≡ true → round_limit < rounds) → (limit_met ≡ false → IsAtRest w.oracle t)
-    → t.expansions ≡ [] → t.session ≡ after → NoneFailed w.seeded
+    → IsBare t → t.session ≡ after → NoneFailed w.seeded
     → IsSoundWith (first_tasks w.oracle w.seeded w.tree) (started w.oracle w.tree (seeded_state w before)) → IsSoundWith [] t
     → IsFinished (with_macro_reports w.oracle t) limit_met answer → Answers w before after answer
-answers w before after answer t limit_met collects in_turn rounds holds over rest expanded session clean begun ended finished =
+answers w before after answer t limit_met collects in_turn rounds holds over rest bare session clean begun ended finished =
     record {
-      run = record { end = end; runs = runs; done = refl; expanded = expanded };
+      run = record { end = end; runs = runs; done = refl; bare = bare };
       session = session;
       answered = record {
         map = finished.map (none_failed_along runs clean);

@@ -9,7 +9,7 @@ use Rattle.def_laws.specs.Turns.{Moves, missing_from, turns_left, turns_of}
 use Rattle.def_laws.specs.Performs.{Performs}
 use Rattle.def_rules.specs.Imports.{answer_now, is_ready, is_extended, is_foreign, is_full, is_missing, given_set, union, kept_after}
 use Rattle.def_rules.specs.Recording.{import_effect, kept_list, record_effect}
-use Rattle.def_rules.specs.State.{State, Import, ImportDirective, NsSet}
+use Rattle.def_rules.specs.State.{IsBare, State, Import, ImportDirective, NsSet}
 use Rattle.def_laws.specs.Runs.{Leads}
 use Rattle.def_laws.proofs.StepsLaws.{leads_import, leads_performed, leads_rearranged, leads_trans}
 use Rattle.def_laws.proofs.TasksLaws.{record_followed}
@@ -61,12 +61,12 @@ and_right true b h = h
 and_right false b h = absurd cc
 
 -- an import that is ready was recorded, and its entries were put
-pub moves_import : (oracle : Oracle) (s t : State) (d : ImportDirective) (rest imports : List ImportDirective) → s.expansions ≡ [] → IsPermutation s.imports (d ∷ rest)
+pub moves_import : (oracle : Oracle) (s t : State) (d : ImportDirective) (rest imports : List ImportDirective) → IsBare s → IsPermutation s.imports (d ∷ rest)
     → IsPermutation (rest ++ kept_list d.import (kept_after d.recorded (answer_now oracle s d.import))) imports → is_ready d.recorded (answer_now oracle s d.import) ≡ true
     → (let effect = record_effect oracle (record s { imports = imports }) d.import (answer_now oracle s d.import) in Performs oracle effect.tasks effect.state t)
     → turns_left t ≡ turns_left (record s { imports = imports })
     → Moves oracle s t
-moves_import oracle s t d rest imports expanded stands left ready performs same = record { leads = leads; fewer = fewer }
+moves_import oracle s t d rest imports bare stands left ready performs same = record { leads = leads; fewer = fewer }
   where
     answer : ResolvePathResult
     answer = answer_now oracle s d.import
@@ -79,7 +79,7 @@ moves_import oracle s t d rest imports expanded stands left ready performs same 
 
     leads : Leads oracle [] s [] t
     leads =
-        leads_trans (leads_import s (import_effect oracle s d rest answer) (record { expanded = expanded; directive = d; rest = rest; stands = stands; ready = ready; is = refl }))
+        leads_trans (leads_import s (import_effect oracle s d rest answer) (record { bare = bare; directive = d; rest = rest; stands = stands; ready = ready; is = refl }))
         (leads_trans (leads_rearranged _ _ (record_effect oracle v d.import answer).state (record { imports = left; rest = refl }))
         (leads_performed (record_effect oracle v d.import answer).tasks [] (record_effect oracle v d.import answer).state t (record_followed oracle v d.import answer d.import.written.kind) performs))
 

@@ -5,7 +5,7 @@ use Rattle.def_globs.proofs.ListLaws.{none_in}
 use Rattle.def_rules.specs.Fallback.{IsQuiet}
 use Rattle.def_rules.specs.InTurn.{AllLeaveOf, LeavesOf, empty, part, parts}
 use Rattle.def_rules.specs.State.{Moment, State, Task}
-use Rattle.def_rules.specs.Steps.{Reaches, Step, asks, copies, expands, falls_back, here, join, one, performs, rearranges, records, reorders}
+use Rattle.def_rules.specs.Steps.{Reaches, Step, asks, copies, expands, falls_back, here, join, notes, one, performs, rearranges, records, reorders}
 use Rattle.def_rules.specs.Waiting.{MacroDirective}
 use Rattle.def_laws.specs.Runs.{Collects, CollectsCalmly, LeaveInTurn, LeaveOf}
 use Rattle.def_laws.proofs.StepsLaws.{collects_trans, leave_trans}
@@ -20,6 +20,7 @@ module _ {oracle : Oracle} where
     more_leave_in (reorders macros same is) leave = tt
     more_leave_in (rearranges state same is) leave = tt
     more_leave_in (records effect idle step is) leave = tt
+    more_leave_in (notes idle is) leave = tt
     more_leave_in (expands effect idle step is) leave = tt
     more_leave_in (falls_back effect idle step is) leave = tt
 

@@ -27,7 +27,8 @@ use Rattle.def_modules.specs.Updates.{update_at}
 use Rattle.def_oracle.specs.Oracle.{Oracle}
 use Rattle.def_readings.specs.DeriveNames.{NameAndHelpers}
 use Rattle.def_laws.specs.Own.{IsOwn}
-use Rattle.def_rules.specs.Calls.{each_helped, expansion_tree, helped, invoking, replaced_by, with_helpers}
+use Rattle.def_rules.specs.declared.inner_calls.InnerCall.{InnerCall}
+use Rattle.def_rules.specs.Calls.{each_helped, expansion_tree, helped, invoking, recording_inner, replaced_by, with_helpers}
 use Rattle.def_rules.specs.Derives.{derived_map, helper_names, helper_of, with_derive_call, with_shown_helpers}
 use Rattle.def_rules.specs.Items.{node_at, top_items}
 use Rattle.def_rules.specs.Macros.{showing_helpers, taking}
@@ -144,6 +145,14 @@ larger_invoking at [] m = larger_refl m
 larger_invoking at (call ∷ calls) m =
     let first : MapState = with_module m at (with_invocation call.0 call.1) in
     larger_trans m first (invoking at calls first) (larger_with_module m at (with_invocation call.0 call.1)) (larger_invoking at calls first)
+
+-- nor those that were made for arguments
+pub larger_inner : (calls : List InnerCall) (m : MapState) → IsLarger m (recording_inner calls m)
+larger_inner [] m = larger_refl m
+larger_inner (made ∷ calls) m =
+    let at : ℕ = made.module_id.index in
+    let first : MapState = with_module m at (with_invocation made.position made.call) in
+    larger_trans m first (recording_inner calls first) (larger_with_module m at (with_invocation made.position made.call)) (larger_inner calls first)
 
 -- nor do helpers that are exported
 pub larger_showing : (in_block : Bool) (id : MacroId) (read : Option NameAndHelpers) (m : MapState) → IsLarger m (showing_helpers in_block id read m)

@@ -8,7 +8,8 @@ use Rattle.def_rules.specs.State.{State, Effect, Moment}
 use Rattle.def_rules.specs.Steps.{Reaches, Step}
 use Rattle.def_rules.specs.Targets.{is_censored, leaves_out}
 use Rattle.def_laws.proofs.FootprintLaws.{Footprint}
-use Rattle.def_laws.proofs.MovesLaws.{Move, putting, linking, taking, doing, copying, ordering, sorting, recording, move_of}
+use Rattle.def_laws.proofs.LargerLaws.{larger_inner}
+use Rattle.def_laws.proofs.MovesLaws.{Move, putting, linking, taking, doing, calling, copying, ordering, sorting, recording, move_of}
 use Rattle.def_laws.proofs.RunsLaws.{along}
 
 -- the same modules are left out in two states, and the same ones censored
@@ -39,8 +40,9 @@ pub move_alike : {oracle : Oracle} (a b : Moment) → Move oracle a b → Leaves
 move_alike a b (putting at entry rest first is) = subst (λ (m : Moment). LeavesAlike a.state m.state) (sym is) (record { is_proc_macro = refl; id = refl })
 move_alike a b (linking source edge rest first is) = subst (λ (m : Moment). LeavesAlike a.state m.state) (sym is) (record { is_proc_macro = refl; id = refl })
 move_alike a b (taking at name function rest held first out there of is) = subst (λ (m : Moment). LeavesAlike a.state m.state) (sym is) (record { is_proc_macro = refl; id = refl })
-move_alike a b (doing gone rest scope depth macros expansions deferred effect first still own fewer foot is) =
+move_alike a b (doing gone rest scope depth macros expansions deferred inner effect first still own fewer foot is) =
     let alike = footprint_alike _ scope depth effect foot in subst (λ (m : Moment). LeavesAlike a.state m.state) (sym is) (record { is_proc_macro = alike.is_proc_macro; id = alike.id })
+move_alike a b (calling idle is) = subst (λ (m : Moment). LeavesAlike a.state m.state) (sym is) (record { is_proc_macro = refl; id = (larger_inner a.state.inner_calls a.state.map).id })
 move_alike a b (copying content copy is) = subst (λ (m : Moment). LeavesAlike a.state m.state) (sym is) (record { is_proc_macro = refl; id = refl })
 move_alike a b (ordering macros same is) = subst (λ (m : Moment). LeavesAlike a.state m.state) (sym is) (record { is_proc_macro = refl; id = refl })
 move_alike a b (sorting state same is) = subst (λ (m : Moment). LeavesAlike a.state m.state) (sym is) (subst (LeavesAlike a.state) (sym same.rest) (record { is_proc_macro = refl; id = refl }))

@@ -15,12 +15,14 @@ use Rattle.def_bindings.specs.declared.visibility.Visibility.{Visibility}
 use Rattle.def_bindings.specs.Content.{Content, without_binding}
 use Rattle.def_oracle.specs.Oracle.{Oracle}
 use Rattle.def_globs.specs.Globs.{with_recorded}
+use Rattle.def_rules.specs.declared.inner_calls.InnerCall.{InnerCall}
+use Rattle.def_rules.specs.Calls.{inner_recorded}
 use Rattle.def_rules.specs.Recording.{ImportStep}
 use Rattle.def_rules.specs.ProcMacros.{is_function, taken_out, takes_out}
 use Rattle.def_rules.specs.Targets.{leaves_out}
 use Rattle.def_rules.specs.State.{State, Effect, Moment, Rearranges, Task, Enter, Visit, TryDerive, Put, Bring, AddEdge, TakeOut, TookOut, after, noting, only, order, with_content, with_state}
 use Rattle.def_rules.specs.Waiting.{Deferrals, Expansion, MacroDirective}
-use Rattle.def_rules.specs.Steps.{Copies, Does, Step, performs, copies, rearranges, records, asks, expands, falls_back, put_effect, reorders}
+use Rattle.def_rules.specs.Steps.{Copies, Does, Step, performs, copies, rearranges, records, asks, notes, expands, falls_back, put_effect, reorders}
 use Rattle.def_laws.specs.Depths.{WaitsIn}
 use Rattle.def_laws.specs.Own.{IsOwn, Stands}
 use Rattle.def_laws.specs.Roles.{is_still, place_of, role_of}
@@ -45,9 +47,11 @@ pub data Move (oracle : Oracle) (a b : Moment) : Type 0 where
       → a.state.content.binding at name Values ≡ Some held → held.def ≡ def.Function function
       → b ≡ after a rest (noting (TookOut at name function) (only (with_content a.state (without_binding a.state.content at name Values)))) → Move oracle a b
   -- something else is done in a module, for which these tasks go, and of what waits some may go or join: each waits where something waited, or in that module
-  doing : (gone rest : List Task) (scope : ModuleId) (depth : ℕ) (macros : List MacroDirective) (expansions : List Expansion) (deferred : Deferrals) (effect : Effect) → a.tasks ≡ gone ++ rest → AreStill gone
-      → (Stands a.tasks a.state → IsOwn a.state.map scope) → ((at : ModuleId) → WaitsIn (waiting_with a.state macros expansions deferred) at → WaitsIn a.state at ⊎ (at ≡ scope))
-      → Footprint (waiting_with a.state macros expansions deferred) scope depth effect → b ≡ after a rest effect → Move oracle a b
+  doing : (gone rest : List Task) (scope : ModuleId) (depth : ℕ) (macros : List MacroDirective) (expansions : List Expansion) (deferred : Deferrals) (inner : List InnerCall) (effect : Effect) → a.tasks ≡ gone ++ rest → AreStill gone
+      → (Stands a.tasks a.state → IsOwn a.state.map scope) → ((at : ModuleId) → WaitsIn (waiting_with a.state macros expansions deferred inner) at → WaitsIn a.state at ⊎ (at ≡ scope))
+      → Footprint (waiting_with a.state macros expansions deferred inner) scope depth effect → b ≡ after a rest effect → Move oracle a b
+  -- calls are recorded that were made for arguments
+  calling : a.tasks ≡ [] → b ≡ after a [] (only (inner_recorded a.state)) → Move oracle a b
   -- something is copied
   copying : (content : Content Visibility) → Copies a.state content → b ≡ with_state a (with_content a.state content) → Move oracle a b
   -- macros that wait are put into another order
@@ -73,27 +77,27 @@ module _ {oracle : Oracle} (a b : Moment) where
     take_by : (takes : Bool) → takes_out a.state at name function ≡ takes → b ≡ after a rest (taken_out a.state at name function takes) → Move oracle a b
     take_by true test is = let both = and_parts (leaves_out a.state at) _ test in take_held both.0 (a.state.content.binding at name Values) refl both.1 is
     take_by false test is =
-        doing (TakeOut at name function ∷ []) rest at 0 a.state.macros a.state.expansions a.state.deferred (only a.state) first (refl, tt) (first_own a (TakeOut at name function) rest first) (λ m waits. inl waits) (still_footprint a.state at 0) is
+        doing (TakeOut at name function ∷ []) rest at 0 a.state.macros a.state.expansions a.state.deferred a.state.inner_calls (only a.state) first (refl, tt) (first_own a (TakeOut at name function) rest first) (λ m waits. inl waits) (still_footprint a.state at 0) is
 
   move_by : (task : Task) (rest : List Task) (effect : Effect) → a.tasks ≡ task ∷ rest → Does oracle a.state task effect → b ≡ after a rest effect → Move oracle a b
   move_by (Put at entry) rest effect first does is = putting at entry rest first (is ∙ ap (after a rest) does)
   move_by (AddEdge source edge) rest effect first does is = linking source edge rest first (is ∙ ap (after a rest) does)
   move_by (TakeOut at name function) rest effect first does is = take_by at name function rest first (takes_out a.state at name function) refl (is ∙ ap (after a rest) does)
   move_by (Enter at directory) rest effect first does is =
-      doing (Enter at directory ∷ []) rest at 0 a.state.macros a.state.expansions a.state.deferred _ first (refl, tt) (first_own a (Enter at directory) rest first) (λ at waits. inl waits) (enter_footprint a.state at directory) (is ∙ ap (after a rest) does)
+      doing (Enter at directory ∷ []) rest at 0 a.state.macros a.state.expansions a.state.deferred a.state.inner_calls _ first (refl, tt) (first_own a (Enter at directory) rest first) (λ at waits. inl waits) (enter_footprint a.state at directory) (is ∙ ap (after a rest) does)
   move_by (Bring from into) rest effect first does is =
-      doing (Bring from into ∷ []) rest into 0 a.state.macros a.state.expansions a.state.deferred _ first (refl, tt) (first_own a (Bring from into) rest first) (λ at waits. inl waits) (bring_footprint a.state from into) (is ∙ ap (after a rest) does)
+      doing (Bring from into ∷ []) rest into 0 a.state.macros a.state.expansions a.state.deferred a.state.inner_calls _ first (refl, tt) (first_own a (Bring from into) rest first) (λ at waits. inl waits) (bring_footprint a.state from into) (is ∙ ap (after a rest) does)
   move_by (Visit site id) rest effect first does is =
       let visit : VisitFootprint a.state site effect = visits_footprint oracle a.state site id effect does in
-      doing (Visit site id ∷ []) rest site.scope site.depth a.state.macros a.state.expansions visit.deferred effect first (refl, tt) (first_own a (Visit site id) rest first)
+      doing (Visit site id ∷ []) rest site.scope site.depth a.state.macros a.state.expansions visit.deferred a.state.inner_calls effect first (refl, tt) (first_own a (Visit site id) rest first)
       (λ at waits. inl (elim waits [ inl macro ↦ inl macro | inr later ↦ elim later [ inl expansion ↦ inr (inl expansion) | inr deferred ↦ inr (inr (visit.fewer at deferred)) ] ])) visit.foot is
   move_by (TryDerive directive written) rest effect first does is =
       let tried : TryFootprint a.state directive.scope effect = tries_footprint oracle a.state directive written effect does in
-      doing (TryDerive directive written ∷ []) rest directive.scope directive.depth tried.macros tried.expansions tried.deferred effect first (refl, tt) (first_own a (TryDerive directive written) rest first) tried.fewer (tried.foot directive.depth) is
+      doing (TryDerive directive written ∷ []) rest directive.scope directive.depth tried.macros tried.expansions tried.deferred a.state.inner_calls effect first (refl, tt) (first_own a (TryDerive directive written) rest first) tried.fewer (tried.foot directive.depth) is
 
   -- a macro or an expansion has its turn
   turning : (effect : Effect) → a.tasks ≡ [] → TurnFootprint a.state effect → b ≡ after a [] effect → Move oracle a b
-  turning effect idle turn is = doing [] [] turn.scope turn.depth turn.macros turn.expansions turn.deferred effect idle tt (λ stands. stands.waiting turn.scope turn.waits) (λ at waits. inl (turn.fewer at waits)) turn.foot is
+  turning effect idle turn is = doing [] [] turn.scope turn.depth turn.macros turn.expansions turn.deferred turn.inner effect idle tt (λ stands. stands.waiting turn.scope turn.waits) (λ at waits. inl (turn.fewer at waits)) turn.foot is
 
   -- what a step does
   pub move_of : Step oracle a b → Move oracle a b
@@ -103,5 +107,6 @@ module _ {oracle : Oracle} (a b : Moment) where
   move_of (rearranges state same is) = sorting state same is
   move_of (records effect idle step is) = recording effect idle step is
   move_of (asks effect idle step is) = turning effect idle (asks_footprint oracle a.state effect step) is
+  move_of (notes idle is) = calling idle is
   move_of (expands effect idle step is) = turning effect idle (expands_footprint oracle a.state effect step) is
   move_of (falls_back effect idle step is) = turning effect idle (falls_footprint oracle a.state effect step) is

@@ -30,7 +30,8 @@ use Rattle.def_sources.specs.declared.asked.BuiltinShadowMode.TheVariants as sha
 use Rattle.def_sources.specs.declared.per_ns.MacroSubNs.TheVariants as sub
 use Rattle.def_paths.specs.Paths.{for_import, resolve, resolver}
 use Rattle.def_globs.proofs.ListLaws.{first_in, later_in}
-use Rattle.def_rules.specs.Calls.{answer_by, deeper, deepest, expansion_effect, expansion_site, expansion_tree, invoking, is_too_deep, with_invocations, with_replaced}
+use Rattle.def_rules.specs.declared.inner_calls.InnerCall.{InnerCall}
+use Rattle.def_rules.specs.Calls.{answer_by, deeper, deepest, expansion_effect, expansion_site, expansion_tree, inner_recorded, invoking, is_too_deep, recording_inner, with_inner_calls, with_replaced}
 use Rattle.def_rules.specs.Attributes.{AttrUse, HasNoExpander, PassesOver, ReadsDerives, ReplacesItem, attr_macro, attr_query, attr_use, is_helper, is_helper_name, item_site}
 use Rattle.def_rules.specs.Deferred.{added_helpers, deferral, deferred_at, deferred_derive, deferred_expansion}
 use Rattle.def_rules.specs.Derives.{derive_call, derive_directive, derive_macro, derive_paths, derive_query, derives_from, may_derive, with_shown_helpers}
@@ -39,23 +40,23 @@ use Rattle.def_rules.specs.Directives.{AllStay, ExpansionStep, GivesDerive, Macr
 use Rattle.def_rules.specs.Imports.{is_ready}
 use Rattle.def_rules.specs.Items.{node_at, top_items, walk}
 use Rattle.def_rules.specs.Recording.{NoneReady}
-use Rattle.def_rules.specs.State.{State, Effect, Event, Site, Task, TryDerive, Visit, after, followed_by, only, with_map, world}
+use Rattle.def_rules.specs.State.{State, Effect, Event, Site, Task, TryDerive, Visit, after, followed_by, only, root, with_map, world}
 use Rattle.def_rules.specs.Waiting.{Attr, Derive, Expansion, FnLike, MacroDirective, MacroDirectiveKind, WrittenAttr, WrittenCall, WrittenDerive}
 use Rattle.std.specs.Prelude.{IsPermutation}
 use Rattle.std.proofs.lemmas.List.Sorted.{Contains-permutation, IsPermutation-refl, IsPermutation-sym, IsPermutation-trans, sum_by-IsPermutation}
 use Rattle.def_rules.specs.Fallback.{FallbackStep, IsStuck, attr_reported, given_up}
 use Rattle.def_rules.specs.InTurn.{LeavesOf}
-use Rattle.def_rules.specs.Steps.{Step, asks, expands, falls_back, one, reorders}
+use Rattle.def_rules.specs.Steps.{Step, asks, expands, falls_back, notes, one, reorders}
 use Rattle.def_laws.specs.Depths.{AreVisitsBelow, OnlyInvokes, Queues, WaitsAlike, deferred_work, depth_rank, expansion_work, kind_rank, macro_rank, macro_work, visit_rank, waiting_work}
 use Rattle.def_laws.specs.Own.{IsOwn, Stands}
 use Rattle.def_laws.specs.Performs.{Tried}
 use Rattle.def_laws.specs.Runs.{Collects, CollectsCalmly, Leads, LeaveOf, at}
 use Rattle.def_laws.proofs.DeferredLaws.{deferring_work, expanded_work, none_work}
-use Rattle.def_laws.proofs.FootprintLaws.{waits_alike}
+use Rattle.def_laws.proofs.FootprintLaws.{Footprint, waits_alike}
 use Rattle.def_laws.proofs.DepthsLaws.{above_deepest, deeper_is, deeper_last, item_ranks, visit_rank_is, walk_lies}
 use Rattle.def_laws.specs.Work.{weight}
 use Rattle.def_laws.proofs.StepsLaws.{calmly_led, calmly_refl, calmly_trans, footprint_raised, footprint_sound}
-use Rattle.def_laws.proofs.TurnsLaws.{TryFootprint, TurnFootprint, asks_footprint, expands_footprint, falls_footprint, told_same, tries_footprint, waiting_with}
+use Rattle.def_laws.proofs.TurnsLaws.{TryFootprint, TurnFootprint, asks_footprint, expands_footprint, falls_footprint, notes_footprint, told_same, tries_footprint, waiting_with}
 use Rattle.def_laws.proofs.WaveLaws.{runs_task}
 use Rattle.def_laws.proofs.WorkLaws.{lighter, weight_is}
 
@@ -73,33 +74,40 @@ facts_invoked : (m : MapState) (place : ℕ) (position : InFile FileAstId) (call
 facts_invoked m place position call =
     λ i. record (facts_in m) { textual_macro = λ at name. if is_same_map at.map m.id then first_of_list (textual_same m.modules place at.index position call name i) else None }
 
-facts_invoking : (place : ℕ) (calls : List (InFile FileAstId × MacroCallId)) (m : MapState) → facts_in (invoking place calls m) ≡ facts_in m
-facts_invoking place [] m = refl
-facts_invoking place (call ∷ calls) m = facts_invoking place calls (with_module m place (with_invocation call.0 call.1)) ∙ facts_invoked m place call.0 call.1
+facts_inner : (calls : List InnerCall) (m : MapState) → facts_in (recording_inner calls m) ≡ facts_in m
+facts_inner [] m = refl
+facts_inner (made ∷ calls) m = facts_inner calls (with_module m made.module_id.index (with_invocation made.position made.call)) ∙ facts_invoked m made.module_id.index made.position made.call
 
-krate_invoking : (place : ℕ) (calls : List (InFile FileAstId × MacroCallId)) (m : MapState) → (invoking place calls m).krate ≡ m.krate
-krate_invoking place [] m = refl
-krate_invoking place (call ∷ calls) m = krate_invoking place calls (with_module m place (with_invocation call.0 call.1))
+krate_inner : (calls : List InnerCall) (m : MapState) → (recording_inner calls m).krate ≡ m.krate
+krate_inner [] m = refl
+krate_inner (made ∷ calls) m = krate_inner calls (with_module m made.module_id.index (with_invocation made.position made.call))
 
-helpers_invoking : (place : ℕ) (calls : List (InFile FileAstId × MacroCallId)) (m : MapState) → (invoking place calls m).helpers ≡ m.helpers
-helpers_invoking place [] m = refl
-helpers_invoking place (call ∷ calls) m = helpers_invoking place calls (with_module m place (with_invocation call.0 call.1))
+helpers_inner : (calls : List InnerCall) (m : MapState) → (recording_inner calls m).helpers ≡ m.helpers
+helpers_inner [] m = refl
+helpers_inner (made ∷ calls) m = helpers_inner calls (with_module m made.module_id.index (with_invocation made.position made.call))
 
 pub invokes_refl : (s : State) → OnlyInvokes s s
-invokes_refl s = record { map = s.map; macros = s.macros; is = refl; order = IsPermutation-refl s.macros; facts = refl; krate = refl; helpers = refl }
+invokes_refl s = record { map = s.map; macros = s.macros; inner_calls = s.inner_calls; is = refl; order = IsPermutation-refl s.macros; facts = refl; krate = refl; helpers = refl }
 
 -- what waits is put into another order
 pub invokes_ordered : (s : State) (macros : List MacroDirective) → IsPermutation s.macros macros → OnlyInvokes s (record s { macros = macros })
-invokes_ordered s macros order = record { map = s.map; macros = macros; is = refl; order = order; facts = refl; krate = refl; helpers = refl }
+invokes_ordered s macros order = record { map = s.map; macros = macros; inner_calls = s.inner_calls; is = refl; order = order; facts = refl; krate = refl; helpers = refl }
 
-invokes_calls : (s : State) (place : ModuleId) (calls : List (InFile FileAstId × MacroCallId)) → OnlyInvokes s (with_invocations s place calls)
-invokes_calls s place calls = record { map = invoking place.index calls s.map; macros = s.macros; is = refl; order = IsPermutation-refl s.macros; facts = facts_invoking place.index calls s.map; krate = krate_invoking place.index calls s.map; helpers = helpers_invoking place.index calls s.map }
+-- calls are to be recorded
+invokes_calls : (s : State) (place : ModuleId) (calls : List (InFile FileAstId × MacroCallId)) → OnlyInvokes s (with_inner_calls s place calls)
+invokes_calls s place calls = record { map = s.map; macros = s.macros; inner_calls = (with_inner_calls s place calls).inner_calls; is = refl; order = IsPermutation-refl s.macros; facts = refl; krate = refl; helpers = refl }
+
+-- all are recorded that were to be
+pub invokes_noted : (s : State) → OnlyInvokes s (inner_recorded s)
+invokes_noted s =
+    record { map = recording_inner s.inner_calls s.map; macros = s.macros; inner_calls = []; is = refl; order = IsPermutation-refl s.macros; facts = facts_inner s.inner_calls s.map; krate = krate_inner s.inner_calls s.map; helpers = helpers_inner s.inner_calls s.map }
 
 pub invokes_trans : (s t u : State) → OnlyInvokes s t → OnlyInvokes t u → OnlyInvokes s u
 invokes_trans s t u p q = record {
   map = q.map;
   macros = q.macros;
-  is = q.is ∙ ap (λ (x : State). record x { map = q.map; macros = q.macros }) p.is;
+  inner_calls = q.inner_calls;
+  is = q.is ∙ ap (λ (x : State). record x { map = q.map; macros = q.macros; inner_calls = q.inner_calls }) p.is;
   order = IsPermutation-trans s.macros p.macros q.macros p.order (subst (λ ds. IsPermutation ds q.macros) (ap (λ (x : State). x.macros) p.is) q.order);
   facts = q.facts ∙ ap (λ (x : State). facts_in x.map) p.is ∙ p.facts;
   krate = q.krate ∙ ap (λ (x : State). x.map.krate) p.is ∙ p.krate;
@@ -207,7 +215,7 @@ module _ (oracle : Oracle) (s t : State) (only_calls : OnlyInvokes s t) where
 
 module _ (oracle : Oracle) (s : State) (effect : Effect) (turn : TurnFootprint s effect) (step : (before : List Event) → Step oracle (at [] s before) (after (at [] s before) [] effect)) where
   abbrev u : State
-  u = waiting_with s turn.macros turn.expansions turn.deferred
+  u = waiting_with s turn.macros turn.expansions turn.deferred turn.inner
 
   pub stands_then : Stands [] s → Stands [] u
   stands_then stands = record { state = stands.state; tasks = stands.tasks; waiting = λ place waits. stands.waiting place (turn.fewer place waits) }
@@ -334,7 +342,7 @@ module _ (oracle : Oracle) (s : State) (d : MacroDirective) (written : WrittenDe
     foot = tries_footprint oracle s d written tried (ap (tried_effect oracle s d written) (sym is))
 
     abbrev beside : State
-    beside = waiting_with s foot.macros foot.expansions foot.deferred
+    beside = waiting_with s foot.macros foot.expansions foot.deferred s.inner_calls
 
     try_stands : Stands (TryDerive d written ∷ rest) s → Stands (TryDerive d written ∷ rest) beside
     try_stands stands = record {
@@ -431,7 +439,7 @@ module _ (oracle : Oracle) (s : State) (before : List MacroDirective) (d : Macro
   pub rest_by : (turn : Turn) → given.turn ≡ turn → (t : State) → CollectsCalmly oracle ((effect_by turn).tasks ++ []) (effect_by turn).state [] t → CollectsCalmly oracle ((effect_by given.turn).tasks ++ []) (effect_by given.turn).state [] t
   rest_by turn is t rest = subst (λ x. CollectsCalmly oracle ((effect_by x).tasks ++ []) (effect_by x).state [] t) (sym is) rest
 
-  -- where it stays, only calls for its arguments are recorded
+  -- where it stays, only calls for its arguments are to be recorded
   pub collects_stays : given.turn ≡ Stays → CollectsCalmly oracle [] s [] given.state
   collects_stays is = subst (λ x. CollectsCalmly oracle [] s ((effect_by x).tasks ++ []) (effect_by x).state) is (record { collects = collects_asked; calm = stays_calmly is })
 
@@ -603,6 +611,21 @@ collects_ordered oracle s macros same = record {
   calm = λ earlier. tt;
 }
 
+-- The calls are recorded that were made for arguments
+pub collects_noted : (oracle : Oracle) (s : State) → CollectsCalmly oracle [] s [] (inner_recorded s)
+collects_noted oracle s =
+    let u : State = record s { inner_calls = [] } in
+    let foot : Footprint u (root s.map) 0 (only (inner_recorded s)) = notes_footprint s (root s.map) 0 in
+    let bare : Stands [] s → Stands [] u = λ stands. record { state = stands.state; tasks = stands.tasks; waiting = stands.waiting } in
+    record {
+      collects = record {
+        runs = λ earlier. (earlier ++ [], one (notes refl refl));
+        keeps = λ stands sound. footprint_sound [] u (root s.map) 0 (only (inner_recorded s)) foot (bare stands) sound;
+        raised = λ stands sound earlier importer slot left kept raised. footprint_raised [] u (root s.map) 0 (only (inner_recorded s)) foot (bare stands) importer slot kept.order raised;
+      };
+      calm = λ earlier. tt;
+    }
+
 pub ordered_work : (s : State) (macros : List MacroDirective) → IsPermutation s.macros macros → waiting_work (record s { macros = macros }) ≡ waiting_work s
 ordered_work s macros same = let sum = sum_by-IsPermutation macro_work s.macros macros same in omega (arith, sum)
 
@@ -612,8 +635,8 @@ begins_alike : (oracle : Oracle) (u : State) (e : Expansion) → WaitsAlike u (e
 begins_alike oracle u e = by (is_too_deep u.map e.depth)
   where
     by : (deep : Bool) → WaitsAlike u (cond deep (only u) (followed_by (with_replaced oracle u e) (walk oracle (expansion_site oracle u e) (top_items oracle (expansion_tree e.call))))).state
-    by true = waits_alike refl refl refl refl
-    by false = waits_alike refl refl refl refl
+    by true = waits_alike refl refl refl refl refl
+    by false = waits_alike refl refl refl refl refl
 
 expansion_lies : (oracle : Oracle) (u : State) (e : Expansion) → e.depth ≤ deepest → AreVisitsBelow (depth_rank e.depth) (expansion_effect oracle u e).tasks
 expansion_lies oracle u e most = by (nat_lt (limit_of u.map.krate) e.depth) (nat_eq e.depth deepest) refl
@@ -629,13 +652,13 @@ expansion_lies oracle u e most = by (nat_lt (limit_of u.map.krate) e.depth) (nat
     by false true is = tt
     by false false is = let same = visit_rank_is e.depth (above_deepest e.depth most is) in walk_lies oracle (depth_rank e.depth) inner ids (omega (arith, same))
 
-module _ (oracle : Oracle) (s t : State) (e : Expansion) (rest : List Expansion) (inner : List Task) (first : s.expansions ≡ e ∷ rest) where
+module _ (oracle : Oracle) (s t : State) (e : Expansion) (rest : List Expansion) (inner : List Task) (recorded : s.inner_calls ≡ []) (first : s.expansions ≡ e ∷ rest) where
   -- the state without the expansion
   abbrev pub without : State
   without = record s { expansions = rest }
 
   stepped : ExpansionStep oracle s (expansion_effect oracle without e)
-  stepped = record { before = []; expansion = e; behind = rest; stands = first; is = refl }
+  stepped = record { recorded = recorded; before = []; expansion = e; behind = rest; stands = first; is = refl }
 
   module _ (begun : State) (opened : expansion_effect oracle without e ≡ followed_by begun inner) (leads : Leads oracle inner begun [] t) where
     -- an expansion had its turn, and was walked
@@ -646,6 +669,12 @@ module _ (oracle : Oracle) (s t : State) (e : Expansion) (rest : List Expansion)
         let first_tasks : CollectsCalmly oracle [] s inner begun =
         subst (λ tasks. CollectsCalmly oracle [] s tasks begun) (append-nil inner) (subst (λ (x : Effect). CollectsCalmly oracle [] s (x.tasks ++ []) x.state) opened turn) in
         calmly_trans first_tasks (calmly_led leads)
+
+    -- still no call is to be recorded
+    pub expanded_recorded : t.inner_calls ≡ []
+    expanded_recorded =
+        let alike : WaitsAlike without begun = subst (λ (x : Effect). WaitsAlike without x.state) opened (begins_alike oracle without e) in
+        leads.inner_calls ∙ alike.inner_calls ∙ recorded
 
     -- and less waits
     pub expanded_lighter : e.depth ≤ deepest → length t.macros < 2 ^ 64 → waiting_work t < waiting_work s

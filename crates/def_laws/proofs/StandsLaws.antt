@@ -10,14 +10,15 @@ use Rattle.def_oracle.specs.Oracle.{Oracle}
 use Rattle.def_globs.proofs.ListLaws.{first_in, later_in, none_in, only_in}
 use Rattle.def_laws.specs.Own.{AreOwn, IsOwn, IsRecorded, Stands}
 use Rattle.def_laws.specs.Sound.{IsSound}
+use Rattle.def_rules.specs.Calls.{recording_inner}
 use Rattle.def_rules.specs.Imports.{answer_now}
 use Rattle.def_rules.specs.Recording.{ImportStep, after_import, kept_list, new_prelude, record_effect, record_state, record_tasks, with_new_prelude}
 use Rattle.def_rules.specs.State.{State, Effect, Moment, NsSet, ImportDirective, Import, Task, order}
 use Rattle.def_rules.specs.Steps.{Reaches, Step}
-use Rattle.def_laws.proofs.LargerLaws.{larger_prelude, larger_refl, own_larger}
+use Rattle.def_laws.proofs.LargerLaws.{larger_inner, larger_prelude, larger_refl, own_larger}
 use Rattle.def_laws.specs.Depths.{DefersIn, WaitsIn}
 use Rattle.def_laws.proofs.FootprintLaws.{Footprint}
-use Rattle.def_laws.proofs.MovesLaws.{Move, putting, linking, taking, doing, copying, ordering, sorting, recording, move_of}
+use Rattle.def_laws.proofs.MovesLaws.{Move, putting, linking, taking, doing, calling, copying, ordering, sorting, recording, move_of}
 use Rattle.def_laws.proofs.OwnLaws.{own_both, own_copied, own_edge, own_first, own_last, own_put, own_stays, tasks_stay}
 use Rattle.def_laws.proofs.TurnsLaws.{waiting_with}
 use Rattle.def_laws.proofs.RunsLaws.{kept_along}
@@ -126,10 +127,19 @@ move_stands a b (linking source edge rest first is) st =
 move_stands a b (taking place name function rest held first out there of is) st =
     let own = stands_with a _ first st in
     subst StandsAt (sym is) (record { state = own_taken a.state.content place name Values own.state; tasks = own.tasks.1; waiting = own.waiting })
-move_stands a b (doing gone rest scope depth macros expansions deferred effect first still at fewer foot is) st =
+move_stands a b (doing gone rest scope depth macros expansions deferred inner effect first still at fewer foot is) st =
     subst StandsAt (sym is)
-    (footprint_stands (waiting_with a.state macros expansions deferred) rest scope depth effect foot (at st)
+    (footprint_stands (waiting_with a.state macros expansions deferred inner) rest scope depth effect foot (at st)
     (record { state = st.state; tasks = own_last a.state.map a.state.targets gone rest (stands_with a _ first st).tasks; waiting = λ place waits. elim (fewer place waits) [ inl old ↦ st.waiting place old | inr here ↦ subst (IsOwn a.state.map) (sym here) (at st) ] }))
+move_stands a b (calling idle is) st =
+    let s : State = a.state in
+    let m : MapState = recording_inner s.inner_calls s.map in
+    let larger : IsLarger s.map m = larger_inner s.inner_calls s.map in
+    subst StandsAt (sym is) (record {
+      state = own_stays s.map m s.targets s.targets larger (λ g h. h) s.content s.imports s.imports (λ d h. inl h) st.state;
+      tasks = tt;
+      waiting = λ place waits. own_larger s.map m place larger (st.waiting place waits);
+    })
 move_stands a b (copying content copy is) st =
     let s : State = a.state in
     let own : AreOwn s.map s.targets content s.imports =

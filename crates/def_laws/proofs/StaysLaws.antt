@@ -22,7 +22,7 @@ use Rattle.def_rules.specs.State.{State, Effect, Event, TookOut, Moment, Task, a
 use Rattle.def_rules.specs.Steps.{Copies, Reaches, Step, put_event}
 use Rattle.def_rules.specs.Targets.{leaves_out}
 use Rattle.def_laws.proofs.LeftOutLaws.{LeavesAlike, alike_refl, leaves_alike, move_alike}
-use Rattle.def_laws.proofs.MovesLaws.{Move, putting, linking, taking, doing, copying, ordering, sorting, recording, move_of}
+use Rattle.def_laws.proofs.MovesLaws.{Move, putting, linking, taking, doing, calling, copying, ordering, sorting, recording, move_of}
 use Rattle.def_laws.proofs.RunsLaws.{along}
 use Rattle.def_laws.proofs.TakenLaws.{bound_elsewhere}
 
@@ -132,9 +132,11 @@ module _ {oracle : Oracle} (a b : Moment) where
   move_keeps (linking source edge rest first is) =
       keeps_move (linking source edge rest first is) [] (ap (λ (m : Moment). m.events) is) (subst (λ (m : Moment). KeepsExplicit a.state.content m.state.content) (sym is) (λ at name ns held there explicit. there))
   move_keeps (taking at name function rest held first out there of is) = subst (λ (m : Moment). Keeps a m) (sym is) (keeps_taking a at name function rest held out there of)
-  move_keeps (doing gone rest scope depth macros expansions deferred effect first still own fewer foot is) =
-      keeps_move (doing gone rest scope depth macros expansions deferred effect first still own fewer foot is) effect.events (ap (λ (m : Moment). m.events) is)
+  move_keeps (doing gone rest scope depth macros expansions deferred inner effect first still own fewer foot is) =
+      keeps_move (doing gone rest scope depth macros expansions deferred inner effect first still own fewer foot is) effect.events (ap (λ (m : Moment). m.events) is)
       (subst (λ (m : Moment). KeepsExplicit a.state.content m.state.content) (sym is) (same_keeps a.state.content effect.state.content foot.content))
+  move_keeps (calling idle is) =
+      keeps_move (calling idle is) [] (ap (λ (m : Moment). m.events) is) (subst (λ (m : Moment). KeepsExplicit a.state.content m.state.content) (sym is) (λ at name ns held there explicit. there))
   move_keeps (copying content copy is) =
       keeps_move (copying content copy is) [] (ap (λ (m : Moment). m.events) is ∙ sym (append-nil a.events)) (subst (λ (m : Moment). KeepsExplicit a.state.content m.state.content) (sym is) (copies_keep a.state content copy))
   move_keeps (ordering macros same is) =

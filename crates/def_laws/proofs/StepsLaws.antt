@@ -30,7 +30,7 @@ use Rattle.def_rules.specs.Imports.{answer_now}
 use Rattle.def_rules.specs.Recording.{ImportStep, after_import}
 use Rattle.def_rules.specs.Items.{diagnostic, node_at, noted_in}
 use Rattle.def_rules.specs.Rules.{VisitsAt, VisitsEnabled, VisitsNode}
-use Rattle.def_rules.specs.State.{State, Effect, Site, Task, Bring, Enter, Visit, Rearranges, entered, only, order, put_each, reported, with_content}
+use Rattle.def_rules.specs.State.{State, Effect, IsBare, Site, Task, Bring, Enter, Visit, Rearranges, entered, only, order, put_each, reported, with_content}
 use Rattle.def_rules.specs.Steps.{Does, StandsNear, one, rearranges, records}
 use Rattle.def_rules.specs.Waiting.{Deferrals, MacroDirective}
 use Rattle.def_laws.specs.Runs.{Collects, CollectsCalmly, Leads, LeaveOf}
@@ -72,7 +72,7 @@ stands_visit tasks s deferred fewer stands = record {
 
 -- what waits stays where the imports are put into another order
 rearranged_alike : (s t : State) → Rearranges s t → WaitsAlike s t
-rearranged_alike s t same = subst (WaitsAlike s) (sym same.rest) (waits_alike refl refl refl refl)
+rearranged_alike s t same = subst (WaitsAlike s) (sym same.rest) (waits_alike refl refl refl refl refl)
 
 -- an item that is there, and that cfg does not disable
 does_enabled : (oracle : Oracle) (s : State) (site : Site) (id : ModItemId) (item : ItemNode) → node_at oracle site.tree id ≡ Some item → disabled_by item.attrs ≡ None
@@ -101,7 +101,7 @@ module _ {oracle : Oracle} where
   calmly_refl tasks s = record { collects = collects_refl tasks s; calm = leave_refl oracle [] tasks s }
 
   pub leads_refl : (tasks : List Task) (s : State) → Leads oracle tasks s tasks s
-  leads_refl tasks s = record { collects = collects_refl tasks s; calm = leave_refl oracle [] tasks s; expansions = refl; deferred = omega arith; queues = λ rank lie. (lie, queues_alike rank s s (waits_alike refl refl refl refl)) }
+  leads_refl tasks s = record { collects = collects_refl tasks s; calm = leave_refl oracle [] tasks s; inner_calls = refl; expansions = refl; deferred = omega arith; queues = λ rank lie. (lie, queues_alike rank s s (waits_alike refl refl refl refl refl)) }
 
   -- a run goes on with another
   unfoldable pub collects_trans : {ts us vs : List Task} {s t u : State} → Collects oracle ts s us t → Collects oracle us t vs u → Collects oracle ts s vs u
@@ -129,10 +129,15 @@ module _ {oracle : Oracle} where
   leads_trans {s = s} {t = t} {u = u} p q = record {
     collects = collects_trans p.collects q.collects;
     calm = leave_trans [] p.collects q.collects p.calm q.calm;
+    inner_calls = q.inner_calls ∙ p.inner_calls;
     expansions = q.expansions ∙ p.expansions;
     deferred = let first = p.deferred in let second = q.deferred in omega (arith, first, second);
     queues = λ rank lie. let first = p.queues rank lie in let second = q.queues rank first.0 in (second.0, queues_trans rank s t u first.1 second.1);
   }
+
+  -- what is bare stays so
+  pub leads_bare : {tasks tasks' : List Task} {s t : State} → Leads oracle tasks s tasks' t → IsBare s → IsBare t
+  leads_bare leads bare = record { inner_calls = leads.inner_calls ∙ bare.inner_calls; expansions = leads.expansions ∙ bare.expansions }
 
   -- what is sound stays so along a run of whole waves
   pub collects_sound : {tasks tasks' : List Task} {s t : State} → Collects oracle tasks s tasks' t → IsSoundWith tasks s → IsSoundWith tasks' t
@@ -147,6 +152,7 @@ module _ {oracle : Oracle} where
       raised = λ stands sound. done.raised rest (stands_first rest stands) sound;
     };
     calm = done.calm rest;
+    inner_calls = done.waits.inner_calls;
     expansions = done.waits.expansions;
     deferred = same_lighter s t done.waits.deferred;
     queues = λ rank lie. (lie_last rank tasks rest lie, queues_alike rank s t done.waits);
@@ -166,6 +172,7 @@ module _ {oracle : Oracle} where
           raised = λ stands sound before importer slot left kept raised. footprint_raised (Visit site id ∷ rest) u site.scope site.depth effect foot (stands_then stands) importer slot kept.order raised;
         };
         calm = λ before. tt;
+        inner_calls = foot.queued.inner_calls;
         expansions = foot.queued.expansions;
         deferred = let lighter = visit.lighter in let same = ap deferred_work foot.queued.deferred in omega (arith, lighter, same);
         queues = λ rank lie. (
@@ -183,11 +190,12 @@ module _ {oracle : Oracle} where
       raised = λ stands sound before importer slot left kept raised. import_raised s effect step importer slot raised;
     };
     calm = λ before. tt;
+    inner_calls = ap (λ (e : Effect). e.state.inner_calls) step.is;
     expansions = ap (λ (e : Effect). e.state.expansions) step.is;
     deferred = same_lighter s effect.state (ap (λ (e : Effect). e.state.deferred) step.is);
     queues = λ rank lie. (
       subst (λ (e : Effect). AreVisitsBelow rank (e.tasks ++ [])) (sym step.is) (recorded_lies oracle rank (after_import s step.directive step.rest (answer_now oracle s step.directive.import)) step.directive.import (answer_now oracle s step.directive.import) step.directive.import.written.kind),
-      queues_alike rank s effect.state (subst (λ (e : Effect). WaitsAlike s e.state) (sym step.is) (waits_alike refl refl refl refl)),
+      queues_alike rank s effect.state (subst (λ (e : Effect). WaitsAlike s e.state) (sym step.is) (waits_alike refl refl refl refl refl)),
     );
   }
 
@@ -200,6 +208,7 @@ module _ {oracle : Oracle} where
       raised = λ stands sound before importer slot left kept raised. subst (λ x. IsRaisedIn x importer slot) (sym same.rest) raised;
     };
     calm = λ before. tt;
+    inner_calls = (rearranged_alike s t same).inner_calls;
     expansions = (rearranged_alike s t same).expansions;
     deferred = same_lighter s t (rearranged_alike s t same).deferred;
     queues = λ rank lie. (lie, queues_alike rank s t (rearranged_alike s t same));
@@ -213,7 +222,7 @@ module _ {oracle : Oracle} where
     keeps = λ followed stands sound.
         sound_wave s.map s.targets place list s.content c travels sound (puts_nowhere (target_of s.map.id s.targets) place list (subst (AreFollowed (target_of s.map.id s.targets)) (append-nil (put_each place list)) followed));
     raised = λ rest stands sound before importer slot left kept. wave_raised importer slot oracle place list s c travels [] rest before kept left sound;
-    waits = waits_alike refl refl refl refl;
+    waits = waits_alike refl refl refl refl refl;
   }
 
   -- a list was put, and what changed has travelled
@@ -227,7 +236,7 @@ module _ {oracle : Oracle} where
 
   -- nothing is performed
   pub performs_none : (s : State) → Performs oracle [] s s
-  performs_none s = record { runs = λ rest. runs_refl rest s; calm = λ rest before. tt; keeps = λ followed stands sound. sound; raised = λ rest stands sound before importer slot left kept raised. raised; waits = waits_alike refl refl refl refl }
+  performs_none s = record { runs = λ rest. runs_refl rest s; calm = λ rest before. tt; keeps = λ followed stands sound. sound; raised = λ rest stands sound before importer slot left kept raised. raised; waits = waits_alike refl refl refl refl refl }
 
   -- the imports are put into another order
   pub performs_rearranged : (s t : State) → Rearranges s t → Performs oracle [] s t
@@ -248,9 +257,10 @@ module _ {oracle : Oracle} where
       raised = λ stands sound before importer slot left kept raised. raised;
     };
     calm = λ before. tt;
+    inner_calls = refl;
     expansions = refl;
     deferred = omega arith;
-    queues = λ rank lie. (lie.1, queues_alike rank s (entered s at directory) (waits_alike refl refl refl refl));
+    queues = λ rank lie. (lie.1, queues_alike rank s (entered s at directory) (waits_alike refl refl refl refl refl));
   }
 
   -- textual macros are brought into another module
@@ -264,9 +274,10 @@ module _ {oracle : Oracle} where
           raised = λ stands sound before importer slot left kept raised. raised;
         };
         calm = λ before. tt;
+        inner_calls = refl;
         expansions = refl;
         deferred = omega arith;
-        queues = λ rank lie. (lie.1, queues_alike rank s t (waits_alike refl refl refl refl));
+        queues = λ rank lie. (lie.1, queues_alike rank s t (waits_alike refl refl refl refl refl));
       }
 
   -- a visit is followed by its puts, down to the inner tasks

@@ -24,9 +24,11 @@ use Rattle.def_rules.specs.declared.diagnostics.DefDiagnostic.{DefDiagnostic}
 use Rattle.def_rules.specs.declared.diagnostics.DefDiagnosticKind.{DefDiagnosticKind}
 use Rattle.def_rules.specs.declared.diagnostics.DefDiagnosticKind.TheVariants.{MacroError}
 use Rattle.def_rules.specs.Attributes.{AttrUse, HasNoExpander, PassesOver, ReadsDerives, ReplacesItem, activated, attr_macro, attr_query, attr_use, directive_reported, is_helper, item_site}
+use Rattle.def_rules.specs.Calls.{inner_recorded}
 use Rattle.def_rules.specs.Deferred.{added_helpers, deferral, deferred_at, deferred_derive, deferred_expansion, expanding_deferred}
 use Rattle.def_rules.specs.Derives.{derive_call, derive_directive, derive_macro, derive_paths, derived, may_derive, with_shown_helpers}
 use Rattle.def_rules.specs.Directives.{ExpansionStep, GivesCall, GivesDerive, MacroStep, Replaces, Stays, Turn, WalksItem, attr_told, call_answer, call_told, called_state, derive_told, expanding, expansion_of, given_state, item_told, list_told, replaced_state, told, told_by, tried_effect, tries, turn_effect, use_told, walked_state}
+use Rattle.def_rules.specs.declared.inner_calls.InnerCall.{InnerCall}
 use Rattle.def_rules.specs.Fallback.{FallbackStep, attr_reported}
 use Rattle.def_rules.specs.Items.{node_at}
 use Rattle.def_rules.specs.Globs.{Targets}
@@ -35,18 +37,18 @@ use Rattle.def_rules.specs.Waiting.{Attr, Deferrals, Derive, Expansion, FnLike, 
 use Rattle.def_laws.specs.Depths.{AreVisitsBelow, DefersIn, WaitsAlike, WaitsIn}
 use Rattle.def_laws.specs.Finished.{NoneFailed}
 use Rattle.def_laws.specs.Own.{AreOwnTasks, IsOwn}
-use Rattle.def_laws.proofs.CleanLaws.{none_failed-derived, none_failed-invoking, none_failed-shown, none_failed-with_module}
+use Rattle.def_laws.proofs.CleanLaws.{none_failed-derived, none_failed-inner, none_failed-invoking, none_failed-shown, none_failed-with_module}
 use Rattle.def_laws.proofs.DeferredLaws.{deferring_in, expanded_defers, none_in_more}
 use Rattle.def_laws.proofs.DepthsLaws.{lie_both}
 use Rattle.def_laws.proofs.FootprintLaws.{Footprint, expanded_footprint, map_footprint, still_footprint, waits_alike}
-use Rattle.def_laws.proofs.LargerLaws.{larger_derived, larger_invoking, larger_refl, larger_shown, larger_trans, larger_with_module}
+use Rattle.def_laws.proofs.LargerLaws.{larger_derived, larger_inner, larger_invoking, larger_refl, larger_shown, larger_trans, larger_with_module}
 use Rattle.def_laws.proofs.OwnLaws.{own_both}
 use Rattle.def_laws.proofs.PlainLaws.{ArePlain, plain_both}
 use Rattle.def_laws.proofs.SoundLaws.{IsLarger}
 
--- the state in which these wait
-abbrev pub waiting_with : State → List MacroDirective → List Expansion → Deferrals → State
-waiting_with s macros expansions deferred = record s { macros = macros; expansions = expansions; deferred = deferred }
+-- the state in which these wait, and these calls are to be recorded
+abbrev pub waiting_with : State → List MacroDirective → List Expansion → Deferrals → List InnerCall → State
+waiting_with s macros expansions deferred inner = record s { macros = macros; inner_calls = inner; expansions = expansions; deferred = deferred }
 
 -- a turn is one of something that waits: of what waits then each waits where something waited, and then something is done in a module
 pub record TurnFootprint (s : State) (effect : Effect) : Type 0 where
@@ -55,9 +57,15 @@ pub record TurnFootprint (s : State) (effect : Effect) : Type 0 where
   pub macros : List MacroDirective
   pub expansions : List Expansion
   pub deferred : Deferrals
+  pub inner : List InnerCall
   pub waits : WaitsIn s scope
-  pub fewer : (at : ModuleId) → WaitsIn (waiting_with s macros expansions deferred) at → WaitsIn s at
-  pub foot : Footprint (waiting_with s macros expansions deferred) scope depth effect
+  pub fewer : (at : ModuleId) → WaitsIn (waiting_with s macros expansions deferred inner) at → WaitsIn s at
+  pub foot : Footprint (waiting_with s macros expansions deferred inner) scope depth effect
+
+-- calls are recorded that were made for arguments
+pub notes_footprint : (s : State) (scope : ModuleId) (depth : ℕ) → Footprint (record s { inner_calls = [] }) scope depth (only (inner_recorded s))
+notes_footprint s scope depth =
+    map_footprint (record s { inner_calls = [] }) scope depth (inner_recorded s) [] refl refl refl (waits_alike refl refl refl refl refl) (larger_inner s.inner_calls s.map) (none_failed-inner s.inner_calls s.map) (λ targets own. tt) tt (λ rank low. tt)
 
 -- what waits behind and before something waits in a list
 beside : {X : Type 0} (before behind : List X) (x y : X) → Contains (before ++ behind) y → Contains (before ++ x ∷ behind) y
@@ -69,26 +77,26 @@ beside before behind x y h = elim (Contains-append_cases before behind y h) [
 among : {X : Type 0} (before behind : List X) (x : X) → Contains (before ++ x ∷ behind) x
 among before behind x = Contains-append_right before (x ∷ behind) x (first_in x behind)
 
--- what was told leaves all as it is but the map, in which calls and derives may join, the active attributes and the diagnostics
+-- what was told leaves all as it is but the map, in which derives may join, the calls that are to be recorded, the active attributes and the diagnostics
 pub record IsToldOf (s t : State) : Type 0 where
   pub content : t.content ≡ s.content
   pub targets : t.targets ≡ s.targets
   pub imports : t.imports ≡ s.imports
-  pub waits : WaitsAlike s t
+  pub waits : WaitsAlike (record s { inner_calls = t.inner_calls }) t
   pub larger : IsLarger s.map t.map
   pub clean : NoneFailed s.map → NoneFailed t.map
 
 told_still : (s : State) → IsToldOf s s
-told_still s = record { content = refl; targets = refl; imports = refl; waits = waits_alike refl refl refl refl; larger = larger_refl s.map; clean = λ none. none }
+told_still s = record { content = refl; targets = refl; imports = refl; waits = waits_alike refl refl refl refl refl; larger = larger_refl s.map; clean = λ none. none }
 
 -- what may differ of an attribute that was told
 told_noted : (s : State) (active : InFile FileAstId → List AttrId) (diagnostics : List DefDiagnostic) → IsToldOf s (record s { active = active; diagnostics = diagnostics })
-told_noted s active diagnostics = record { content = refl; targets = refl; imports = refl; waits = waits_alike refl refl refl refl; larger = larger_refl s.map; clean = λ none. none }
+told_noted s active diagnostics = record { content = refl; targets = refl; imports = refl; waits = waits_alike refl refl refl refl refl; larger = larger_refl s.map; clean = λ none. none }
 
 module _ (oracle : Oracle) (s : State) (d : MacroDirective) where
   call_same : (answer : Result CallAnswer UnresolvedMacro) → IsToldOf s (call_told s d answer).state
   call_same (Ok answer) =
-      record { content = refl; targets = refl; imports = refl; waits = waits_alike refl refl refl refl; larger = larger_invoking d.scope.index answer.inner s.map; clean = λ none. none_failed-invoking d.scope.index answer.inner s.map none }
+      record { content = refl; targets = refl; imports = refl; waits = waits_alike refl refl refl refl refl; larger = larger_refl s.map; clean = λ none. none }
   call_same (Err unresolved) = told_still s
 
   module _ (written : WrittenAttr) where
@@ -100,7 +108,7 @@ module _ (oracle : Oracle) (s : State) (d : MacroDirective) where
           content = refl;
           targets = refl;
           imports = refl;
-          waits = waits_alike refl refl refl refl;
+          waits = waits_alike refl refl refl refl refl;
           larger = larger_with_module s.map d.scope.index recorded;
           clean = none_failed-with_module s.map d.scope.index recorded (λ e h. h);
         }
@@ -124,7 +132,7 @@ module _ (oracle : Oracle) (s : State) (d : MacroDirective) where
   derive_same written None = told_still s
   derive_same written (Some found) =
       let call : MacroCallId = derive_call oracle s d written found in
-      record { content = refl; targets = refl; imports = refl; waits = waits_alike refl refl refl refl; larger = larger_derived oracle s.map d written found call; clean = none_failed-derived oracle s.map d written found call }
+      record { content = refl; targets = refl; imports = refl; waits = waits_alike refl refl refl refl refl; larger = larger_derived oracle s.map d written found call; clean = none_failed-derived oracle s.map d written found call }
 
   told_by_same : (kind : MacroDirectiveKind) → IsToldOf s (told_by oracle s d kind).state
   told_by_same (FnLike written) = call_same (call_answer oracle s d written)
@@ -153,8 +161,8 @@ pub record TryFootprint (s : State) (scope : ModuleId) (effect : Effect) : Type 
   pub macros : List MacroDirective
   pub expansions : List Expansion
   pub deferred : Deferrals
-  pub fewer : (at : ModuleId) → WaitsIn (waiting_with s macros expansions deferred) at → WaitsIn s at ⊎ (at ≡ scope)
-  pub foot : (depth : ℕ) → Footprint (waiting_with s macros expansions deferred) scope depth effect
+  pub fewer : (at : ModuleId) → WaitsIn (waiting_with s macros expansions deferred s.inner_calls) at → WaitsIn s at ⊎ (at ≡ scope)
+  pub foot : (depth : ℕ) → Footprint (waiting_with s macros expansions deferred s.inner_calls) scope depth effect
   pub ends : effect.tasks ≡ []
 
 module _ (oracle : Oracle) (s : State) (d : MacroDirective) (written : WrittenDerive) where
@@ -177,7 +185,7 @@ module _ (oracle : Oracle) (s : State) (d : MacroDirective) (written : WrittenDe
             | inr deferred ↦ inl (inr (inr deferred))
           ]
         ];
-        foot = λ depth. map_footprint (waiting_with s s.macros (s.expansions ++ e ∷ []) s.deferred) d.scope depth t [] refl refl refl (waits_alike refl refl refl refl)
+        foot = λ depth. map_footprint (waiting_with s s.macros (s.expansions ++ e ∷ []) s.deferred s.inner_calls) d.scope depth t [] refl refl refl (waits_alike refl refl refl refl refl)
             (larger_derived oracle s.map d written found call) (none_failed-derived oracle s.map d written found call) (λ targets own. tt) tt (λ rank low. tt);
         ends = refl;
       }
@@ -195,7 +203,7 @@ module _ (oracle : Oracle) (s : State) (d : MacroDirective) (written : WrittenDe
             | inr deferred ↦ elim (deferring_in s d.position x at deferred) [ inl old ↦ inl (inr (inr old)) | inr new ↦ inr new ]
           ]
         ];
-        foot = λ depth. map_footprint (waiting_with s s.macros s.expansions t.deferred) d.scope depth t [] refl refl refl (waits_alike refl refl refl refl)
+        foot = λ depth. map_footprint (waiting_with s s.macros s.expansions t.deferred s.inner_calls) d.scope depth t [] refl refl refl (waits_alike refl refl refl refl refl)
             (larger_shown oracle s.map d found call) (none_failed-shown oracle s.map d found call) (λ targets own. tt) tt (λ rank low. tt);
         ends = refl;
       }
@@ -215,7 +223,7 @@ module _ (oracle : Oracle) (s : State) (d : MacroDirective) (written : WrittenDe
           ]
           | inr later ↦ inl (inr later)
         ];
-        foot = λ depth. still_footprint (waiting_with s (s.macros ++ waits ∷ []) s.expansions s.deferred) d.scope depth;
+        foot = λ depth. still_footprint (waiting_with s (s.macros ++ waits ∷ []) s.expansions s.deferred s.inner_calls) d.scope depth;
         ends = refl;
       }
   try_footprint (Some found) = called_footprint found (derive_call oracle s d written found) (deferred_derive oracle found)
@@ -228,13 +236,14 @@ module _ (oracle : Oracle) (s : State) (effect : Effect) where
   pub expands_footprint : ExpansionStep oracle s effect → TurnFootprint s effect
   expands_footprint step =
       let left : List Expansion = step.before ++ step.behind in
-      let u : State = waiting_with s s.macros left s.deferred in
+      let u : State = waiting_with s s.macros left s.deferred s.inner_calls in
       record {
         scope = step.expansion.scope;
         depth = step.expansion.depth;
         macros = s.macros;
         expansions = left;
         deferred = s.deferred;
+        inner = s.inner_calls;
         waits = inr (inl (step.expansion, subst (λ es. Contains es step.expansion) (sym step.stands) (among step.before step.behind step.expansion), refl));
         fewer = λ at waits. elim waits [
           | inl macro ↦ inl macro
@@ -244,7 +253,7 @@ module _ (oracle : Oracle) (s : State) (effect : Effect) where
           ]
         ];
         foot = subst (λ e. Footprint u step.expansion.scope step.expansion.depth e) (sym step.is)
-            (expanded_footprint oracle u step.expansion.scope step.expansion.depth u step.expansion refl refl refl refl (waits_alike refl refl refl refl) (larger_refl u.map) (λ none. none) (omega arith));
+            (expanded_footprint oracle u step.expansion.scope step.expansion.depth u step.expansion refl refl refl refl (waits_alike refl refl refl refl refl) (larger_refl u.map) (λ none. none) (omega arith));
       }
 
   -- what waits leaves or stays, in a state that was told of it
@@ -263,7 +272,7 @@ module _ (oracle : Oracle) (s : State) (effect : Effect) where
     waited x h = subst (λ ds. Contains ds x) (sym stands) (beside before behind d x h)
 
     -- what waits once it was given a call
-    given_waits : (call : MacroCallId) (at : ModuleId) → WaitsIn (waiting_with s left (s.expansions ++ expansion_of d call ∷ []) s.deferred) at → WaitsIn s at
+    given_waits : (call : MacroCallId) (at : ModuleId) → WaitsIn (waiting_with s left (s.expansions ++ expansion_of d call ∷ []) s.deferred now.inner_calls) at → WaitsIn s at
     given_waits call at waits = elim waits [
       | inl macro ↦ inl (macro.0, waited macro.0 macro.1, macro.2)
       | inr later ↦ elim later [
@@ -284,7 +293,7 @@ module _ (oracle : Oracle) (s : State) (effect : Effect) where
     freeing = expanding_deferred s d.position
 
     -- what waits once they are expansions, and it was given a call
-    replaced_waits : (call : MacroCallId) (at : ModuleId) → WaitsIn (waiting_with s left (freeing.expansions ++ expansion_of d call ∷ []) freeing.deferred) at → WaitsIn s at
+    replaced_waits : (call : MacroCallId) (at : ModuleId) → WaitsIn (waiting_with s left (freeing.expansions ++ expansion_of d call ∷ []) freeing.deferred now.inner_calls) at → WaitsIn s at
     replaced_waits call at waits = elim waits [
       | inl macro ↦ inl (macro.0, waited macro.0 macro.1, macro.2)
       | inr later ↦ elim later [
@@ -306,14 +315,15 @@ module _ (oracle : Oracle) (s : State) (effect : Effect) where
       macros = s.macros;
       expansions = s.expansions;
       deferred = s.deferred;
+      inner = now.inner_calls;
       waits = here;
       fewer = λ at waits. waits;
-      foot = subst (λ e. Footprint s d.scope d.depth e) (sym does)
-          (map_footprint s d.scope d.depth now [] same.content same.targets same.imports same.waits same.larger same.clean (λ targets own. tt) tt (λ rank low. tt));
+      foot = subst (λ e. Footprint (record s { inner_calls = now.inner_calls }) d.scope d.depth e) (sym does)
+          (map_footprint (record s { inner_calls = now.inner_calls }) d.scope d.depth now [] same.content same.targets same.imports same.waits same.larger same.clean (λ targets own. tt) tt (λ rank low. tt));
     }
     turn (GivesCall call) does =
         let more : List Expansion = s.expansions ++ expansion_of d call ∷ [] in
-        let u : State = waiting_with s left more s.deferred in
+        let u : State = waiting_with s left more s.deferred now.inner_calls in
         let t : State = given_state now before d behind call in
         let made : List (InFile FileAstId × MacroCallId) = (d.position, call) ∷ [] in
         record {
@@ -322,16 +332,17 @@ module _ (oracle : Oracle) (s : State) (effect : Effect) where
           macros = left;
           expansions = more;
           deferred = s.deferred;
+          inner = now.inner_calls;
           waits = here;
           fewer = given_waits call;
           foot = subst (λ e. Footprint u d.scope d.depth e) (sym does)
-              (map_footprint u d.scope d.depth t [] same.content same.targets same.imports (waits_alike refl (ap (λ es. es ++ expansion_of d call ∷ []) same.waits.expansions) same.waits.deferred same.waits.is_proc_macro)
+              (map_footprint u d.scope d.depth t [] same.content same.targets same.imports (waits_alike refl (ap (λ es. es ++ expansion_of d call ∷ []) same.waits.expansions) same.waits.deferred same.waits.is_proc_macro refl)
               (larger_trans s.map now.map t.map same.larger (larger_invoking d.scope.index made now.map))
               (λ none. none_failed-invoking d.scope.index made now.map (same.clean none)) (λ targets own. tt) tt (λ rank low. tt));
         }
     turn (GivesDerive call) does =
         let more : List Expansion = s.expansions ++ expansion_of d call ∷ [] in
-        let u : State = waiting_with s left more s.deferred in
+        let u : State = waiting_with s left more s.deferred now.inner_calls in
         let t : State = expanding now left d call in
         record {
           scope = d.scope;
@@ -339,15 +350,16 @@ module _ (oracle : Oracle) (s : State) (effect : Effect) where
           macros = left;
           expansions = more;
           deferred = s.deferred;
+          inner = now.inner_calls;
           waits = here;
           fewer = given_waits call;
           foot = subst (λ e. Footprint u d.scope d.depth e) (sym does)
-              (map_footprint u d.scope d.depth t [] same.content same.targets same.imports (waits_alike refl (ap (λ es. es ++ expansion_of d call ∷ []) same.waits.expansions) same.waits.deferred same.waits.is_proc_macro)
+              (map_footprint u d.scope d.depth t [] same.content same.targets same.imports (waits_alike refl (ap (λ es. es ++ expansion_of d call ∷ []) same.waits.expansions) same.waits.deferred same.waits.is_proc_macro refl)
               same.larger same.clean (λ targets own. tt) tt (λ rank low. tt));
         }
     turn (Replaces call) does =
         let more : List Expansion = freeing.expansions ++ expansion_of d call ∷ [] in
-        let u : State = waiting_with s left more freeing.deferred in
+        let u : State = waiting_with s left more freeing.deferred now.inner_calls in
         let t : State = replaced_state now before d behind call in
         let made : List (InFile FileAstId × MacroCallId) = (d.position, call) ∷ [] in
         let told_freed : (expanding_deferred now d.position).expansions ≡ freeing.expansions =
@@ -358,16 +370,17 @@ module _ (oracle : Oracle) (s : State) (effect : Effect) where
           macros = left;
           expansions = more;
           deferred = freeing.deferred;
+          inner = now.inner_calls;
           waits = here;
           fewer = replaced_waits call;
           foot = subst (λ e. Footprint u d.scope d.depth e) (sym does)
               (map_footprint u d.scope d.depth t [] same.content same.targets same.imports
-              (waits_alike refl (ap (λ es. es ++ expansion_of d call ∷ []) told_freed) (ap (λ es. swap_remove_entry (position_eq d.position) es) same.waits.deferred) same.waits.is_proc_macro)
+              (waits_alike refl (ap (λ es. es ++ expansion_of d call ∷ []) told_freed) (ap (λ es. swap_remove_entry (position_eq d.position) es) same.waits.deferred) same.waits.is_proc_macro refl)
               (larger_trans s.map now.map t.map same.larger (larger_invoking d.scope.index made now.map))
               (λ none. none_failed-invoking d.scope.index made now.map (same.clean none)) (λ targets own. tt) tt (λ rank low. tt));
         }
     turn (WalksItem derives written) does =
-        let u : State = waiting_with s left s.expansions s.deferred in
+        let u : State = waiting_with s left s.expansions s.deferred now.inner_calls in
         let t : State = walked_state now before d behind written in
         let site : Site = item_site now d written in
         record {
@@ -376,10 +389,11 @@ module _ (oracle : Oracle) (s : State) (effect : Effect) where
           macros = left;
           expansions = s.expansions;
           deferred = s.deferred;
+          inner = now.inner_calls;
           waits = here;
           fewer = λ at waits. elim waits [ inl macro ↦ inl (macro.0, waited macro.0 macro.1, macro.2) | inr later ↦ inr later ];
           foot = subst (λ e. Footprint u d.scope d.depth e) (sym does)
-              (map_footprint u d.scope d.depth t (tries d derives ++ Visit site written.item ∷ []) same.content same.targets same.imports (waits_alike refl same.waits.expansions same.waits.deferred same.waits.is_proc_macro) same.larger same.clean
+              (map_footprint u d.scope d.depth t (tries d derives ++ Visit site written.item ∷ []) same.content same.targets same.imports (waits_alike refl same.waits.expansions same.waits.deferred same.waits.is_proc_macro refl) same.larger same.clean
               (λ targets own. own_both t.map targets (tries d derives) (Visit site written.item ∷ []) (tries_own t.map targets d own derives) ((own, tt), tt))
               (plain_both (tries d derives) (Visit site written.item ∷ []) (tries_plain d derives) (tt, tt))
               (λ rank low. lie_both rank (tries d derives) (Visit site written.item ∷ []) (tries_lie rank d derives) (low, tt)));

@@ -4,6 +4,7 @@ use Rattle.tree_ids.specs.declared.ids.FileAstId.{FileAstId}
 use Rattle.tree_ids.specs.declared.ids.InFile.{InFile}
 use Rattle.def_ids.specs.declared.ids.ModuleId.{ModuleId}
 use Rattle.def_rules.specs.declared.deferred.DeferredDerive.{DeferredDerive}
+use Rattle.def_rules.specs.declared.inner_calls.InnerCall.{InnerCall}
 use Rattle.def_rules.specs.Calls.{deepest}
 use Rattle.def_modules.specs.Maps.{facts_in}
 use Rattle.def_modules.specs.MapState.{MapState}
@@ -46,6 +47,7 @@ pub record Queues (rank : ℕ) (s t : State) : Type 0 where
 -- the same waits in two states, of crates of one kind
 pub record WaitsAlike (s t : State) : Type 0 where
   pub macros : t.macros ≡ s.macros
+  pub inner_calls : t.inner_calls ≡ s.inner_calls
   pub expansions : t.expansions ≡ s.expansions
   pub deferred : t.deferred ≡ s.deferred
   pub is_proc_macro : t.is_proc_macro ≡ s.is_proc_macro
@@ -78,11 +80,12 @@ deferred_work deferred = sum_by (λ (e : InFile FileAstId × List DeferredDerive
 abbrev pub waiting_work : State → ℕ
 waiting_work s = sum_by macro_work s.macros + sum_by (λ (e : Expansion). expansion_work e.depth) s.expansions + deferred_work s.deferred
 
--- only calls were recorded, which no path reads, and what waits may stand in another order
+-- only calls were recorded, which no path reads, or are to be, and what waits may stand in another order
 pub record OnlyInvokes (s t : State) : Type 0 where
   pub map : MapState
   pub macros : List MacroDirective
-  pub is : t ≡ record s { map = map; macros = macros }
+  pub inner_calls : List InnerCall
+  pub is : t ≡ record s { map = map; macros = macros; inner_calls = inner_calls }
   pub order : IsPermutation s.macros macros
   pub facts : facts_in map ≡ facts_in s.map
   pub krate : map.krate ≡ s.map.krate

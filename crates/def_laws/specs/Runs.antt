@@ -41,10 +41,11 @@ pub record CollectsCalmly (oracle : Oracle) (tasks : List Task) (s : State) (tas
   pub collects : Collects oracle tasks s tasks' t
   pub calm : LeaveOf [] collects.runs
 
--- nor has a macro or expansion its turn: no expansion comes or goes, what is deferred weighs no more, and what is queued ranks lower than what is visited
+-- nor has a macro or expansion its turn: no expansion comes or goes, nor a call that is to be recorded, what is deferred weighs no more, and what is queued ranks lower than what is visited
 pub record Leads (oracle : Oracle) (tasks : List Task) (s : State) (tasks' : List Task) (t : State) : Type 0 where
   pub collects : Collects oracle tasks s tasks' t
   pub calm : LeaveOf [] collects.runs
+  pub inner_calls : t.inner_calls ≡ s.inner_calls
   pub expansions : t.expansions ≡ s.expansions
   pub deferred : deferred_work t.deferred ≤ deferred_work s.deferred
   pub queues : (rank : ℕ) → AreVisitsBelow rank tasks → AreVisitsBelow rank tasks' × Queues rank s t
