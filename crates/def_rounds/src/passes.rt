@@ -8,6 +8,7 @@ ghost use Rattle.def_rounds.specs.Rounds.{GetsStuck, GivesUp, MakesRound};
 ghost use Rattle.def_rules.specs.Fallback.{IsStuck};
 ghost use Rattle.def_rules.specs.Recording.{NoneReady};
 ghost use Rattle.def_rules.specs.Settled.{IsNoAttribute};
+ghost use Rattle.def_rules.specs.State.{IsBare};
 ghost use Rattle.def_rules.specs.Waiting.{MacroDirective};
 
 use def_interner::Interner;
@@ -27,7 +28,7 @@ pub trait Passes {
     /// Records each import that is ready, in a pass over all of them. Answers whether another pass may
     /// record one.
     fn resolve_imports(&mut self, session: &Interner) -> Result<bool, AllocError>
-        requires { (state self.old session.now).expansions ≡ [] }
+        requires { IsBare (state self.old session.now) }
         ensures asks { OnOk result (oracle self.new ≡ oracle self.old) }
         ensures run { OnOk result (Leads (oracle self.old)
             [] (state self.old session.now) [] (state self.new session.now)) }
@@ -42,35 +43,35 @@ pub trait Passes {
     /// Records imports until none wakes: each is tried once, and again where a name changed that its
     /// path reads.
     fn record_woken(&mut self, session: &Interner) -> Result<(), AllocError>
-        requires { (state self.old session.now).expansions ≡ [] }
+        requires { IsBare (state self.old session.now) }
         ensures asks { OnOk result (oracle self.new ≡ oracle self.old) }
         ensures run { OnOk result (Leads (oracle self.old)
             [] (state self.old session.now) [] (state self.new session.now)) }
         ensures turns { OnOk result (turns_left (state self.new session.now) ≤ turns_left (state self.old session.now)) };
 
-    /// Lets each macro that waits have its turn, in order, and then walks what was expanded. Answers
-    /// whether one left.
+    /// Lets each macro that waits have its turn, in order, records the calls that were made for their
+    /// arguments, and then walks what was expanded. Answers whether one left.
     fn resolve_macros(&mut self, session: &mut Interner) -> Result<bool, AllocError>
         requires sound { IsSoundWith [] (state self.old session.old) }
         requires ready { NoneReady (oracle self.old) (state self.old session.old) }
-        requires bare { (state self.old session.old).expansions ≡ [] }
+        requires bare { IsBare (state self.old session.old) }
         ensures asks { OnOk result (oracle self.new ≡ oracle self.old) }
         ensures round { IfOk result (λ moved. moved ≡ true →
             MakesRound (oracle self.old) (state self.old session.old) (state self.new session.new)) }
         ensures stuck { IfOk result (λ moved. moved ≡ false →
             GetsStuck (oracle self.old) (state self.old session.old) (state self.new session.new)) }
-        ensures expanded { OnOk result ((state self.new session.new).expansions ≡ []) }
+        ensures bare { OnOk result (IsBare (state self.new session.new)) }
         ensures session { AddsLocations (session_of session.old) (session_of session.new) };
 
     /// Gives up the attribute of the first item that waits for one, and walks the item without it.
     /// Answers whether there was one.
     fn fall_back(&mut self, session: &mut Interner) -> Result<bool, AllocError>
         requires stuck { IsStuck (oracle self.old) (state self.old session.old) }
-        requires bare { (state self.old session.old).expansions ≡ [] }
+        requires bare { IsBare (state self.old session.old) }
         ensures asks { OnOk result (oracle self.new ≡ oracle self.old) }
         ensures given_up { IfOk result (λ moved. moved ≡ true →
             GivesUp (oracle self.old) (state self.old session.old) (state self.new session.new)) }
-        ensures expanded { OnOk result ((state self.new session.new).expansions ≡ []) }
+        ensures bare { OnOk result (IsBare (state self.new session.new)) }
         ensures none { IfOk result (λ moved. moved ≡ false →
             (d : MacroDirective) → Contains (state self.new session.new).macros d → IsNoAttribute d.kind) }
         ensures same { IfOk result (λ moved. moved ≡ false →

@@ -6,6 +6,7 @@ ghost use Rattle.def_laws.specs.Sound.{IsSoundWith};
 ghost use Rattle.def_laws.specs.Turns.{turns_left};
 ghost use Rattle.def_rounds.specs.Rounds.{Ends};
 ghost use Rattle.def_rules.specs.Recording.{NoneReady};
+ghost use Rattle.def_rules.specs.State.{IsBare};
 
 use crate::passes::Passes;
 use def_interner::Interner;
@@ -26,12 +27,12 @@ pub fn resolution_loop<P: Passes>(
     session: &mut Interner,
 ) -> Result<bool, AllocError>
     requires sound { IsSoundWith [] (P.state passes.old session.old) }
-    requires bare { (P.state passes.old session.old).expansions ≡ [] }
+    requires bare { IsBare (P.state passes.old session.old) }
     ensures asks { OnOk result (P.oracle passes.new ≡ P.oracle passes.old) }
     ensures ends { IfOk result (λ limit_met. Ends (P.oracle passes.old)
         [] (P.state passes.old session.old) limit_met (P.state passes.new session.new)) }
     ensures sound { OnOk result (IsSoundWith [] (P.state passes.new session.new)) }
-    ensures expanded { OnOk result ((P.state passes.new session.new).expansions ≡ []) }
+    ensures bare { OnOk result (IsBare (P.state passes.new session.new)) }
     ensures session { AddsLocations (session_of session.old) (session_of session.new) }
 {
     let mut rounds = 0u32;
@@ -50,7 +51,7 @@ pub fn resolution_loop<P: Passes>(
 
 /// Records imports until none is ready. On `Err` nothing but safety is promised.
 fn import_passes<P: Passes>(passes: &mut P, session: &Interner) -> Result<(), AllocError>
-    requires { (P.state passes.old session.now).expansions ≡ [] }
+    requires { IsBare (P.state passes.old session.now) }
     ensures asks { OnOk result (P.oracle passes.new ≡ P.oracle passes.old) }
     ensures run { OnOk result (Leads (P.oracle passes.old)
         [] (P.state passes.old session.now) [] (P.state passes.new session.now)) }
@@ -67,7 +68,7 @@ fn import_passes<P: Passes>(passes: &mut P, session: &Interner) -> Result<(), Al
 /// first, also those that become ready by what it recorded. Answers whether one was recorded. On `Err` nothing
 /// but safety is promised.
 fn import_pass<P: Passes>(passes: &mut P, session: &Interner, made: u32) -> Result<bool, AllocError>
-    requires { (P.state passes.old session.now).expansions ≡ [] }
+    requires { IsBare (P.state passes.old session.now) }
     ensures asks { OnOk result (P.oracle passes.new ≡ P.oracle passes.old) }
     ensures run { OnOk result (Leads (P.oracle passes.old)
         [] (P.state passes.old session.now) [] (P.state passes.new session.now)) }

@@ -1,6 +1,6 @@
 use Rattle.std.proofs.Common.{[], arith, subst, true≢false, ◌∙◌}
 use Rattle.def_laws.specs.Runs.{Leads}
-use Rattle.def_laws.proofs.StepsLaws.{leads_trans}
+use Rattle.def_laws.proofs.StepsLaws.{leads_bare, leads_trans}
 use Rattle.def_rounds.proofs.rounds.import_pass.Goals as goal
 
 pub returns-then-not-branch-clause-settled : goal.returns-then-not-branch-clause-settled
@@ -24,4 +24,4 @@ returns-clause-fewer g c = λ _.
     omega (arith, less, most)
 
 pub record_woken-requires : goal.record_woken-requires
-record_woken-requires g c = c.in_ok-resolve_imports.ensures.run.expansions ∙ c.requires
+record_woken-requires g c = leads_bare c.in_ok-resolve_imports.ensures.run c.requires

@@ -1,6 +1,6 @@
 use Rattle.std.proofs.Common.{[], refl, subst, ◌∙◌}
 use Rattle.def_laws.specs.Runs.{Leads}
-use Rattle.def_laws.proofs.StepsLaws.{leads_refl, leads_trans}
+use Rattle.def_laws.proofs.StepsLaws.{leads_bare, leads_refl, leads_trans}
 use Rattle.def_rules.specs.Recording.{NoneReady}
 use Rattle.def_rounds.proofs.rounds.import_passes.Goals as goal
 
@@ -29,4 +29,4 @@ returns-clause-settled g c =
     subst (λ o. NoneReady o (g.P.Passes.state c.import_pass.new.passes c.args.session.now)) c.passes.invariant.asks (c.in_ok-import_pass.ensures.settled c.if-branch.false)
 
 pub import_pass-requires : goal.import_pass-requires
-import_pass-requires g c = c.passes.invariant.run.expansions ∙ c.requires
+import_pass-requires g c = leads_bare c.passes.invariant.run c.requires

@@ -53,7 +53,7 @@ rounds-preserved-else-rounds-gt-FIXED_POINT_LIMIT g c =
       made = made_round c.rounds.invariant.made c.rounds.invariant.asks c.in_ok-import_passes.ensures.run c.in_ok-import_passes.ensures.asks round;
       few = omega (arith, few);
       sound = collects_sound round.run (collects_sound c.in_ok-import_passes.ensures.run.collects c.rounds.invariant.sound);
-      bare = c.in_ok-resolve_macros.ensures.expanded;
+      bare = c.in_ok-resolve_macros.ensures.bare;
       adds = adds_trans _ _ _ c.rounds.invariant.adds c.resolve_macros.ensures.session;
     }
 
@@ -95,6 +95,6 @@ rounds-preserved g c =
       made = made_given c.rounds.invariant.made c.rounds.invariant.asks c.in_ok-import_passes.ensures.run c.in_ok-import_passes.ensures.asks c.in_ok-resolve_macros.ensures.asks stuck given;
       few = c.rounds.invariant.few;
       sound = collects_sound given.run (collects_sound stuck.run (collects_sound c.in_ok-import_passes.ensures.run.collects c.rounds.invariant.sound));
-      bare = c.in_ok-fall_back.ensures.expanded;
+      bare = c.in_ok-fall_back.ensures.bare;
       adds = adds_twice _ _ _ _ c.rounds.invariant.adds c.resolve_macros.ensures.session c.fall_back.ensures.session;
     }

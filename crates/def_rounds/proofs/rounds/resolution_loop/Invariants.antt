@@ -3,6 +3,7 @@ use Rattle.def_interner.specs.Session.{AddsLocations, session_of}
 use Rattle.def_laws.specs.Depths.{waiting_work}
 use Rattle.def_laws.specs.Sound.{IsSoundWith}
 use Rattle.def_rules.specs.Rounds.{round_limit}
+use Rattle.def_rules.specs.State.{IsBare}
 use Rattle.def_rounds.specs.Rounds.{HasMade}
 use Rattle.def_rounds.proofs.rounds.resolution_loop.Given as goal
 
@@ -14,7 +15,7 @@ invariant-rounds g l =
       made : HasMade (g.P.Passes.oracle l.fn.passes) (state l.fn.passes l.fn.session) l.rounds (state l.passes l.session);
       few : l.rounds ≤ round_limit;
       sound : IsSoundWith [] (state l.passes l.session);
-      bare : (state l.passes l.session).expansions ≡ [];
+      bare : IsBare (state l.passes l.session);
       adds : AddsLocations (session_of l.fn.session) (session_of l.session);
     }
 
