@@ -23,7 +23,7 @@ use Rattle.def_rules.specs.Waiting.{Attr, Expansion, MacroDirective}
 use Rattle.def_rules.specs.Steps.{Reaches, join, one, performs}
 use Rattle.def_runs.proofs.Called.{declared, expansion, foo, s, t}
 use Rattle.def_runs.proofs.Exported.{marked_with}
-use Rattle.def_runs.proofs.RowLemmas.{answer_of, answers_without, asked_in_turn, expansion_taken, macro_asked, no_targets, none_leave_in_turn, quiet_without}
+use Rattle.def_runs.proofs.RowLemmas.{answer_of, answers_without, are_bare, asked_in_turn, expansion_taken, macro_asked, no_targets, none_leave_in_turn, quiet_without}
 use Rattle.def_runs.proofs.Rows.{crate_of, knowing, module_at, no_session, position, session_with, unchanged}
 use Rattle.def_runs.proofs.Textual.{foo_loc}
 use Rattle.def_runs.proofs.Trees.{items, node, root_file, tree_with, unit_struct}
@@ -115,7 +115,7 @@ it_is_given = (refl, refl, refl)
 abbrev expanded : (m : Moment) × Reaches setting.oracle asked_to m
 expanded = (
   _,
-  join (expansion_taken setting.oracle asked_to pending [] refl refl)
+  join (expansion_taken setting.oracle asked_to pending [] refl refl refl)
       (join (one (performs _ _ _ refl refl refl))
       (join (one (performs _ _ _ refl (session, unchanged session, _, refl, (session, unchanged session, (0, refl, refl))) refl))
       (join (one (performs _ _ _ refl refl refl))
@@ -136,7 +136,7 @@ answered = answer_of setting.oracle last.state nothing_left
 
 -- where it is asked, nothing else moves
 quiet : IsQuiet setting.oracle walked_to.state
-quiet = quiet_without setting.oracle walked_to.state refl refl (λ source. refl)
+quiet = quiet_without setting.oracle walked_to.state (are_bare refl refl) refl (λ source. refl)
 
 -- so it leaves in turn
 in_turn : LeavesInTurn setting.oracle (start setting no_session) last ran
@@ -145,7 +145,7 @@ in_turn = parts (none_leave_in_turn walked.1 refl) (parts (asked_in_turn setting
 
 -- what is answered of this crate
 attribute_answers : Answers setting no_session session answered
-attribute_answers = answers_without setting no_session last nothing_left ran in_turn refl refl refl refl refl shown (λ source. refl) refl
+attribute_answers = answers_without setting no_session last nothing_left ran in_turn refl (are_bare refl refl) refl refl refl shown (λ source. refl) refl
 
 -- S is bound, and T is not
 s_is_bound : (answered.content.binding (module_at 0) s Types ≡ Some (declared 0)) × (answered.content.binding (module_at 0) s Values ≡ Some (declared 0))

@@ -31,7 +31,7 @@ use Rattle.def_rules.specs.Report.{Answer, IsOutcome}
 use Rattle.def_rules.specs.Start.{start}
 use Rattle.def_rules.specs.State.{Setting, Moment}
 use Rattle.def_rules.specs.Steps.{Reaches, join, one, performs}
-use Rattle.def_runs.proofs.RowLemmas.{answer_of, answers_without, no_targets, none_leave_in_turn}
+use Rattle.def_runs.proofs.RowLemmas.{answer_of, answers_without, are_bare, no_targets, none_leave_in_turn}
 use Rattle.def_runs.proofs.Rows.{crate_of, knowing, loc, module_at, no_session, position, session_with, unchanged}
 use Rattle.def_runs.proofs.Trees.{items, named, node, tree_with, unit_struct}
 use Rattle.def_runs.proofs.Vectors.{nothing_left}
@@ -133,7 +133,7 @@ in_turn = none_leave_in_turn walked.1 refl
 
 -- what is answered of this crate
 called_answers : Answers setting no_session session answered
-called_answers = answers_without setting no_session last nothing_left walked.1 in_turn refl refl refl refl refl shown (λ source. refl) refl
+called_answers = answers_without setting no_session last nothing_left walked.1 in_turn refl (are_bare refl refl) refl refl refl shown (λ source. refl) refl
 
 -- struct 0, of the root, as its expansion says
 abbrev pub declared : ℕ → Binding Visibility

@@ -27,7 +27,7 @@ use Rattle.def_rules.specs.State.{Setting, Moment, Import, ImportDirective, orde
 use Rattle.def_rules.specs.Steps.{Reaches, join, one, performs}
 use Rattle.def_rules.specs.Targets.{leaves_out, target_of}
 use Rattle.def_runs.proofs.OutcomeLemmas.{edges_listed, listed, targets_listed}
-use Rattle.def_runs.proofs.RowLemmas.{answer_of, answers, copied_along, import_recorded, none_leave_in_turn, settled_by_test}
+use Rattle.def_runs.proofs.RowLemmas.{answer_of, answers, are_bare, copied_along, import_recorded, none_leave_in_turn, settled_by_test}
 use Rattle.def_runs.proofs.Rows.{bound, crate_of, glob_of_use, grown, import_of, loc, module_at, module_in_root, no_session, not_recorded, recorded_from, session_with, unchanged}
 use Rattle.def_runs.proofs.TableLemmas.{closed_by_test, coherent_by_test, raised_by_test}
 use Rattle.def_runs.proofs.Tables.{Bound, IsTable, Leaving}
@@ -117,7 +117,7 @@ edge importer number = record { importer = module_at importer; vis = Public; glo
 abbrev first : (m : Moment) × Reaches setting.oracle walked_to m
 first = (
   _,
-  join (import_recorded setting.oracle walked_to (not_recorded (waiting 1 1 0 b)) (not_recorded (waiting 2 4 1 a) ∷ []) refl refl refl refl)
+  join (import_recorded setting.oracle walked_to (not_recorded (waiting 1 1 0 b)) (not_recorded (waiting 2 4 1 a) ∷ []) refl (are_bare refl refl) refl refl)
       (join (one (performs _ _ _ refl refl refl))
       (join (one (performs _ _ _ refl refl refl))
       (one (performs _ _ _ refl refl refl)))),
@@ -134,7 +134,7 @@ indeterminate at item number name = recorded_from (record { types = true; values
 abbrev second : (m : Moment) × Reaches setting.oracle first_to m
 second = (
   _,
-  join (import_recorded setting.oracle first_to (not_recorded (waiting 2 4 1 a)) (indeterminate 1 1 0 b ∷ []) refl refl refl refl)
+  join (import_recorded setting.oracle first_to (not_recorded (waiting 2 4 1 a)) (indeterminate 1 1 0 b ∷ []) refl (are_bare refl refl) refl refl)
       (join (one (performs _ _ _ refl refl refl))
       (join (one (performs _ _ _ refl refl refl))
       (join (one (performs _ _ _ refl refl refl))
@@ -214,7 +214,7 @@ in_turn = none_leave_in_turn ran refl
 -- what is answered of this crate
 cycle_answers : Answers setting no_session session answered
 cycle_answers =
-    answers setting no_session last outcome ran in_turn refl refl refl refl refl shown
+    answers setting no_session last outcome ran in_turn refl (are_bare refl refl) refl refl refl shown
     (closed_by_test rows leaving last.state.content is_table (order last.state) (leaves_out last.state) refl)
     (coherent_by_test rows leaving last.state.content is_table (order last.state) (leaves_out last.state) (target_of last.state.map.id last.state.targets) refl)
     (raised_by_test rows leaving last.state.content is_table (order last.state) refl)

@@ -29,7 +29,7 @@ use Rattle.def_rules.specs.Waiting.{Attr, Expansion, MacroDirective}
 use Rattle.def_rules.specs.Steps.{Reaches, join, one, performs}
 use Rattle.def_runs.proofs.Called.{foo, of_foo, t}
 use Rattle.def_runs.proofs.Exported.{marked_with}
-use Rattle.def_runs.proofs.RowLemmas.{answer_of, answers_without, asked_in_turn, expansion_taken, macro_asked, no_targets, none_leave_in_turn, quiet_without}
+use Rattle.def_runs.proofs.RowLemmas.{answer_of, answers_without, are_bare, asked_in_turn, expansion_taken, macro_asked, no_targets, none_leave_in_turn, quiet_without}
 use Rattle.def_runs.proofs.Rows.{crate_of, knowing, loc, module_at, no_session, position, session_with, unchanged}
 use Rattle.def_runs.proofs.Textual.{foo_loc}
 use Rattle.def_runs.proofs.Trees.{items, named, node, root_file, tree_with, unit_struct}
@@ -153,7 +153,7 @@ it_is_given = (refl, refl, refl)
 
 -- it is walked
 abbrev expanded : (m : Moment) × Reaches setting.oracle tried_to m
-expanded = (_, join (expansion_taken setting.oracle tried_to pending [] refl refl) (one (performs _ _ _ refl refl refl)))
+expanded = (_, join (expansion_taken setting.oracle tried_to pending [] refl refl refl) (one (performs _ _ _ refl refl refl)))
 
 abbrev last : Moment
 last = expanded.0
@@ -169,7 +169,7 @@ answered = answer_of setting.oracle last.state nothing_left
 
 -- where it is asked, nothing else moves
 quiet : IsQuiet setting.oracle walked_to.state
-quiet = quiet_without setting.oracle walked_to.state refl refl (λ source. refl)
+quiet = quiet_without setting.oracle walked_to.state (are_bare refl refl) refl (λ source. refl)
 
 -- so it leaves in turn
 in_turn : LeavesInTurn setting.oracle (start setting no_session) last ran
@@ -178,7 +178,7 @@ in_turn = parts (none_leave_in_turn walked.1 refl) (parts (asked_in_turn setting
 
 -- what is answered of this crate
 derived_answers : Answers setting no_session session answered
-derived_answers = answers_without setting no_session last nothing_left ran in_turn refl refl refl refl refl shown (λ source. refl) refl
+derived_answers = answers_without setting no_session last nothing_left ran in_turn refl (are_bare refl refl) refl refl refl shown (λ source. refl) refl
 
 -- both names are bound, and nothing else is
 names_of_root : answered.content.names (module_at 0) ≡ derive ∷ t ∷ []

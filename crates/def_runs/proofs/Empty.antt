@@ -11,7 +11,7 @@ use Rattle.def_rules.specs.Report.{Answer, IsOutcome}
 use Rattle.def_rules.specs.Start.{start}
 use Rattle.def_rules.specs.State.{Setting, Moment}
 use Rattle.def_rules.specs.Steps.{Reaches, one, performs}
-use Rattle.def_runs.proofs.RowLemmas.{answer_of, answers_without, no_targets, none_leave_in_turn}
+use Rattle.def_runs.proofs.RowLemmas.{answer_of, answers_without, are_bare, no_targets, none_leave_in_turn}
 use Rattle.def_runs.proofs.Rows.{crate_of, no_session}
 use Rattle.def_runs.proofs.Trees.{tree_with}
 use Rattle.def_runs.proofs.Vectors.{nothing_left}
@@ -45,7 +45,7 @@ in_turn = none_leave_in_turn ran.1 refl
 
 -- what is answered of a crate without items
 empty_answers : Answers setting no_session no_session answered
-empty_answers = answers_without setting no_session last nothing_left ran.1 in_turn refl refl refl refl refl shown (λ source. refl) refl
+empty_answers = answers_without setting no_session last nothing_left ran.1 in_turn refl (are_bare refl refl) refl refl refl shown (λ source. refl) refl
 
 -- it is one module, the crate's root, with nothing in it
 one_module : answered.map.modules ≡ empty_module None CrateRoot Public ∷ []

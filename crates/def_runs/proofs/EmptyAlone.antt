@@ -14,10 +14,10 @@ use Rattle.def_rules.specs.Report.{Answer, import_report, macro_report, marked, 
 use Rattle.def_laws.proofs.CensoredLaws.{uncensored_along}
 use Rattle.def_rules.specs.Start.{first_site, start}
 use Rattle.def_rules.specs.State.{Site, State, Effect, Enter, Moment, after, entered, only}
-use Rattle.def_rules.specs.Steps.{Does, Step, performs, asks, copies, expands, rearranges, records, falls_back, reorders}
+use Rattle.def_rules.specs.Steps.{Does, Step, performs, asks, copies, notes, expands, rearranges, records, falls_back, reorders}
 use Rattle.def_runs.proofs.Empty.{setting}
 use Rattle.def_runs.proofs.NoRounds.{not_over_the_limit}
-use Rattle.def_runs.proofs.RowLemmas.{NoneWaits, none_asked, none_given_up, none_recorded, none_taken, none_waits_rearranged, none_waits_reordered}
+use Rattle.def_runs.proofs.RowLemmas.{NoneWaits, none_asked, none_given_up, none_noted, none_recorded, none_taken, none_waits_rearranged, none_waits_reordered}
 use Rattle.def_runs.proofs.Rows.{no_session}
 
 -- where the items of the root stand
@@ -69,10 +69,11 @@ bare_step a b (reorders macros same is) bare = subst IsBareAt (sym is) (record {
 bare_step a b (falls_back effect idle step is) bare = absurd (none_given_up setting.oracle a.state effect bare.state.waits.1 step)
 bare_step a b (records effect idle step is) bare = absurd (none_recorded setting.oracle a.state effect bare.state.waits.0 step)
 bare_step a b (asks effect idle step is) bare = absurd (none_asked setting.oracle a.state effect bare.state.waits.1 step)
+bare_step a b (notes idle is) bare = subst IsBareAt (sym (is ∙ none_noted a idle bare.state.waits.4)) bare
 bare_step a b (expands effect idle step is) bare = absurd (none_taken setting.oracle a.state effect bare.state.waits.2 step)
 
 begins : IsBareAt (start setting no_session)
-begins = record { tasks = inl refl; state = record { map = refl; content = refl; waits = (refl, refl, refl, refl); diagnostics = refl } }
+begins = record { tasks = inl refl; state = record { map = refl; content = refl; waits = (refl, refl, refl, refl, refl); diagnostics = refl } }
 
 module _ (after : Session) (answer : Answer) (answers : Answers setting no_session after answer) where
   ends : IsBare answers.run.end.state

@@ -23,6 +23,7 @@ use Rattle.def_laws.proofs.TurnsLaws.{tries_footprint}
 use Rattle.def_laws.proofs.StaysLaws.{explicit_stays_along}
 use Rattle.def_rules.specs.declared.deferred.DeferredDerive.{DeferredDerive}
 use Rattle.def_rules.specs.declared.diagnostics.DefDiagnostic.{DefDiagnostic}
+use Rattle.def_rules.specs.declared.inner_calls.InnerCall.{InnerCall}
 use Rattle.def_rules.specs.declared.outcome.LeftImport.{LeftImport}
 use Rattle.def_rules.specs.Directives.{ExpansionStep, GivesCall, GivesDerive, WalksItem, told}
 use Rattle.def_rules.specs.Headline.{Answers, Run}
@@ -34,7 +35,7 @@ use Rattle.def_rules.specs.ProcMacros.{taken_out, takes_out}
 use Rattle.def_rules.specs.Targets.{leaves_out}
 use Rattle.def_rules.specs.State.{Setting, State, Effect, Task, Enter, Visit, Put, Bring, AddEdge, TakeOut, Moment, Import, ImportDirective, Recorded, TryDerive}
 use Rattle.def_rules.specs.Waiting.{Deferrals, MacroDirective, WrittenAttr, WrittenDerive}
-use Rattle.def_rules.specs.Steps.{Does, Reaches, Step, asks, copies, event_of, expands, performs, rearranges, records, falls_back, reorders}
+use Rattle.def_rules.specs.Steps.{Does, Reaches, Step, asks, copies, event_of, notes, expands, performs, rearranges, records, falls_back, reorders}
 use Rattle.def_runs.proofs.Plain as plain
 use Rattle.def_runs.proofs.RowLemmas.{none_recorded_unready, none_taken}
 use Rattle.def_runs.proofs.Rows.{no_session, not_recorded}
@@ -83,9 +84,13 @@ no_derive_is_left_deferred : (w : Setting) (before after : Session) (answer : An
     → answers.run.end.state.deferred ≡ (position, derives) ∷ others → ⊥
 no_derive_is_left_deferred w before after answer answers unmet position derives others left = let none = (answers.settled unmet).deferred in cc
 
+-- nor a call that is still to be recorded
+no_call_is_left_unrecorded : (w : Setting) (before : Session) (run : Run w before) (call : InnerCall) (others : List InnerCall) → run.end.state.inner_calls ≡ call ∷ others → ⊥
+no_call_is_left_unrecorded w before run call others left = let none = run.bare.inner_calls in cc
+
 -- nor an expansion that is still to be walked or dropped
 no_expansion_is_left : (w : Setting) (before after : Session) (answer : Answer) (answers : Answers w before after answer) (effect : Effect) → ExpansionStep w.oracle answers.run.end.state effect → ⊥
-no_expansion_is_left w before after answer answers effect = none_taken w.oracle answers.run.end.state effect answers.run.expanded
+no_expansion_is_left w before after answer answers effect = none_taken w.oracle answers.run.end.state effect answers.run.bare.expansions
 
 -- Diagnostics
 
@@ -193,5 +198,6 @@ no_import_before_its_turn oracle a b task rest p foreign left step happened = at
     at (rearranges state same after) = nothing_happened (ap (λ (m : Moment). m.events) after)
     at (records effect idle recorded after) = cc
     at (asks effect idle asked after) = cc
+    at (notes idle after) = cc
     at (expands effect idle taken after) = cc
     at (falls_back effect idle taken after) = cc

@@ -20,7 +20,7 @@ use Rattle.def_rules.specs.Report.{Answer, IsOutcome}
 use Rattle.def_rules.specs.Start.{start}
 use Rattle.def_rules.specs.State.{Setting, Moment, Import}
 use Rattle.def_rules.specs.Steps.{Reaches, join, one, performs}
-use Rattle.def_runs.proofs.RowLemmas.{answer_of, answers_without, no_targets, none_leave_in_turn}
+use Rattle.def_runs.proofs.RowLemmas.{answer_of, answers_without, are_bare, no_targets, none_leave_in_turn}
 use Rattle.def_runs.proofs.Rows.{crate_of, grown, import_of, loc, module_at, no_session, not_recorded, position, session_with, unchanged}
 use Rattle.def_runs.proofs.Trees.{items, named, node, tree_with, use_one}
 use Rattle.def_runs.proofs.Vectors.{vec_of}
@@ -114,7 +114,7 @@ in_turn = none_leave_in_turn walked.1 refl
 
 -- what is answered of this crate
 excused_answers : Answers setting no_session session answered
-excused_answers = answers_without setting no_session last three_left walked.1 in_turn refl refl refl refl refl shown (λ source. refl) refl
+excused_answers = answers_without setting no_session last three_left walked.1 in_turn refl (are_bare refl refl) refl refl refl shown (λ source. refl) refl
 
 nothing_is_bound : answered.content ≡ empty
 nothing_is_bound = refl

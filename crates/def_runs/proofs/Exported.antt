@@ -27,7 +27,7 @@ use Rattle.def_rules.specs.Start.{start}
 use Rattle.def_rules.specs.State.{Setting, Moment}
 use Rattle.def_rules.specs.Steps.{Reaches, join, one, performs}
 use Rattle.def_runs.proofs.HandedOn.{m}
-use Rattle.def_runs.proofs.RowLemmas.{answer_of, answers_without, no_targets, none_leave_in_turn}
+use Rattle.def_runs.proofs.RowLemmas.{answer_of, answers_without, are_bare, no_targets, none_leave_in_turn}
 use Rattle.def_runs.proofs.Rows.{crate_of, module_at, no_session, position, unchanged}
 use Rattle.def_runs.proofs.Textual.{foo, foo_loc, the_macro}
 use Rattle.def_runs.proofs.Trees.{inline_mod, items, node, tree_with}
@@ -89,7 +89,7 @@ in_turn = none_leave_in_turn run.1 refl
 
 -- what is answered of this crate
 exported_answers : Answers setting no_session session answered
-exported_answers = answers_without setting no_session last nothing_left run.1 in_turn refl refl refl refl refl shown (λ source. refl) refl
+exported_answers = answers_without setting no_session last nothing_left run.1 in_turn refl (are_bare refl refl) refl refl refl shown (λ source. refl) refl
 
 -- macro 0 by rules, public, by declaration
 abbrev held : Binding Visibility

@@ -17,7 +17,7 @@ use Rattle.def_rules.specs.Waiting.{Attr, MacroDirective, WrittenAttr}
 use Rattle.def_rules.specs.Steps.{Reaches, falls_back, join, one, performs}
 use Rattle.def_runs.proofs.Called.{declared, foo, s}
 use Rattle.def_runs.proofs.Exported.{marked_with}
-use Rattle.def_runs.proofs.RowLemmas.{answer_of, answers_without, no_targets, none_leave_in_turn, stuck_without}
+use Rattle.def_runs.proofs.RowLemmas.{answer_of, answers_without, are_bare, no_targets, none_leave_in_turn, stuck_without}
 use Rattle.def_runs.proofs.Rows.{crate_of, module_at, no_session, position, session_with, unchanged}
 use Rattle.def_runs.proofs.Trees.{items, node, root_file, tree_with, unit_struct}
 use Rattle.def_runs.proofs.Vectors.{nothing_left}
@@ -66,7 +66,7 @@ nothing_is_declared = (refl, refl, refl)
 
 -- there is no such macro, and nothing else moves
 stuck : IsStuck setting.oracle walked_to.state
-stuck = stuck_without setting.oracle walked_to.state refl refl refl (λ source. refl)
+stuck = stuck_without setting.oracle walked_to.state (are_bare refl refl) refl refl (λ source. refl)
 
 -- so S is given up, and declared
 abbrev given_up : (m : Moment) × Reaches setting.oracle walked_to m
@@ -97,7 +97,7 @@ in_turn = none_leave_in_turn ran refl
 
 -- what is answered of this crate
 given_up_answers : Answers setting no_session session answered
-given_up_answers = answers_without setting no_session last nothing_left ran in_turn refl refl refl refl refl shown (λ source. refl) refl
+given_up_answers = answers_without setting no_session last nothing_left ran in_turn refl (are_bare refl refl) refl refl refl shown (λ source. refl) refl
 
 -- S is bound, and its attribute reported
 s_is_bound : (answered.content.binding (module_at 0) s Types ≡ Some (declared 0)) × (answered.content.binding (module_at 0) s Values ≡ Some (declared 0))

@@ -20,7 +20,7 @@ use Rattle.def_rules.specs.Report.{Answer, IsOutcome}
 use Rattle.def_rules.specs.Start.{start}
 use Rattle.def_rules.specs.State.{Setting, Moment, Import}
 use Rattle.def_rules.specs.Steps.{Reaches, join, one, performs}
-use Rattle.def_runs.proofs.RowLemmas.{answer_of, answers_without, import_recorded, no_targets, none_leave_in_turn}
+use Rattle.def_runs.proofs.RowLemmas.{answer_of, answers_without, are_bare, import_recorded, no_targets, none_leave_in_turn}
 use Rattle.def_runs.proofs.Rows.{crate_of, import_of, knowing, loc, module_at, module_in_root, no_session, not_recorded, position, session_with, unchanged}
 use Rattle.def_runs.proofs.Textual.{as_bar, bar, foo, foo_loc, imported, of_foo, the_macro}
 use Rattle.def_runs.proofs.Trees.{inline_mod, items, named, node, tree_with}
@@ -101,7 +101,7 @@ it_waits = refl
 abbrev recorded : (a : Moment) × Reaches setting.oracle walked_to a
 recorded = (
   _,
-  join (import_recorded setting.oracle walked_to (not_recorded waiting) [] refl refl refl refl)
+  join (import_recorded setting.oracle walked_to (not_recorded waiting) [] refl (are_bare refl refl) refl refl)
       (one (performs _ _ _ refl refl refl)),
 )
 
@@ -124,7 +124,7 @@ in_turn = none_leave_in_turn ran refl
 
 -- what is answered of this crate
 handed_on_answers : Answers setting no_session session answered
-handed_on_answers = answers_without setting no_session last nothing_left ran in_turn refl refl refl refl refl shown (λ source. refl) refl
+handed_on_answers = answers_without setting no_session last nothing_left ran in_turn refl (are_bare refl refl) refl refl refl shown (λ source. refl) refl
 
 -- both modules have the macro, and neither binds its name
 in_both : (textual_at answered.map 0 foo ≡ the_macro ∷ []) × (textual_at answered.map 1 foo ≡ the_macro ∷ [])

@@ -12,7 +12,7 @@ use Rattle.def_rules.specs.Report.{Answer}
 use Rattle.def_rules.specs.Rounds.{Leaves}
 use Rattle.def_rules.specs.Start.{start}
 use Rattle.def_rules.specs.State.{Moment, Setting}
-use Rattle.def_rules.specs.Steps.{Reaches, Step, asks, copies, expands, falls_back, here, join, one, performs, rearranges, records, reorders}
+use Rattle.def_rules.specs.Steps.{Reaches, Step, asks, copies, notes, expands, falls_back, here, join, one, performs, rearranges, records, reorders}
 use Rattle.def_rules.specs.Waiting.{MacroDirective}
 
 -- a macro leaves at some step of a run
@@ -39,6 +39,7 @@ module _ {oracle : Oracle} (directive : MacroDirective) where
   among waited (reorders macros same is) leave left = absurd left
   among waited (rearranges state same is) leave left = absurd left
   among waited (records effect idle step is) leave left = absurd left
+  among waited (notes idle is) leave left = absurd left
   among waited (expands effect idle step is) leave left = absurd left
   among waited (falls_back effect idle step is) leave left = absurd left
 

@@ -4,7 +4,7 @@ use Rattle.def_laws.proofs.RunsLaws.{kept_along}
 use Rattle.def_oracle.specs.Oracle.{Oracle}
 use Rattle.def_rules.specs.Rounds.{InRound, IsOverLimit, Leaves, Rounds, begins, both, goes_on, leaves, none, single, stays}
 use Rattle.def_rules.specs.State.{Moment}
-use Rattle.def_rules.specs.Steps.{Reaches, Step, asks, copies, expands, falls_back, performs, rearranges, records, reorders}
+use Rattle.def_rules.specs.Steps.{Reaches, Step, asks, copies, notes, expands, falls_back, performs, rearranges, records, reorders}
 use Rattle.def_rules.specs.Waiting.{MacroDirective}
 use Rattle.def_runs.proofs.RowLemmas.{none_asked}
 
@@ -17,6 +17,7 @@ module _ {oracle : Oracle} (P : Moment → Type 0) (bare : (m : Moment) → P m 
   none_leaves a b (reorders macros same is) d holds left = left
   none_leaves a b (rearranges state same is) d holds left = left
   none_leaves a b (records effect idle step is) d holds left = left
+  none_leaves a b (notes idle is) d holds left = left
   none_leaves a b (expands effect idle step is) d holds left = left
   none_leaves a b (falls_back effect idle step is) d holds left = left
 

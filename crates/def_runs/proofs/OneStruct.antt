@@ -14,7 +14,7 @@ use Rattle.def_rules.specs.Report.{Answer, IsOutcome}
 use Rattle.def_rules.specs.Start.{start}
 use Rattle.def_rules.specs.State.{Setting, Moment, PutExplicit}
 use Rattle.def_rules.specs.Steps.{Reaches, join, one, performs}
-use Rattle.def_runs.proofs.RowLemmas.{answer_of, answers_without, no_targets, none_leave_in_turn}
+use Rattle.def_runs.proofs.RowLemmas.{answer_of, answers_without, are_bare, no_targets, none_leave_in_turn}
 use Rattle.def_runs.proofs.Rows.{crate_of, grown, loc, module_at, no_session, session_with, unchanged}
 use Rattle.def_runs.proofs.Trees.{items, named, node, tree_with, unit_struct}
 use Rattle.def_runs.proofs.Vectors.{nothing_left}
@@ -61,7 +61,7 @@ in_turn = none_leave_in_turn ran.1 refl
 
 -- what is answered of this crate
 one_struct_answers : Answers setting no_session session answered
-one_struct_answers = answers_without setting no_session last nothing_left ran.1 in_turn refl refl refl refl refl shown (λ source. refl) refl
+one_struct_answers = answers_without setting no_session last nothing_left ran.1 in_turn refl (are_bare refl refl) refl refl refl shown (λ source. refl) refl
 
 -- struct 0, public, by declaration
 abbrev pub held : Binding Visibility

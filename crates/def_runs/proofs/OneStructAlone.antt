@@ -25,9 +25,9 @@ use Rattle.def_rules.specs.Settled.{IsDeclared}
 use Rattle.def_rules.specs.Start.{first_site, start}
 use Rattle.def_laws.proofs.CensoredLaws.{uncensored_along}
 use Rattle.def_rules.specs.State.{Site, State, Effect, Task, Enter, Visit, Event, PutExplicit, Moment, after, with_content, with_state}
-use Rattle.def_rules.specs.Steps.{Does, Step, performs, asks, copies, expands, rearranges, records, falls_back, reorders}
+use Rattle.def_rules.specs.Steps.{Does, Step, performs, asks, copies, notes, expands, rearranges, records, falls_back, reorders}
 use Rattle.def_runs.proofs.OneStruct.{S, setting}
-use Rattle.def_runs.proofs.RowLemmas.{NoneWaits, none_asked, none_given_up, none_recorded, none_taken, none_waits_rearranged, none_waits_reordered}
+use Rattle.def_runs.proofs.RowLemmas.{NoneWaits, none_asked, none_given_up, none_noted, none_recorded, none_taken, none_waits_rearranged, none_waits_reordered}
 use Rattle.def_runs.proofs.Rows.{module_at, no_session}
 use Rattle.def_runs.proofs.Trees.{node, unit_struct}
 
@@ -151,10 +151,11 @@ goes_on a b (reorders macros same is) way = subst IsOnWay (sym is) (stays a (rec
 goes_on a b (falls_back effect idle step is) way = absurd (none_given_up setting.oracle a.state effect way.waits.1 step)
 goes_on a b (records effect idle step is) way = absurd (none_recorded setting.oracle a.state effect way.waits.0 step)
 goes_on a b (asks effect idle step is) way = absurd (none_asked setting.oracle a.state effect way.waits.1 step)
+goes_on a b (notes idle is) way = subst IsOnWay (sym (is ∙ none_noted a idle way.waits.4)) way
 goes_on a b (expands effect idle step is) way = absurd (none_taken setting.oracle a.state effect way.waits.2 step)
 
 sets_out : IsOnWay (start setting no_session)
-sets_out = record { stage = begins refl refl; waits = (refl, refl, refl, refl) }
+sets_out = record { stage = begins refl refl; waits = (refl, refl, refl, refl, refl) }
 
 -- S is bound in types and in values, to one struct, public, by declaration
 record Binds (c : Content Visibility) : Type 0 where

@@ -24,7 +24,7 @@ use Rattle.def_rules.specs.Report.{Answer, IsOutcome}
 use Rattle.def_rules.specs.Start.{start}
 use Rattle.def_rules.specs.State.{Setting, Moment, Import, ImportDirective}
 use Rattle.def_rules.specs.Steps.{Reaches, join, one, performs}
-use Rattle.def_runs.proofs.RowLemmas.{answer_of, answers_without, import_recorded, no_targets, none_leave_in_turn, settled_by_test}
+use Rattle.def_runs.proofs.RowLemmas.{answer_of, answers_without, are_bare, import_recorded, no_targets, none_leave_in_turn, settled_by_test}
 use Rattle.def_runs.proofs.Rows.{crate_of, grown, import_of, loc, module_at, module_in_root, no_session, not_recorded, position, recorded_from, session_with, unchanged}
 use Rattle.def_runs.proofs.Trees.{inline_mod, items, named, node, tree_with, unit_struct, use_one}
 use Rattle.def_runs.proofs.Vectors.{vec_of}
@@ -95,7 +95,7 @@ both_wait = refl
 abbrev pub recorded : (m : Moment) × Reaches setting.oracle walked_to m
 recorded = (
   _,
-  join (import_recorded setting.oracle walked_to (not_recorded (waiting 2 0 S)) (not_recorded (waiting 3 1 T) ∷ []) refl refl refl refl)
+  join (import_recorded setting.oracle walked_to (not_recorded (waiting 2 0 S)) (not_recorded (waiting 3 1 T) ∷ []) refl (are_bare refl refl) refl refl)
       (join (one (performs _ _ _ refl refl refl))
       (one (performs _ _ _ refl refl refl))),
 )
@@ -141,7 +141,7 @@ in_turn = none_leave_in_turn ran refl
 
 -- what is answered of this crate
 plain_answers : Answers setting no_session session answered
-plain_answers = answers_without setting no_session last one_left ran in_turn refl refl refl refl refl shown (λ source. refl) refl
+plain_answers = answers_without setting no_session last one_left ran in_turn refl (are_bare refl refl) refl refl refl shown (λ source. refl) refl
 
 -- module 1 is `a`, in the root
 two_modules : map (λ m. m.name) answered.map.modules ≡ None ∷ Some a ∷ []

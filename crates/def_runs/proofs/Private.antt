@@ -29,7 +29,7 @@ use Rattle.def_rules.specs.State.{Setting, Moment, Import, order, with_content, 
 use Rattle.def_rules.specs.Steps.{Reaches, join, one, performs}
 use Rattle.def_rules.specs.Targets.{leaves_out, target_of}
 use Rattle.def_runs.proofs.OutcomeLemmas.{edges_listed, listed, targets_listed}
-use Rattle.def_runs.proofs.RowLemmas.{answer_of, answers, copied_along, import_recorded, none_leave_in_turn}
+use Rattle.def_runs.proofs.RowLemmas.{answer_of, answers, are_bare, copied_along, import_recorded, none_leave_in_turn}
 use Rattle.def_runs.proofs.Rows.{bound, crate_of, glob_of_use, grown, import_of, loc, module_at, module_in_root, no_session, not_recorded, session_with, unchanged}
 use Rattle.def_runs.proofs.TableLemmas.{closed_by_test, coherent_by_test, raised_by_test}
 use Rattle.def_runs.proofs.Tables.{Bound, IsTable, Leaving}
@@ -98,7 +98,7 @@ edge = record { importer = module_at 0; vis = In (module_at 0); glob = glob }
 abbrev recorded : (m : Moment) × Reaches setting.oracle walked_to m
 recorded = (
   _,
-  join (import_recorded setting.oracle walked_to (not_recorded waiting) [] refl refl refl refl)
+  join (import_recorded setting.oracle walked_to (not_recorded waiting) [] refl (are_bare refl refl) refl refl)
       (join (one (performs _ _ _ refl refl refl))
       (one (performs _ _ _ refl refl refl))),
 )
@@ -156,7 +156,7 @@ in_turn = none_leave_in_turn ran refl
 -- what is answered of this crate
 private_answers : Answers setting no_session session answered
 private_answers =
-    answers setting no_session last outcome ran in_turn refl refl refl refl refl shown
+    answers setting no_session last outcome ran in_turn refl (are_bare refl refl) refl refl refl shown
     (closed_by_test rows leaving last.state.content is_table (order last.state) (leaves_out last.state) refl)
     (coherent_by_test rows leaving last.state.content is_table (order last.state) (leaves_out last.state) (target_of last.state.map.id last.state.targets) refl)
     (raised_by_test rows leaving last.state.content is_table (order last.state) refl)

@@ -34,7 +34,7 @@ use Rattle.def_rules.specs.State.{Setting, Moment, PutExplicit, TookOut}
 use Rattle.def_rules.specs.Steps.{Reaches, join, one, performs}
 use Rattle.def_rules.specs.Targets.{is_censored}
 use Rattle.def_runs.proofs.Exported.{marked_with}
-use Rattle.def_runs.proofs.RowLemmas.{answer_of, answers_without, no_targets, none_leave_in_turn}
+use Rattle.def_runs.proofs.RowLemmas.{answer_of, answers_without, are_bare, no_targets, none_leave_in_turn}
 use Rattle.def_runs.proofs.Rows.{crate_of, knowing, loc, module_at, no_session, position, session_with, unchanged}
 use Rattle.def_runs.proofs.Trees.{items, named, node, tree_with, unit_struct}
 use Rattle.def_runs.proofs.Vectors.{nothing_left}
@@ -134,7 +134,7 @@ in_turn = none_leave_in_turn ran refl
 
 -- what is answered of this crate
 proc_macro_answers : Answers setting no_session session answered
-proc_macro_answers = answers_without setting no_session last nothing_left ran in_turn refl refl refl refl refl shown (λ source. refl) refl
+proc_macro_answers = answers_without setting no_session last nothing_left ran in_turn refl (are_bare refl refl) refl refl refl shown (λ source. refl) refl
 
 -- each by declaration: function 0, procedural macro 0, and struct 0
 abbrev pub of_function : Visibility → Binding Visibility

@@ -33,11 +33,11 @@ use Rattle.def_rules.specs.Report.{Answer}
 use Rattle.def_rules.specs.Rules.{Handles, HandlesByKind, HandlesInSession, VisitsEnabled}
 use Rattle.def_rules.specs.Start.{first_site, start}
 use Rattle.def_rules.specs.State.{Site, State, Effect, Task, Enter, Visit, Put, TakeOut, Moment, order, with_content}
-use Rattle.def_rules.specs.Steps.{Does, Step, one, performs, asks, copies, expands, rearranges, records, falls_back, reorders}
+use Rattle.def_rules.specs.Steps.{Does, Step, one, performs, asks, copies, notes, expands, rearranges, records, falls_back, reorders}
 use Rattle.def_rules.specs.Targets.{leaves_out}
 use Rattle.def_runs.proofs.Exported.{marked_with}
 use Rattle.def_runs.proofs.ProcMacro.{answered, f, last, macro_function, of_function, root_shows, s, session, setting}
-use Rattle.def_runs.proofs.RowLemmas.{NoneWaits, none_asked, none_given_up, none_recorded, none_taken, none_waits_rearranged, none_waits_reordered}
+use Rattle.def_runs.proofs.RowLemmas.{NoneWaits, none_asked, none_given_up, none_noted, none_recorded, none_taken, none_waits_rearranged, none_waits_reordered}
 use Rattle.def_runs.proofs.Rows.{module_at, no_session, own_map}
 use Rattle.def_runs.proofs.Trees.{node, unit_struct}
 
@@ -327,10 +327,11 @@ goes_on a b step way = by step
     by (falls_back effect idle step is) = absurd (none_given_up setting.oracle a.state effect way.waits.1 step)
     by (records effect idle step is) = absurd (none_recorded setting.oracle a.state effect way.waits.0 step)
     by (asks effect idle step is) = absurd (none_asked setting.oracle a.state effect way.waits.1 step)
+    by (notes idle is) = subst IsOnWay (sym (is ∙ none_noted a idle way.waits.4)) way
     by (expands effect idle step is) = absurd (none_taken setting.oracle a.state effect way.waits.2 step)
 
 sets_out : IsOnWay (start setting no_session)
-sets_out = record { stage = begins; tasks = refl; content = refl; waits = (refl, refl, refl, refl); alike = alike_refl (start setting no_session).state }
+sets_out = record { stage = begins; tasks = refl; content = refl; waits = (refl, refl, refl, refl, refl); alike = alike_refl (start setting no_session).state }
 
 -- what is bound where nothing is left to do
 record Binds (c : Content Visibility) : Type 0 where

@@ -1,5 +1,5 @@
 -- What rows share of their answers: what follows of each run is cited, and only what is special of a row is left to it.
-use Rattle.std.proofs.Common.{◌&&◌, ◌≡◌, ℕ, List, [], ◌∷◌, ◌++◌, true, false, Some, None, slice_get, refl, sym, subst, ap, ◌∙◌, IsPermutation, Contains, Bool, not, inl, inr, true≢false}
+use Rattle.std.proofs.Common.{◌&&◌, ◌≡◌, ℕ, List, [], ◌∷◌, ◌++◌, true, false, Some, None, slice_get, refl, sym, subst, ap, ◌∙◌, IsPermutation, Contains, Bool, not, inl, inr, true≢false, append-nil}
 use Rattle.std.proofs.lemmas.List.Sorted.{Contains-permutation, IsPermutation-sym}
 use Rattle.std.proofs.lemmas.Bool.{and_parts}
 use Rattle.std.specs.List.{IsDistinct, list_all}
@@ -20,19 +20,19 @@ use Rattle.def_laws.proofs.DeferredLeftLaws.{none_deferred_along}
 use Rattle.def_laws.proofs.EveryNamespaceLaws.{every_namespace_along}
 use Rattle.def_laws.proofs.StaysLaws.{explicit_stays_along}
 use Rattle.def_rules.specs.declared.outcome.Outcome.{Outcome}
-use Rattle.def_rules.specs.Calls.{expansion_effect}
+use Rattle.def_rules.specs.Calls.{expansion_effect, inner_recorded, recording_inner}
 use Rattle.def_rules.specs.Directives.{AllStay, ExpansionStep, GivesCall, GivesDerive, Replaces, MacroStep, Stays, Turn, WalksItem, told, turn_effect}
 use Rattle.def_rules.specs.Headline.{Answers}
 use Rattle.def_rules.specs.Imports.{answer_now, is_ready, unresolved_imports}
 use Rattle.def_rules.specs.Recording.{ImportStep, NoneReady, import_effect}
 use Rattle.def_rules.specs.Report.{Answer, AreTargets, IsOutcome, marked, report}
 use Rattle.def_rules.specs.Start.{start}
-use Rattle.def_rules.specs.State.{Setting, State, Effect, Moment, ImportDirective, Rearranges, after, order, with_content, with_state}
+use Rattle.def_rules.specs.State.{IsBare, Setting, State, Effect, Moment, ImportDirective, Rearranges, after, only, order, with_content, with_state}
 use Rattle.def_rules.specs.Fallback.{FallbackStep, IsQuiet, IsStuck}
 use Rattle.def_rules.specs.InTurn.{AllLeaveOf, LeavesInTurn, empty, part}
 use Rattle.def_rules.specs.Settled.{IsNoAttribute, IsSettled}
 use Rattle.def_rules.specs.Waiting.{Attr, Derive, Expansion, FnLike, MacroDirective, MacroDirectiveKind}
-use Rattle.def_rules.specs.Steps.{Reaches, Step, here, one, join, asks, copies, expands, falls_back, performs, rearranges, records, reorders}
+use Rattle.def_rules.specs.Steps.{Reaches, Step, here, one, join, asks, copies, notes, expands, falls_back, performs, rearranges, records, reorders}
 use Rattle.def_laws.proofs.CensoredLaws.{censored_closed, censored_coherent, censored_raised}
 use Rattle.def_rules.specs.ProcMacros.{censored}
 use Rattle.def_rules.specs.Targets.{leaves_out, target_of}
@@ -42,17 +42,21 @@ use Rattle.def_runs.proofs.TableLemmas.{is_false}
 pub same_order : {X : Type 0} (xs : List X) → IsPermutation xs xs
 same_order xs = record { moves = []; below = tt; is = refl }
 
+-- a state is bare where neither waits
+abbrev pub are_bare : {s : State} → s.inner_calls ≡ [] → s.expansions ≡ [] → IsBare s
+are_bare inner expansions = record { inner_calls = inner; expansions = expansions }
+
 -- the moment after an import was recorded, with what its path gives
 abbrev pub moment_after : Oracle → Moment → ImportDirective → List ImportDirective → Moment
 moment_after oracle a directive rest = after a [] (import_effect oracle a.state directive rest (answer_now oracle a.state directive.import))
 
 -- the first import that waits is recorded
-unfoldable pub import_recorded : (oracle : Oracle) (a : Moment) (directive : ImportDirective) (rest : List ImportDirective) → a.tasks ≡ [] → a.state.expansions ≡ [] → a.state.imports ≡ directive ∷ rest
+unfoldable pub import_recorded : (oracle : Oracle) (a : Moment) (directive : ImportDirective) (rest : List ImportDirective) → a.tasks ≡ [] → IsBare a.state → a.state.imports ≡ directive ∷ rest
     → is_ready directive.recorded (answer_now oracle a.state directive.import) ≡ true
     → Reaches oracle a (moment_after oracle a directive rest)
-import_recorded oracle a directive rest idle expanded first ready =
+import_recorded oracle a directive rest idle bare first ready =
     let stands = subst (λ ds. IsPermutation a.state.imports ds) first (same_order a.state.imports) in
-    one (records _ idle (record { expanded = expanded; directive = directive; rest = rest; stands = stands; ready = ready; is = refl }) refl)
+    one (records _ idle (record { bare = bare; directive = directive; rest = rest; stands = stands; ready = ready; is = refl }) refl)
 
 -- the moment after the first macro that waits had its turn, with what it is told
 abbrev pub moment_asked : Oracle → Moment → MacroDirective → List MacroDirective → Moment
@@ -68,9 +72,9 @@ abbrev pub moment_expanded : Oracle → Moment → Expansion → List Expansion 
 moment_expanded oracle a expansion rest = after a [] (expansion_effect oracle (record a.state { expansions = rest }) expansion)
 
 -- the first expansion has its turn
-unfoldable pub expansion_taken : (oracle : Oracle) (a : Moment) (expansion : Expansion) (rest : List Expansion) → a.tasks ≡ [] → a.state.expansions ≡ expansion ∷ rest
+unfoldable pub expansion_taken : (oracle : Oracle) (a : Moment) (expansion : Expansion) (rest : List Expansion) → a.tasks ≡ [] → a.state.inner_calls ≡ [] → a.state.expansions ≡ expansion ∷ rest
     → Reaches oracle a (moment_expanded oracle a expansion rest)
-expansion_taken oracle a expansion rest idle first = one (expands _ idle (record { before = []; expansion = expansion; behind = rest; stands = first; is = refl }) refl)
+expansion_taken oracle a expansion rest idle recorded first = one (expands _ idle (record { recorded = recorded; before = []; expansion = expansion; behind = rest; stands = first; is = refl }) refl)
 
 -- one slot is copied along an edge
 unfoldable pub copied_along : (oracle : Oracle) (a : Moment) (source : ModuleId) (index : ℕ) (edge : EdgeTo Visibility) (slot : Slot) → slice_get (a.state.content.edges source) index ≡ Some edge
@@ -177,6 +181,7 @@ none_leaves (one (copies content copy is)) passes = tt
 none_leaves (one (reorders macros same is)) passes = tt
 none_leaves (one (rearranges state same is)) passes = tt
 none_leaves (one (records effect idle step is)) passes = tt
+none_leaves (one (notes idle is)) passes = tt
 none_leaves (one (expands effect idle step is)) passes = tt
 none_leaves (one (falls_back effect idle step is)) passes = tt
 none_leaves (join first second) passes = let both = and_parts (all_ask_none first) (all_ask_none second) passes in (none_leaves first both.0, none_leaves second both.1)
@@ -190,9 +195,9 @@ pub asked_in_turn : (oracle : Oracle) (a : Moment) (directive : MacroDirective) 
 unfolding macro_asked
 asked_in_turn oracle a directive rest idle first quiet = part _ idle quiet (λ leaves. subst (λ ds. Contains ds directive) (sym first) (first_in directive rest))
 
--- nothing waits for its turn: no import, no macro and no expansion, nor any derive for its item
+-- nothing waits for its turn: no import, no macro and no expansion, nor any derive for its item, nor a call to be recorded
 abbrev pub NoneWaits : State → Type 0
-NoneWaits s = (s.imports ≡ []) × (s.macros ≡ []) × (s.expansions ≡ []) × (s.deferred ≡ [])
+NoneWaits s = (s.imports ≡ []) × (s.macros ≡ []) × (s.expansions ≡ []) × (s.deferred ≡ []) × (s.inner_calls ≡ [])
 
 -- nothing in any order is nothing
 pub none_in_any_order : {X : Type 0} (ys : List X) → IsPermutation [] ys → ys ≡ []
@@ -236,29 +241,34 @@ none_waits_rearranged s t waits same = (
   ap (λ (x : State). x.macros) same.rest ∙ waits.1,
   ap (λ (x : State). x.expansions) same.rest ∙ waits.2,
   ap (λ (x : State). x.deferred) same.rest ∙ waits.3,
+  ap (λ (x : State). x.inner_calls) same.rest ∙ waits.4,
 )
 
 -- so it is when the macros are
 pub none_waits_reordered : (s : State) (macros : List MacroDirective) → NoneWaits s → IsPermutation s.macros macros → NoneWaits (record s { macros = macros })
-none_waits_reordered s macros waits same = (waits.0, none_in_any_order macros (subst (λ ms. IsPermutation ms macros) waits.1 same), waits.2, waits.3)
+none_waits_reordered s macros waits same = (waits.0, none_in_any_order macros (subst (λ ms. IsPermutation ms macros) waits.1 same), waits.2, waits.3, waits.4)
+
+-- where no call is to be recorded, none is
+pub none_noted : (a : Moment) → a.tasks ≡ [] → a.state.inner_calls ≡ [] → after a [] (only (inner_recorded a.state)) ≡ a
+none_noted a idle none = λ i. record { tasks = sym idle i; state = record a.state { map = recording_inner (none i) a.state.map; inner_calls = sym none i }; events = append-nil a.events i }
 
 -- what is answered of an end, with this outcome
 abbrev pub answer_of : Oracle → State → Outcome → Answer
 answer_of oracle end outcome =
     record { map = marked end.map (unresolved_imports end.imports); content = censored end; local = end.local; outcome = outcome; diagnostics = report oracle end }
 
--- the answer of a run's end is right where macros leave in turn in the run, names are closed, coherent and raised at the end, no expansion is left, no import is ready and no macro is given a call
-pub answers : (w : Setting) (before : Session) (end : Moment) (outcome : Outcome) (runs : Reaches w.oracle (start w before) end) → LeavesInTurn w.oracle (start w before) end runs → end.tasks ≡ [] → end.state.expansions ≡ []
+-- the answer of a run's end is right where macros leave in turn in the run, names are closed, coherent and raised at the end, no call is left to be recorded and no expansion, no import is ready and no macro is given a call
+pub answers : (w : Setting) (before : Session) (end : Moment) (outcome : Outcome) (runs : Reaches w.oracle (start w before) end) → LeavesInTurn w.oracle (start w before) end runs → end.tasks ≡ [] → IsBare end.state
     → none_is_ready w.oracle end.state ≡ true → each_stays w.oracle end.state ≡ true
     → outcome.limit_met ≡ false → IsOutcome end.state outcome
     → IsClosed (order end.state) (leaves_out end.state) end.state.content
     → IsCoherent (order end.state) (leaves_out end.state) (target_of end.state.map.id end.state.targets) end.state.content
     → ((importer : ModuleId) (slot : Slot) → IsRaisedAt (order end.state) end.state.content importer slot)
     → Answers w before end.state.session (answer_of w.oracle end.state outcome)
-answers w before end outcome runs in_turn done expanded ready given unmet shown closed coherent raised =
+answers w before end outcome runs in_turn done bare ready given unmet shown closed coherent raised =
     let settled = settled_by_test w.oracle end.state ready in
     record {
-      run = record { end = end; runs = runs; done = done; expanded = expanded };
+      run = record { end = end; runs = runs; done = done; bare = bare };
       session = refl;
       answered = record { map = refl; content = refl; local = refl; outcome = shown };
       closed = censored_closed end.state (leaves_out end.state) closed;
@@ -290,24 +300,24 @@ raised_without : (o : Order Visibility) (c : Content Visibility) → NoEdge c �
 raised_without o c none importer slot source index edge at =
     let at_none = sym (ap (λ es. slice_get es index) (none source)) ∙ at in absurd cc
 
--- in a state without edges nothing moves but macros where no expansion is to be walked and the test says so
-pub quiet_without : (oracle : Oracle) (s : State) → s.expansions ≡ [] → none_is_ready oracle s ≡ true → NoEdge s.content → IsQuiet oracle s
-quiet_without oracle s bare ready none = record { closed = closed_without (order s) (leaves_out s) s.content none; imports = settled_by_test oracle s ready; expansions = bare }
+-- in a state without edges nothing moves but macros where no call is to be recorded, no expansion to be walked and the test says so
+pub quiet_without : (oracle : Oracle) (s : State) → IsBare s → none_is_ready oracle s ≡ true → NoEdge s.content → IsQuiet oracle s
+quiet_without oracle s bare ready none = record { closed = closed_without (order s) (leaves_out s) s.content none; imports = settled_by_test oracle s ready; bare = bare }
 
 -- and it is stuck where each macro stays
-pub stuck_without : (oracle : Oracle) (s : State) → s.expansions ≡ [] → none_is_ready oracle s ≡ true → all_stay oracle s ≡ true → NoEdge s.content → IsStuck oracle s
+pub stuck_without : (oracle : Oracle) (s : State) → IsBare s → none_is_ready oracle s ≡ true → all_stay oracle s ≡ true → NoEdge s.content → IsStuck oracle s
 stuck_without oracle s bare ready stay none = record {
   quiet = quiet_without oracle s bare ready none;
   macros = all_stay_by_test oracle s stay;
 }
 
--- so the answer of a run in which no glob was recorded is right where no expansion is left, no import is ready and no macro is given a call
-pub answers_without : (w : Setting) (before : Session) (end : Moment) (outcome : Outcome) (runs : Reaches w.oracle (start w before) end) → LeavesInTurn w.oracle (start w before) end runs → end.tasks ≡ [] → end.state.expansions ≡ []
+-- so the answer of a run in which no glob was recorded is right where no call is left to be recorded and no expansion, no import is ready and no macro is given a call
+pub answers_without : (w : Setting) (before : Session) (end : Moment) (outcome : Outcome) (runs : Reaches w.oracle (start w before) end) → LeavesInTurn w.oracle (start w before) end runs → end.tasks ≡ [] → IsBare end.state
     → none_is_ready w.oracle end.state ≡ true → each_stays w.oracle end.state ≡ true
     → outcome.limit_met ≡ false → IsOutcome end.state outcome → NoEdge end.state.content → end.state.targets ≡ (λ glob. None)
     → Answers w before end.state.session (answer_of w.oracle end.state outcome)
-answers_without w before end outcome runs in_turn done expanded ready given unmet shown none no_target =
-    answers w before end outcome runs in_turn done expanded ready given unmet shown
+answers_without w before end outcome runs in_turn done bare ready given unmet shown none no_target =
+    answers w before end outcome runs in_turn done bare ready given unmet shown
     (closed_without (order end.state) (leaves_out end.state) end.state.content none)
     (coherent_without (order end.state) (leaves_out end.state) end.state.content end.state no_target)
     (raised_without (order end.state) end.state.content none)

@@ -29,7 +29,7 @@ use Rattle.def_rules.specs.Report.{Answer, IsOutcome}
 use Rattle.def_rules.specs.Start.{start}
 use Rattle.def_rules.specs.State.{Setting, Moment, Import, ImportDirective, Recorded, PutExplicit}
 use Rattle.def_rules.specs.Steps.{Reaches, join, one, performs}
-use Rattle.def_runs.proofs.RowLemmas.{answer_of, answers_without, import_recorded, no_targets, none_leave_in_turn, settled_by_test}
+use Rattle.def_runs.proofs.RowLemmas.{answer_of, answers_without, are_bare, import_recorded, no_targets, none_leave_in_turn, settled_by_test}
 use Rattle.def_runs.proofs.Rows.{crate_of, import_of, knowing, loc, module_at, no_session, not_recorded, position, recorded_from, session_with, unchanged}
 use Rattle.def_runs.proofs.Trees.{items, named, node, tree_with}
 use Rattle.def_runs.proofs.Vectors.{nothing_left}
@@ -111,7 +111,7 @@ nothing_happened = (refl, refl)
 abbrev pub recorded : (m : Moment) × Reaches setting.oracle walked_to m
 recorded = (
   _,
-  join (import_recorded setting.oracle walked_to (not_recorded waiting) [] refl refl refl refl)
+  join (import_recorded setting.oracle walked_to (not_recorded waiting) [] refl (are_bare refl refl) refl refl)
       (one (performs _ _ _ refl refl refl)),
 )
 
@@ -149,7 +149,7 @@ in_turn = none_leave_in_turn ran refl
 
 -- what is answered of this crate
 textual_answers : Answers setting no_session session answered
-textual_answers = answers_without setting no_session last nothing_left ran in_turn refl refl refl refl refl shown (λ source. refl) refl
+textual_answers = answers_without setting no_session last nothing_left ran in_turn refl (are_bare refl refl) refl refl refl shown (λ source. refl) refl
 
 -- macro 0 by rules
 abbrev pub the_macro : MacroId

@@ -20,7 +20,7 @@ use Rattle.def_rules.specs.State.{Setting, Moment}
 use Rattle.def_rules.specs.Waiting.{FnLike, MacroDirective}
 use Rattle.def_rules.specs.Steps.{Reaches, join, one, performs}
 use Rattle.def_runs.proofs.Called.{answer_to, of_foo}
-use Rattle.def_runs.proofs.RowLemmas.{answer_of, answers_without, asked_in_turn, macro_asked, no_targets, none_leave_in_turn, quiet_without}
+use Rattle.def_runs.proofs.RowLemmas.{answer_of, answers_without, are_bare, asked_in_turn, macro_asked, no_targets, none_leave_in_turn, quiet_without}
 use Rattle.def_runs.proofs.Rows.{crate_of, knowing, module_at, no_session, position, unchanged}
 use Rattle.def_runs.proofs.Trees.{items, node, tree_with}
 use Rattle.def_runs.proofs.Vectors.{nothing_left, vec_of}
@@ -85,7 +85,7 @@ answered = answer_of setting.oracle last.state one_left
 
 -- where it is asked, nothing else moves
 quiet : IsQuiet setting.oracle walked_to.state
-quiet = quiet_without setting.oracle walked_to.state refl refl (λ source. refl)
+quiet = quiet_without setting.oracle walked_to.state (are_bare refl refl) refl (λ source. refl)
 
 -- so no macro leaves that had not waited there
 in_turn : LeavesInTurn setting.oracle (start setting no_session) last ran
@@ -94,7 +94,7 @@ in_turn = parts (none_leave_in_turn walked.1 refl) (asked_in_turn setting.oracle
 
 -- what is answered of this crate
 unresolved_answers : Answers setting no_session no_session answered
-unresolved_answers = answers_without setting no_session last one_left ran in_turn refl refl refl refl refl shown (λ source. refl) refl
+unresolved_answers = answers_without setting no_session last one_left ran in_turn refl (are_bare refl refl) refl refl refl shown (λ source. refl) refl
 
 -- the call is left over, and nothing else
 left_over : (answered.outcome.macros.items ≡ left ∷ []) × (answered.outcome.imports.items ≡ [])

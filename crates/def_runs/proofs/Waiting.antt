@@ -1,5 +1,5 @@
--- `foo!(); macro_rules! foo {}`, where the call gives `struct S;`: no macro is in scope where the call stands, so it waits; once all is walked it is asked, S is declared, and nothing is left over.
-use Rattle.std.proofs.Common.{◌≡◌, ℕ, zero, true, false, Option, Some, None, [], ◌∷◌, Contains, refl, subst, map, lit<}
+-- `foo!(bar!()); macro_rules! foo {}`, where the call gives `struct S;`, and for its argument call 1 is made: no macro is in scope where the call stands, so it waits; once all is walked it is asked, call 1 is recorded behind it, S is declared, and nothing is left over.
+use Rattle.std.proofs.Common.{◌≡◌, ℕ, zero, true, false, Option, Some, None, Ok, Err, List, Result, [], ◌∷◌, Contains, refl, subst, map, lit<}
 use Rattle.tree_ids.specs.declared.ids.HirFileId.{HirFileId}
 use Rattle.tree_ids.specs.declared.ids.HirFileId.TheVariants.{File, Macro as MacroFile}
 use Rattle.tree_ids.specs.declared.ids.MacroCallId.{MacroCallId}
@@ -7,8 +7,12 @@ use Rattle.item_tree.specs.declared.items.ExpandTo.TheVariants.{Items}
 use Rattle.item_tree.specs.declared.items.ModItemKind.TheVariants.{MacroCall, MacroRules as RulesItem}
 use Rattle.item_tree.specs.declared.tree.ItemTree.{ItemTree}
 use Rattle.def_ids.specs.declared.ids.ItemContainerId.TheVariants.{Module}
+use Rattle.def_interner.specs.declared.macro_def.MacroDefId.{MacroDefId}
 use Rattle.def_interner.specs.Session.{Session, AddsLocations, ItemKind, ItemLoc, StructItem}
 use Rattle.def_bindings.specs.declared.bindings.Namespace.TheVariants.{Types, Values}
+use Rattle.def_oracle.specs.declared.source_database.CallAnswer.{CallAnswer}
+use Rattle.def_oracle.specs.declared.source_database.UnresolvedMacro.{UnresolvedMacro}
+use Rattle.def_oracle.specs.Queries.{PlainCall}
 use Rattle.def_rules.specs.Directives.{Stays, told}
 use Rattle.def_rules.specs.Headline.{Answers}
 use Rattle.def_rules.specs.Fallback.{IsQuiet}
@@ -17,9 +21,9 @@ use Rattle.def_rules.specs.Report.{Answer, IsOutcome}
 use Rattle.def_rules.specs.Start.{start}
 use Rattle.def_rules.specs.State.{Setting, Moment, PutExplicit}
 use Rattle.def_rules.specs.Waiting.{Expansion, FnLike, MacroDirective}
-use Rattle.def_rules.specs.Steps.{Reaches, join, one, performs}
-use Rattle.def_runs.proofs.Called.{answer_to, declared, expansion, foo, in_expansion, of_foo, s}
-use Rattle.def_runs.proofs.RowLemmas.{answer_of, answers_without, asked_in_turn, expansion_taken, macro_asked, no_targets, none_leave_in_turn, quiet_without}
+use Rattle.def_rules.specs.Steps.{Reaches, join, notes, one, performs}
+use Rattle.def_runs.proofs.Called.{declared, expansion, foo, in_expansion, of_foo, s}
+use Rattle.def_runs.proofs.RowLemmas.{answer_of, answers_without, are_bare, asked_in_turn, expansion_taken, macro_asked, no_targets, none_leave_in_turn, quiet_without}
 use Rattle.def_runs.proofs.Rows.{crate_of, knowing, module_at, no_session, position, session_with, unchanged}
 use Rattle.def_runs.proofs.Textual.{macros}
 use Rattle.def_runs.proofs.Trees.{items, node, tree_with}
@@ -33,7 +37,12 @@ abbrev pub tree_of : HirFileId → Option ItemTree
 tree_of (File file) = Some tree
 tree_of (MacroFile call) = Some expansion
 
--- the resolver is asked for the call's path, and a call whose macro is found is number 0
+-- a call is number 0, if its macro is found; for its argument call 1 was made, at position 2
+abbrev pub answer_to : PlainCall → List (Option MacroDefId) → Result CallAnswer UnresolvedMacro
+answer_to call (Some found ∷ rest) = Ok (record { value = Some (record { 0 = 0 }); err = None; inner = (position 2, record { 0 = 1 }) ∷ [] })
+answer_to call _ = Err (record { path = call.path })
+
+-- the resolver is asked for the call's path
 abbrev pub setting : Setting
 setting = record (crate_of tree) { oracle = record (knowing tree) { item_tree = λ id. tree_of id.file; asked_paths = λ call. call.path ∷ []; macro_call = answer_to; rule_styles = λ file krate. record { 0 = 1 } } }
 
@@ -93,11 +102,29 @@ pending = record { scope = module_at 0; container = Module (module_at 0); depth 
 it_is_given : (asked_to.state.macros ≡ []) × (asked_to.state.expansions ≡ pending ∷ [])
 it_is_given = (refl, refl)
 
+-- call 0 is recorded, and call 1 is to be
+abbrev pub inner : MacroCallId
+inner = record { 0 = 1 }
+
+inner_waits : (map (λ m. m.invoked (position 1) the_call) asked_to.state.map.modules ≡ true ∷ []) × (map (λ m. m.invoked (position 2) inner) asked_to.state.map.modules ≡ false ∷ [])
+    × (asked_to.state.inner_calls ≡ record { module_id = module_at 0; position = position 2; call = inner } ∷ [])
+inner_waits = (refl, refl, refl)
+
+-- it is recorded behind the turns of those that waited
+abbrev pub noted : (m : Moment) × Reaches setting.oracle asked_to m
+noted = (_, one (notes refl refl))
+
+abbrev pub noted_to : Moment
+noted_to = noted.0
+
+inner_is_recorded : (map (λ m. m.invoked (position 2) inner) noted_to.state.map.modules ≡ true ∷ []) × (noted_to.state.inner_calls ≡ [])
+inner_is_recorded = (refl, refl)
+
 -- its expansion is walked, and S declared
-abbrev pub expanded : (m : Moment) × Reaches setting.oracle asked_to m
+abbrev pub expanded : (m : Moment) × Reaches setting.oracle noted_to m
 expanded = (
   _,
-  join (expansion_taken setting.oracle asked_to pending [] refl refl)
+  join (expansion_taken setting.oracle noted_to pending [] refl refl refl)
       (join (one (performs _ _ _ refl refl refl))
       (join (one (performs _ _ _ refl (session, unchanged session, _, refl, (session, unchanged session, (0, refl, refl))) refl))
       (join (one (performs _ _ _ refl refl refl))
@@ -108,7 +135,7 @@ abbrev pub last : Moment
 last = expanded.0
 
 ran : Reaches setting.oracle (start setting no_session) last
-ran = join walked.1 (join asked.1 expanded.1)
+ran = join walked.1 (join asked.1 (join noted.1 expanded.1))
 
 shown : IsOutcome last.state nothing_left
 shown = record { imports = refl; macros = refl; edges = λ source. refl; targets = no_targets }
@@ -118,16 +145,16 @@ answered = answer_of setting.oracle last.state nothing_left
 
 -- where it is asked, nothing else moves
 quiet : IsQuiet setting.oracle walked_to.state
-quiet = quiet_without setting.oracle walked_to.state refl refl (λ source. refl)
+quiet = quiet_without setting.oracle walked_to.state (are_bare refl refl) refl (λ source. refl)
 
 -- so it leaves in turn
 in_turn : LeavesInTurn setting.oracle (start setting no_session) last ran
 unfolding ran expansion_taken
-in_turn = parts (none_leave_in_turn walked.1 refl) (parts (asked_in_turn setting.oracle walked_to waiting [] refl refl quiet) (none_leave_in_turn expanded.1 refl))
+in_turn = parts (none_leave_in_turn walked.1 refl) (parts (asked_in_turn setting.oracle walked_to waiting [] refl refl quiet) (parts (none_leave_in_turn noted.1 refl) (none_leave_in_turn expanded.1 refl)))
 
 -- what is answered of this crate
 waiting_answers : Answers setting no_session session answered
-waiting_answers = answers_without setting no_session last nothing_left ran in_turn refl refl refl refl refl shown (λ source. refl) refl
+waiting_answers = answers_without setting no_session last nothing_left ran in_turn refl (are_bare refl refl) refl refl refl shown (λ source. refl) refl
 
 -- S is bound, and nothing else
 s_is_bound : (answered.content.binding (module_at 0) s Types ≡ Some (declared 0)) × (answered.content.binding (module_at 0) s Values ≡ Some (declared 0))
@@ -136,9 +163,9 @@ s_is_bound = (refl, refl)
 names_of_root : answered.content.names (module_at 0) ≡ s ∷ []
 names_of_root = refl
 
--- the call is recorded at its position, and at no other
-recorded : (map (λ m. m.invoked (position 1) the_call) answered.map.modules ≡ true ∷ []) × (map (λ m. m.invoked (position 0) the_call) answered.map.modules ≡ false ∷ [])
-recorded = (refl, refl)
+-- each call is recorded at its position, and at no other
+recorded : (map (λ m. m.invoked (position 1) the_call) answered.map.modules ≡ true ∷ []) × (map (λ m. m.invoked (position 0) the_call) answered.map.modules ≡ false ∷ []) × (map (λ m. m.invoked (position 2) inner) answered.map.modules ≡ true ∷ [])
+recorded = (refl, refl, refl)
 
 -- both entries of S were put, and nothing else happened
 all_that_happened : last.events ≡ PutExplicit (module_at 0) s Types (declared 0) ∷ PutExplicit (module_at 0) s Values (declared 0) ∷ []
@@ -159,8 +186,14 @@ stopping_at_the_walk_is_no_answer after answer answers unmet early =
     (λ left. (answers.settled unmet).macros.stay waiting left) (0, lit< tt, refl) in
     cc
 
+-- nor is stopping where call 1 is still to be recorded
+stopping_before_the_record_is_no_answer : (after : Session) (answer : Answer) (answers : Answers setting no_session after answer) → answers.run.end ≡ asked_to → ⊥
+stopping_before_the_record_is_no_answer after answer answers early =
+    let none : asked_to.state.inner_calls ≡ [] = subst (λ (m : Moment). m.state.inner_calls ≡ []) early answers.run.bare.inner_calls in
+    cc
+
 -- nor is stopping where its expansion is still to be walked
-stopping_before_the_expansion_is_no_answer : (after : Session) (answer : Answer) (answers : Answers setting no_session after answer) → answers.run.end ≡ asked_to → ⊥
+stopping_before_the_expansion_is_no_answer : (after : Session) (answer : Answer) (answers : Answers setting no_session after answer) → answers.run.end ≡ noted_to → ⊥
 stopping_before_the_expansion_is_no_answer after answer answers early =
-    let none : asked_to.state.expansions ≡ [] = subst (λ (m : Moment). m.state.expansions ≡ []) early answers.run.expanded in
+    let none : noted_to.state.expansions ≡ [] = subst (λ (m : Moment). m.state.expansions ≡ []) early answers.run.bare.expansions in
     cc
