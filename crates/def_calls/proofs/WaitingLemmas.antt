@@ -1,14 +1,20 @@
 -- What waits for macros, in order.
-use Rattle.std.proofs.Common.{◌≡◌, ◌+◌, ◌<◌, ◌≤◌, ℕ, zero, suc, List, [], ◌∷◌, ◌++◌, length, map, take, get_or, slice_get, Some, refl, sym, ap, ◌∙◌}
+use Rattle.std.proofs.Common.{◌≡◌, ◌+◌, ◌<◌, ◌≤◌, ℕ, zero, suc, List, [], ◌∷◌, ◌++◌, length, map, take, get_or, append_assoc, slice_get, Some, refl, sym, ap, ◌∙◌}
 use Rattle.std.specs.Prelude.{Bool, true, false, cond, filter, IsSome, OnSome, Option, None}
 use Rattle.std.specs.List.{AllZip, remove}
 use Rattle.std.proofs.lemmas.List.Elements.{filter-append, same_from_all_zip}
 use Rattle.std.proofs.lemmas.List.{map-append, take_all, take_more}
 use Rattle.std.proofs.lemmas.Option.{slice_get-get_or}
+use Rattle.tree_ids.specs.declared.ids.FileAstId.{FileAstId}
+use Rattle.tree_ids.specs.declared.ids.InFile.{InFile}
+use Rattle.tree_ids.specs.declared.ids.MacroCallId.{MacroCallId}
 use Rattle.tree_ids.specs.declared.name.Name.{Name}
 use Rattle.item_tree.specs.declared.mod_path.ModPath.{ModPath}
+use Rattle.def_ids.specs.declared.ids.ModuleId.{ModuleId}
 use Rattle.def_calls.specs.declared.directives.MacroDirective.{MacroDirective}
 use Rattle.def_calls.specs.Shown.{IsLeft, macro_directive_of, macros_in}
+use Rattle.def_rules.specs.declared.inner_calls.InnerCall.{InnerCall}
+use Rattle.def_rules.specs.Calls.{inner_call}
 use Rattle.def_rules.specs.declared.outcome.LeftMacro.{LeftMacro}
 use Rattle.def_rules.specs.Report.{left_macro}
 
@@ -61,6 +67,20 @@ left_more left left' x ds i d so_far within is adds one =
     ∙ (λ j. so_far j ++ one j ∷ [])
     ∙ sym (map-append left_macro (macros_in (take i ds)) (macro_directive_of d ∷ []))
     ∙ ap (map left_macro) (sym (macros_more ds i d within is))
+
+-- one call more that was made for arguments is to be recorded
+pub inner_more : (start calls new : List InnerCall) (at : ModuleId) (xs : List (InFile FileAstId × MacroCallId)) (i : ℕ) (x : InFile FileAstId × MacroCallId) → i < length xs → new ≡ calls ++ inner_call at (get_or xs i x) ∷ []
+    → calls ≡ start ++ map (inner_call at) (take i xs) → new ≡ start ++ map (inner_call at) (take (i + 1) xs)
+inner_more start calls new at xs i x within adds so_far =
+    adds
+    ∙ ap (λ l. l ++ inner_call at (get_or xs i x) ∷ []) so_far
+    ∙ append_assoc start (map (inner_call at) (take i xs)) (inner_call at (get_or xs i x) ∷ [])
+    ∙ ap (λ l. start ++ l) (sym (map-append (inner_call at) (take i xs) (get_or xs i x ∷ [])))
+    ∙ ap (λ l. start ++ map (inner_call at) l) (sym (take_more xs i x within))
+
+-- all of them are
+pub inner_all : (start calls : List InnerCall) (at : ModuleId) (xs : List (InFile FileAstId × MacroCallId)) (i : ℕ) → length xs ≤ i → calls ≡ start ++ map (inner_call at) (take i xs) → calls ≡ start ++ map (inner_call at) xs
+inner_all start calls at xs i all so_far = so_far ∙ ap (λ l. start ++ map (inner_call at) l) (take_all i xs all)
 
 -- one that waits stands between others, and these stay where it leaves
 pub between : (ds : List MacroDirective) (i : ℕ) (d : MacroDirective) → slice_get ds i ≡ Some d → IsLeft (macros_in ds) (macro_directive_of d) (macros_in (remove ds i))

@@ -9,6 +9,7 @@ use Rattle.def_calls.specs.declared.directives.MacroDirectiveKind.TheVariants.{F
 use Rattle.def_calls.specs.declared.directives.WrittenCall.{WrittenCall}
 use Rattle.def_modules.specs.declared.map.MapData.{MapData}
 use Rattle.def_modules.specs.Maps.{map_state}
+use Rattle.def_rules.specs.declared.inner_calls.InnerCall.{InnerCall}
 use Rattle.def_rules.specs.Directives.{Told, Turn, Stays, GivesCall, GivesDerive, Replaces, WalksItem, turn_effect}
 use Rattle.def_rules.specs.State as rules
 use Rattle.def_rules.specs.Waiting as waits
@@ -46,6 +47,10 @@ expansion_shown e = record { scope = e.module_id; container = e.container; depth
 -- the state with this map, and in which these wait
 abbrev pub with_waiting : rules.State → MapData → List MacroDirective → List Expansion → rules.State
 with_waiting s m directives expansions = record s { map = map_state m; macros = macros_in directives; expansions = map expansion_shown expansions }
+
+-- the state in which these calls are to be recorded
+abbrev pub with_inner : rules.State → List InnerCall → rules.State
+with_inner s calls = record s { inner_calls = calls }
 
 -- whether what was told leaves
 abbrev pub leaves : Turn → Bool

@@ -1,10 +1,10 @@
 //! Calls as they are written, calls and items that wait for macros, and calls that were made.
 ghost use Rattle.std.specs.Prelude.{◌≡◌, ◌++◌, ◌∷◌, [], List, false, not, Some, map, slice_get, filter, true, IfOk, OnOk};
 ghost use Rattle.def_calls.specs.declared.directives.MacroDirective.{MacroDirective as Directive};
-ghost use Rattle.def_calls.specs.Shown.{IsTurned, expansion_shown, kind_of, leaves, macro_directive_of, macros_in, with_waiting, written_derive_of};
+ghost use Rattle.def_calls.specs.Shown.{IsTurned, expansion_shown, kind_of, leaves, macro_directive_of, macros_in, with_inner, with_waiting, written_derive_of};
 ghost use Rattle.def_modules.specs.Maps.{map_state};
 ghost use Rattle.def_parts.specs.Sites.{site_of};
-ghost use Rattle.def_rules.specs.Calls.{invoking, waiting};
+ghost use Rattle.def_rules.specs.Calls.{inner_call, invoking, recording_inner, waiting};
 ghost use Rattle.def_rules.specs.Derives.{derive_directive};
 ghost use Rattle.def_rules.specs.Directives.{GivesCall, call_told, expansion_of};
 ghost use Rattle.def_rules.specs.Report.{answer_report, left_macro, unresolved_macro};
@@ -15,7 +15,7 @@ use crate::queries::deeper;
 use def_ids::{ItemContainerId, ModuleId};
 use def_map::{CallAnswer, MapData, UnresolvedMacro};
 use def_parts::Site;
-use def_rules::{DefDiagnostic, DefDiagnosticKind, LeftMacro, LeftMacroKind};
+use def_rules::{DefDiagnostic, DefDiagnosticKind, InnerCall, LeftMacro, LeftMacroKind};
 use item_tree::{
     Attr, AttrId, ExpandTo, FileAstId, InFile, ItemNode, MacroCallId, ModItemId, ModPath,
     SyntaxContext, TreeId,
@@ -136,12 +136,13 @@ pub fn queue_macro<'a>(
     Ok(())
 }
 
-/// Gives a call that waits first its answer: the calls that were made for its arguments are recorded,
-/// and with a call of its own it leaves, and its expansion is to be walked. Answers whether it was
-/// given one. On `Err` nothing but safety is promised.
+/// Gives a call that waits first its answer: the calls that were made for its arguments are to be
+/// recorded, and with a call of its own it leaves, and its expansion is to be walked. Answers whether it
+/// was given one. On `Err` nothing but safety is promised.
 pub fn settle_call<'a>(
     def_map: &mut MapData,
     directives: &mut VecDeque<MacroDirective<'a>>,
+    inner_calls: &mut Vec<InnerCall>,
     expansions: &mut VecDeque<Expansion>,
     directive: MacroDirective<'a>,
     answer: &Result<CallAnswer, UnresolvedMacro>,
@@ -149,15 +150,15 @@ pub fn settle_call<'a>(
     requires { slice_get directives.old.items 0 ≡ Some directive }
     ensures turned { OnOk result ((s : State) →
         let d = macro_directive_of directive.entry in
-        let before = with_waiting s def_map.old directives.old.items expansions.old.items in
-        IsTurned before d (call_told before d answer.now) (with_waiting s def_map.new directives.new.items expansions.new.items)) }
+        let before = with_inner (with_waiting s def_map.old directives.old.items expansions.old.items) inner_calls.old.items in
+        IsTurned before d (call_told before d answer.now) (with_inner (with_waiting s def_map.new directives.new.items expansions.new.items) inner_calls.new.items)) }
     ensures given { IfOk result (λ given. (s : State) → given ≡ leaves (call_told s (macro_directive_of directive.entry) answer.now).turn) }
     ensures same { IfOk result (λ given. given ≡ false → directives.new.items ≡ directives.old.items) }
 {
     let Ok(answer) = answer else {
         return Ok(false);
     };
-    record_calls(def_map, directive.module_id.index, answer.inner.as_slice())?;
+    queue_inner(inner_calls, directive.module_id, answer.inner.as_slice())?;
     let Some(call) = answer.value else {
         return Ok(false);
     };
@@ -245,6 +246,41 @@ pub fn record_calls(
     'calls: for call in calls {
         def_map.add_macro_invoc(module, call.0, call.1)?;
     }
+    Ok(())
+}
+
+/// Lets calls that were made for arguments wait until they are recorded in a module. On `Err` nothing
+/// but safety is promised.
+fn queue_inner(
+    inner_calls: &mut Vec<InnerCall>,
+    module_id: ModuleId,
+    calls: &[(InFile<FileAstId>, MacroCallId)],
+) -> Result<(), AllocError>
+    ensures { OnOk result (inner_calls.new.items ≡ inner_calls.old.items ++ map (inner_call module_id) calls.now) }
+{
+    'calls: for call in calls {
+        inner_calls.push(InnerCall {
+            module_id,
+            position: call.0,
+            call: call.1,
+        })?;
+    }
+    Ok(())
+}
+
+/// Records the calls that wait for it, in order; none waits afterwards. On `Err` nothing but safety is
+/// promised.
+pub fn record_inner(
+    def_map: &mut MapData,
+    inner_calls: &mut Vec<InnerCall>,
+) -> Result<(), AllocError>
+    ensures recorded { OnOk result (map_state def_map.new ≡ recording_inner inner_calls.old.items (map_state def_map.old)) }
+    ensures none { OnOk result (inner_calls.new.items ≡ []) }
+{
+    'calls: for call in inner_calls.as_slice() {
+        def_map.add_macro_invoc(call.module_id.index, call.position, call.call)?;
+    }
+    inner_calls.clear();
     Ok(())
 }
 

@@ -12,8 +12,8 @@ mod queries;
 
 pub use directives::{
     Expansion, MacroDirective, MacroDirectiveKind, WrittenAttr, WrittenCall, WrittenDerive,
-    give_call, leave, left_macros, put_asked_first, queue_macro, record_calls, report_left_call,
-    report_left_derive, settle_call, stay,
+    give_call, leave, left_macros, put_asked_first, queue_macro, record_calls, record_inner,
+    report_left_call, report_left_derive, settle_call, stay,
 };
 pub use early_resolver::EarlyResolver;
 pub use fallback::{WaitingItem, fill_gap, first_item, report_attr, take_out};
