@@ -20,7 +20,7 @@ use Rattle.def_map.specs.Oracle.{Oracle}
 use Rattle.def_rules.specs.State.{State, Effect, Moment, order}
 use Rattle.def_rules.specs.Steps.{Copies, Reaches}
 use Rattle.def_laws.proofs.DeferredKeysLaws.{inserted_distinct}
-use Rattle.def_laws.proofs.MovesLaws.{Move, putting, linking, taking, doing, copying, ordering, sorting, recording, move_of}
+use Rattle.def_laws.proofs.MovesLaws.{Move, putting, linking, taking, doing, calling, copying, ordering, sorting, recording, move_of}
 use Rattle.def_laws.proofs.RunsLaws.{kept_along}
 use Rattle.def_macros.specs.Censored.{ListsOnce}
 
@@ -58,7 +58,8 @@ move_distinct : {oracle : Oracle} (a b : Moment) → Move oracle a b → IsDisti
 move_distinct a b (putting at entry rest first is) once = subst IsDistinctAt (sym is) (distinct_put (order a.state) at (slot_of entry) (offered entry) a.state.content once)
 move_distinct a b (linking source edge rest first is) once = subst IsDistinctAt (sym is) once
 move_distinct a b (taking at name function rest there first out bound of is) once = subst IsDistinctAt (sym is) once
-move_distinct a b (doing gone rest scope depth macros expansions deferred effect first still own fewer foot is) once = subst IsDistinctAt (sym is) (subst AreDistinct (sym foot.content) once)
+move_distinct a b (doing gone rest scope depth macros expansions deferred inner effect first still own fewer foot is) once = subst IsDistinctAt (sym is) (subst AreDistinct (sym foot.content) once)
+move_distinct a b (calling idle is) once = subst IsDistinctAt (sym is) once
 move_distinct a b (copying content copy is) once = subst IsDistinctAt (sym is) (distinct_copied a.state content copy once)
 move_distinct a b (ordering macros same is) once = subst IsDistinctAt (sym is) once
 move_distinct a b (sorting state same is) once = subst IsDistinctAt (sym is) (subst (λ (s : State). AreDistinct s.content) (sym same.rest) once)

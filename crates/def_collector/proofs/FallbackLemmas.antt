@@ -5,7 +5,7 @@ use Rattle.def_map.specs.Oracle.{Oracle}
 use Rattle.def_rules.specs.Attributes.{item_site}
 use Rattle.def_rules.specs.Calls.{deepest}
 use Rattle.def_rules.specs.Fallback.{IsStuck, attr_reported}
-use Rattle.def_rules.specs.State.{State, Visit}
+use Rattle.def_rules.specs.State.{IsBare, State, Visit}
 use Rattle.def_rules.specs.Waiting.{Attr, MacroDirective, WrittenAttr}
 use Rattle.def_laws.specs.Runs.{CollectsCalmly, Leads}
 use Rattle.def_laws.proofs.InTurnLaws.{turn_empty}
@@ -36,6 +36,7 @@ module _ (oracle : Oracle) (s s' t : State) (before : List MacroDirective) (d : 
         omega (arith, less, as_much);
   }
 
-  -- no expansion is left to be walked
-  pub gave_up_bare : s.expansions ≡ [] → t.expansions ≡ []
-  gave_up_bare bare = leads.expansions ∙ ap (λ (x : State). x.expansions) passed ∙ bare
+  -- no call is left to be recorded, and no expansion to be walked
+  pub gave_up_bare : IsBare s → IsBare (record t { macros = macros })
+  gave_up_bare bare =
+      record { inner_calls = leads.inner_calls ∙ ap (λ (x : State). x.inner_calls) passed ∙ bare.inner_calls; expansions = leads.expansions ∙ ap (λ (x : State). x.expansions) passed ∙ bare.expansions }

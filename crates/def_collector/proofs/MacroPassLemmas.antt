@@ -17,18 +17,19 @@ use Rattle.def_collector.specs.declared.collector.DefCollector.{DefCollector}
 use Rattle.def_collector.specs.Collector.{state_of, with_reported}
 use Rattle.def_collector.specs.Passes.{HadTurn, HadTurns, HasLeft, HasStayed, OnlyAsked}
 use Rattle.def_rounds.specs.Rounds.{GetsStuck, MakesRound}
+use Rattle.def_rules.specs.Calls.{inner_recorded}
 use Rattle.def_rules.specs.Directives.{Stays, answer_in, told}
 use Rattle.def_rules.specs.Fallback.{IsQuiet}
 use Rattle.def_rules.specs.Recording.{NoneReady}
 use Rattle.def_rules.specs.State as rules
-use Rattle.def_rules.specs.State.{State, world}
+use Rattle.def_rules.specs.State.{IsBare, State, world}
 use Rattle.def_rules.specs.Waiting as waits
 use Rattle.def_laws.specs.Depths.{waiting_work}
 use Rattle.def_laws.specs.Performs.{IsExpanded}
 use Rattle.def_laws.specs.Runs.{Collects, CollectsCalmly, InTurns, LeaveOf}
 use Rattle.def_laws.specs.Sound.{IsSoundWith}
 use Rattle.def_laws.proofs.InTurnLaws.{leave_on, turn_part}
-use Rattle.def_laws.proofs.PassLaws.{collects_asked, collects_expanded, collects_ordered, expanded_lighter, expansions_same, invokes_ordered, invokes_refl, invokes_trans, leave_asked, none_ready_same, turn_same, work_same}
+use Rattle.def_laws.proofs.PassLaws.{collects_asked, collects_expanded, collects_noted, collects_ordered, expanded_lighter, expanded_recorded, expansions_same, invokes_noted, invokes_ordered, invokes_refl, invokes_trans, leave_asked, none_ready_same, turn_same, work_same}
 use Rattle.def_laws.proofs.RoundsLaws.{round_made, turns_begin, turns_leave, turns_on, turns_stay}
 use Rattle.def_laws.proofs.StepsLaws.{calmly_trans, collects_refl, collects_sound, collects_trans, leave_refl, leave_trans}
 use Rattle.def_calls.proofs.WaitingLemmas.{macros_all, macros_more}
@@ -52,11 +53,6 @@ there (y ∷ ys) i within = (get_or (y ∷ ys) i y, slice_get-get_or (y ∷ ys) 
 -- at one place stands one element
 pub one_at : {X : Type 0} (o : Option X) (x y : X) → o ≡ Some x → o ≡ Some y → x ≡ y
 one_at o x y first second = let twice : Some x ≡ Some y = sym first ∙ second in cc
-
--- no expansion is shown where none is there, and the other way round
-pub none_shown : (xs : List Expansion) → map expansion_shown xs ≡ [] → xs ≡ []
-none_shown [] none = refl
-none_shown (x ∷ xs) none = absurd cc
 
 -- fewer wait than a machine can number
 pub few_macros : (v : VecDeque MacroDirective Global) → length (macros_in v.items) < 2 ^ 64
@@ -139,6 +135,22 @@ module _ (oracle : Oracle) (start s t : State) (d : waits.MacroDirective) (left 
             (All-cons (λ x. (told oracle start x).turn ≡ Stays) has.first [] (sym (turn_same oracle start s (so_far.still no) has.first) ∙ has.asked.turn) (All-nil (λ x. (told oracle start x).turn ≡ Stays)));
       }
 
+-- behind them the calls are recorded that were made for arguments
+pub turns_noted : (oracle : Oracle) (start s : State) (left : List waits.MacroDirective) (moved : Bool) → HadTurns oracle start left moved s → HadTurns oracle start left moved (inner_recorded s)
+turns_noted oracle start s left moved so_far =
+    let noted : CollectsCalmly oracle [] s [] (inner_recorded s) = collects_noted oracle s in
+    record {
+      run = collects_trans so_far.run noted.collects;
+      turns = turns_on so_far.run so_far.turns noted.collects;
+      waited = so_far.waited;
+      leave = leave_on start.macros so_far.run noted so_far.leave;
+      rest = so_far.rest;
+      macros = so_far.macros;
+      fewer = so_far.fewer;
+      still = λ no. invokes_trans start s (inner_recorded s) (so_far.still no) (invokes_noted s);
+      stay = so_far.stay;
+    }
+
 -- the first left
 pub had_turn_left : (oracle : Oracle) (s t : State) → HasLeft oracle s t → HadTurn oracle s true t
 had_turn_left oracle s t left = record { stayed = λ no. absurd (true≢false no); left = λ yes. left }
@@ -174,18 +186,18 @@ asked_first_order old new is =
 -- What a pass leaves
 
 -- where all had their turns and none left, the state is stuck
-module _ (oracle : Oracle) (s t : State) (sound : IsSoundWith [] s) (ready : NoneReady oracle s) (bare : s.expansions ≡ []) where
+module _ (oracle : Oracle) (s t : State) (sound : IsSoundWith [] s) (ready : NoneReady oracle s) (bare : IsBare s) where
   at_first : IsQuiet oracle s
-  at_first = record { closed = sound.sound.closed; imports = ready; expansions = bare }
+  at_first = record { closed = sound.sound.closed; imports = ready; bare = bare }
 
-  pub gets_stuck : HadTurns oracle s [] false t → GetsStuck oracle s t
-  gets_stuck turns =
+  pub gets_stuck : HadTurns oracle s [] false t → t.inner_calls ≡ [] → GetsStuck oracle s t
+  gets_stuck turns recorded =
       let still = turns.still refl in
       record {
         run = turns.run;
         in_turn = turn_part turns.run at_first turns.leave;
         stuck = record {
-          quiet = record { closed = (collects_sound turns.run sound).sound.closed; imports = none_ready_same oracle s t still ready; expansions = expansions_same oracle s t still ∙ bare };
+          quiet = record { closed = (collects_sound turns.run sound).sound.closed; imports = none_ready_same oracle s t still ready; bare = record { inner_calls = recorded; expansions = expansions_same oracle s t still ∙ bare.expansions } };
           macros = record {
             stay = λ d there. turn_same oracle s t still d ∙ All-contains (λ x. (told oracle s x).turn ≡ Stays) turns.rest d (turns.stay refl) (subst (λ ds. Contains ds d) turns.macros there);
           };
@@ -207,13 +219,16 @@ module _ (oracle : Oracle) (s t : State) (sound : IsSoundWith [] s) (ready : Non
 
 -- Expansions
 
-module _ (oracle : Oracle) (s t : rules.State) (e : Expansion) (rest : List Expansion) (first : s.expansions ≡ expansion_shown e ∷ map expansion_shown rest)
+module _ (oracle : Oracle) (s t : rules.State) (e : Expansion) (rest : List Expansion) (recorded : s.inner_calls ≡ []) (first : s.expansions ≡ expansion_shown e ∷ map expansion_shown rest)
     (walked : IsExpanded oracle (expansion_shown e) (record s { expansions = map expansion_shown rest }) t) where
   pub walked_run : CollectsCalmly oracle [] s [] t
-  walked_run = collects_expanded oracle s t (expansion_shown e) (map expansion_shown rest) walked.inner first walked.begun walked.opened walked.leads
+  walked_run = collects_expanded oracle s t (expansion_shown e) (map expansion_shown rest) walked.inner recorded first walked.begun walked.opened walked.leads
+
+  pub walked_recorded : t.inner_calls ≡ []
+  walked_recorded = expanded_recorded oracle s t (expansion_shown e) (map expansion_shown rest) walked.inner recorded first walked.begun walked.opened walked.leads
 
   pub walked_fewer : e.depth < 2 ^ 32 → length t.macros < 2 ^ 64 → waiting_work t < waiting_work s
-  walked_fewer small few = expanded_lighter oracle s t (expansion_shown e) (map expansion_shown rest) walked.inner first walked.begun walked.opened walked.leads (omega (arith, small)) few
+  walked_fewer small few = expanded_lighter oracle s t (expansion_shown e) (map expansion_shown rest) walked.inner recorded first walked.begun walked.opened walked.leads (omega (arith, small)) few
 
 -- Reports
 

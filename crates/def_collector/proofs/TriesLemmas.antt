@@ -24,7 +24,7 @@ use Rattle.def_laws.specs.Performs.{Performs}
 use Rattle.def_rules.specs.Imports.{answer_now, given_set, is_empty, is_extended, is_foreign, is_full, is_missing, is_ready, kept_after, kept_unless_full, union}
 use Rattle.def_rules.specs.Recording.{NoneReady, kept_list, record_effect}
 use Rattle.def_rules.specs.State as rules
-use Rattle.def_rules.specs.State.{NsSet, State}
+use Rattle.def_rules.specs.State.{IsBare, NsSet, State}
 use Rattle.def_laws.proofs.ImportsLaws.{moves_import}
 use Rattle.def_steps.proofs.ListedLaws.{all-pending}
 
@@ -96,7 +96,7 @@ kept-some recorded answer (Some k) ready keeps = elim (cases_Bool (is_foreign an
 
 -- an import left its place, stays among the others if it may be recorded again, and was recorded
 pub moved : (oracle : Oracle) (session : Interner) (old new kept : DefCollector) (d : ImportDirective) (answer : ResolvePathResult) (ready : Bool) (stays : Option ImportDirective)
-    → (state_of old session).expansions ≡ []
+    → IsBare (state_of old session)
     → answer ≡ answer_now oracle (state_of old session) (import_of d.import)
     → ready ≡ is_ready (ns_set d.recorded) answer → ready ≡ true
     → directives_kept stays ≡ kept_list (import_of d.import) (kept_after (ns_set d.recorded) answer)
@@ -105,8 +105,8 @@ pub moved : (oracle : Oracle) (session : Interner) (old new kept : DefCollector)
     → (let effect = record_effect oracle (state_of kept session) (import_of d.import) answer in Performs oracle effect.tasks effect.state (state_of new session))
     → turns_left (state_of new session) ≡ turns_left (state_of kept session)
     → Moves oracle (state_of old session) (state_of new session)
-moved oracle session old new kept d answer ready stays expanded gives asks was keeps frame retired became turns =
-    moves_import oracle s (state_of new session) (directive_of d) retired.rest imports expanded retired.stands left again after turns
+moved oracle session old new kept d answer ready stays bare gives asks was keeps frame retired became turns =
+    moves_import oracle s (state_of new session) (directive_of d) retired.rest imports bare retired.stands left again after turns
   where
     s : State
     s = state_of old session

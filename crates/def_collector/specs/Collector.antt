@@ -45,6 +45,7 @@ state_of c session =
       active = active_of c.item_attrs;
       deferred = deferrals_of c.deferred_builtin_derives;
       macros = macros_in c.unresolved_macros.items;
+      inner_calls = c.inner_calls.items;
       expansions = map expansion_shown c.expansions.items;
       diagnostics = c.diagnostics.items;
     }

@@ -18,7 +18,7 @@ use def_crates::MissingCrates;
 use def_ids::{Def, GlobId};
 use def_map::{LocalDefMap, MapData, Table};
 use def_parts::{Globs, ModDirs};
-use def_rules::DefDiagnostic;
+use def_rules::{DefDiagnostic, InnerCall};
 use def_steps::PendingImports;
 pub use functions::WrittenFunction;
 use indexmap::IndexMap;
@@ -51,6 +51,8 @@ pub struct DefCollector<'a> {
     pub deferred_builtin_derives: DeferredDerives,
     /// What waits for its macro, in order. In a pass, what stays goes behind the others.
     pub unresolved_macros: VecDeque<MacroDirective<'a>>,
+    /// The calls that were made for the arguments of what was asked, until they are recorded.
+    pub inner_calls: Vec<InnerCall>,
     /// The expansions of what was given a call, until they are walked.
     pub expansions: VecDeque<Expansion>,
     pub diagnostics: Vec<DefDiagnostic>,
@@ -73,6 +75,7 @@ impl Drop for DefCollector<'_> {
             item_attrs: _,
             deferred_builtin_derives: _,
             unresolved_macros: _,
+            inner_calls: _,
             expansions: _,
             diagnostics: _,
         } = self;

@@ -5,6 +5,7 @@ ghost use Rattle.def_collector.specs.Collector.{state_of};
 ghost use Rattle.def_rounds.specs.Rounds.{GivesUp};
 ghost use Rattle.def_rules.specs.Fallback.{IsStuck};
 ghost use Rattle.def_rules.specs.Settled.{IsNoAttribute};
+ghost use Rattle.def_rules.specs.State.{IsBare};
 ghost use Rattle.def_rules.specs.Waiting.{MacroDirective};
 
 use crate::collector::DefCollector;
@@ -24,10 +25,10 @@ pub fn fall_back<'a, D: SourceDatabase>(
     session: &mut Interner,
 ) -> Result<bool, AllocError>
     requires stuck { IsStuck (D.oracle db.now) (state_of collector.old session.old) }
-    requires bare { collector.old.expansions.items ≡ [] }
+    requires bare { IsBare (state_of collector.old session.old) }
     ensures given_up { IfOk result (λ moved. moved ≡ true →
         GivesUp (D.oracle db.now) (state_of collector.old session.old) (state_of collector.new session.new)) }
-    ensures expanded { OnOk result (collector.new.expansions.items ≡ []) }
+    ensures bare { OnOk result (IsBare (state_of collector.new session.new)) }
     ensures none { IfOk result (λ moved. moved ≡ false →
         (d : MacroDirective) → Contains (state_of collector.new session.new).macros d → IsNoAttribute d.kind) }
     ensures same { IfOk result (λ moved. moved ≡ false →

@@ -11,6 +11,7 @@ ghost use Rattle.def_laws.specs.Turns.{Moves, turns_left};
 ghost use Rattle.def_laws.specs.Performs.{Performs};
 ghost use Rattle.def_rules.specs.Imports.{answer_now};
 ghost use Rattle.def_rules.specs.Recording.{record_effect, NoneReady};
+ghost use Rattle.def_rules.specs.State.{IsBare};
 ghost use Rattle.def_laws.specs.Runs.{Leads};
 
 use crate::collector::DefCollector;
@@ -30,7 +31,7 @@ pub fn resolve_imports<'a, D: SourceDatabase>(
     db: &D,
     session: &Interner,
 ) -> Result<bool, AllocError>
-    requires { (state_of collector.old session.now).expansions ≡ [] }
+    requires { IsBare (state_of collector.old session.now) }
     ensures run { OnOk result (Leads (D.oracle db.now)
         [] (state_of collector.old session.now) [] (state_of collector.new session.now)) }
     ensures settled { IfOk result (λ moved. moved ≡ false →
@@ -52,7 +53,7 @@ fn try_imports<'a, D: SourceDatabase>(
     session: &Interner,
     list: ImportList,
 ) -> Result<bool, AllocError>
-    requires { (state_of collector.old session.now).expansions ≡ [] }
+    requires { IsBare (state_of collector.old session.now) }
     ensures run { OnOk result (Leads (D.oracle db.now)
         [] (state_of collector.old session.now) [] (state_of collector.new session.now)) }
     ensures fewer { IfOk result (λ moved. moved ≡ true →
@@ -80,7 +81,7 @@ pub fn try_import<'a, D: SourceDatabase>(
     session: &Interner,
     at: ImportAt,
 ) -> Result<bool, AllocError>
-    requires { (state_of collector.old session.now).expansions ≡ [] }
+    requires { IsBare (state_of collector.old session.now) }
     ensures moved { IfOk result (λ moved. moved ≡ true →
         Moves (D.oracle db.now) (state_of collector.old session.now) (state_of collector.new session.now)) }
     ensures unready { IfOk result (λ moved. moved ≡ false →
@@ -110,7 +111,7 @@ fn try_whole<'a, D: SourceDatabase>(
     session: &Interner,
     at: ImportAt,
 ) -> Result<bool, AllocError>
-    requires { (state_of collector.old session.now).expansions ≡ [] }
+    requires { IsBare (state_of collector.old session.now) }
     ensures moved { IfOk result (λ moved. moved ≡ true →
         Moves (D.oracle db.now) (state_of collector.old session.now) (state_of collector.new session.now)) }
     ensures unready { IfOk result (λ moved. moved ≡ false →
@@ -133,7 +134,7 @@ fn record_ready<'a, D: SourceDatabase>(
     at: ImportAt,
     answer: &PathAnswer,
 ) -> Result<bool, AllocError>
-    requires bare { (state_of collector.old session.now).expansions ≡ [] }
+    requires bare { IsBare (state_of collector.old session.now) }
     requires answer { (d : ImportDirective) → import_at collector.old.imports at ≡ Some d →
         whole answer.now ≡ answer_now (D.oracle db.now) (state_of collector.old session.now) (import_of d.import) }
     ensures moved { IfOk result (λ moved. moved ≡ true →

@@ -17,6 +17,7 @@ ghost use Rattle.def_rules.specs.Derives as rule;
 ghost use Rattle.def_rules.specs.Directives.{WalksItem, tried_effect, use_told};
 ghost use Rattle.def_rules.specs.Recording.{NoneReady};
 ghost use Rattle.def_rules.specs.State as rules;
+ghost use Rattle.def_rules.specs.State.{IsBare};
 ghost use Rattle.def_rules.specs.Waiting as waits;
 
 use crate::calls::open_expansion;
@@ -29,7 +30,7 @@ use def_attrs::{
 };
 use def_calls::{
     Expansion, MacroDirective, MacroDirectiveKind, WrittenAttr, WrittenCall, WrittenDerive,
-    call_answer, give_call, leave, put_asked_first, settle_call, stay, stored_dir,
+    call_answer, give_call, leave, put_asked_first, record_inner, settle_call, stay, stored_dir,
 };
 use def_interner::{Interner, MacroDefId};
 use def_items::ItemList;
@@ -37,9 +38,9 @@ use def_map::SourceDatabase;
 use def_parts::Site;
 use std::alloc::AllocError;
 
-/// Lets each macro that waits have its turn, in order, and then walks the expansions of those that
-/// were given a call. What is queued meanwhile has no turn. Answers whether one left. On `Err`
-/// nothing but safety is promised.
+/// Lets each macro that waits have its turn, in order, records the calls that were made for their
+/// arguments, and then walks the expansions of those that were given a call. What is queued meanwhile has
+/// no turn. Answers whether one left. On `Err` nothing but safety is promised.
 pub fn resolve_macros<'a, D: SourceDatabase>(
     collector: &mut DefCollector<'a>,
     db: &'a D,
@@ -47,12 +48,12 @@ pub fn resolve_macros<'a, D: SourceDatabase>(
 ) -> Result<bool, AllocError>
     requires sound { IsSoundWith [] (state_of collector.old session.old) }
     requires ready { NoneReady (D.oracle db.now) (state_of collector.old session.old) }
-    requires bare { collector.old.expansions.items ≡ [] }
+    requires bare { IsBare (state_of collector.old session.old) }
     ensures round { IfOk result (λ moved. moved ≡ true →
         MakesRound (D.oracle db.now) (state_of collector.old session.old) (state_of collector.new session.new)) }
     ensures stuck { IfOk result (λ moved. moved ≡ false →
         GetsStuck (D.oracle db.now) (state_of collector.old session.old) (state_of collector.new session.new)) }
-    ensures expanded { OnOk result (collector.new.expansions.items ≡ []) }
+    ensures bare { OnOk result (IsBare (state_of collector.new session.new)) }
     ensures session { AddsLocations (session_of session.old) (session_of session.new) }
 {
     if !ask_macros(collector, db, session)? {
@@ -64,7 +65,8 @@ pub fn resolve_macros<'a, D: SourceDatabase>(
 }
 
 /// Lets each macro that waits have its turn, in order; what stays goes behind what is queued
-/// meanwhile. Answers whether one left. On `Err` nothing but safety is promised.
+/// meanwhile. Behind the last the calls are recorded that were made for arguments. Answers whether one
+/// left. On `Err` nothing but safety is promised.
 fn ask_macros<'a, D: SourceDatabase>(
     collector: &mut DefCollector<'a>,
     db: &'a D,
@@ -72,6 +74,7 @@ fn ask_macros<'a, D: SourceDatabase>(
 ) -> Result<bool, AllocError>
     ensures turns { IfOk result (λ moved.
         HadTurns (D.oracle db.now) (state_of collector.old session.old) [] moved (state_of collector.new session.new)) }
+    ensures recorded { OnOk result (collector.new.inner_calls.items ≡ []) }
     ensures session { AddsLocations (session_of session.old) (session_of session.new) }
 {
     let mut moved = false;
@@ -80,6 +83,7 @@ fn ask_macros<'a, D: SourceDatabase>(
             moved = true;
         }
     }
+    record_inner(&mut collector.def_map, &mut collector.inner_calls)?;
     Ok(moved)
 }
 
@@ -156,6 +160,7 @@ fn ask_call<'a, D: SourceDatabase>(
     settle_call(
         &mut collector.def_map,
         &mut collector.unresolved_macros,
+        &mut collector.inner_calls,
         &mut collector.expansions,
         directive,
         &answer,
@@ -429,8 +434,10 @@ fn walk_expansions<'a, D: SourceDatabase>(
     db: &'a D,
     session: &mut Interner,
 ) -> Result<(), AllocError>
+    requires { collector.old.inner_calls.items ≡ [] }
     ensures run { OnOk result (CollectsCalmly (D.oracle db.now)
         [] (state_of collector.old session.old) [] (state_of collector.new session.new)) }
+    ensures recorded { OnOk result (collector.new.inner_calls.items ≡ []) }
     ensures expanded { OnOk result (collector.new.expansions.items ≡ []) }
     ensures fewer { OnOk result (waiting_work (state_of collector.new session.new) ≤ waiting_work (state_of collector.old session.old)) }
     ensures session { AddsLocations (session_of session.old) (session_of session.new) }

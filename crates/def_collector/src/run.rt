@@ -19,6 +19,7 @@ ghost use Rattle.def_rules.specs.Headline.{Answers};
 ghost use Rattle.def_rules.specs.Report.{macro_report};
 ghost use Rattle.def_rules.specs.Start.{first_depth, first_tasks, first_tree};
 ghost use Rattle.def_rules.specs.Start.{seeded_state, started};
+ghost use Rattle.def_rules.specs.State.{IsBare};
 ghost use Rattle.def_laws.specs.Runs.{Leads};
 ghost use Rattle.def_laws.specs.Sound.{IsSoundWith};
 ghost use Rattle.def_rounds.specs.Rounds.{Ends};
@@ -92,7 +93,6 @@ fn begin<'a, D: SourceDatabase>(
     crate_local: Option<&'a LocalDefMap>,
 ) -> Result<DefCollector<'a>, AllocError>
     requires { IsFresh (whole.state_of def_map) (whole.content_of def_map) }
-    ensures bare { IfOk result (λ collector. collector.expansions.items ≡ []) }
     ensures seeded { IfOk result (λ collector. (tree : TreeId) (session : Interner) →
         let local = option_map (λ l. local_view l.now) crate_local.entry in
         let setting = setting_of (D.oracle db.now) def_map tree local in
@@ -118,6 +118,7 @@ fn begin<'a, D: SourceDatabase>(
         item_attrs: ItemAttrs::new(alloc),
         deferred_builtin_derives: DeferredDerives::new(alloc),
         unresolved_macros: VecDeque::new(alloc),
+        inner_calls: Vec::new(alloc),
         expansions: VecDeque::new(alloc),
         diagnostics: Vec::new(alloc),
     };
@@ -129,7 +130,6 @@ fn begin<'a, D: SourceDatabase>(
 /// Makes room for modules and imports, so that what is there is not copied while it grows.
 fn make_room<'a>(collector: &mut DefCollector<'a>, room: Room) -> Result<(), AllocError>
     ensures state { (session : Interner) → state_of collector.new session ≡ state_of collector.old session }
-    ensures bare { collector.new.expansions ≡ collector.old.expansions }
 {
     let root = ModuleId {
         map: collector.def_map.tree.map,
@@ -186,13 +186,13 @@ fn collect<'a, D: SourceDatabase>(
     requires start { IsSoundWith
         (first_tasks (D.oracle run.old.db.now) (map_state run.old.collector.def_map) tree_id)
         (started (D.oracle run.old.db.now) tree_id (state_of run.old.collector session.old)) }
-    requires bare { run.old.collector.expansions.items ≡ [] }
+    requires bare { IsBare (state_of run.old.collector session.old) }
     ensures ends { IfOk result (λ limit_met. Ends (D.oracle run.old.db.now)
         (first_tasks (D.oracle run.old.db.now) (map_state run.old.collector.def_map) tree_id)
         (started (D.oracle run.old.db.now) tree_id (state_of run.old.collector session.old))
         limit_met (state_of run.new.collector session.new)) }
     ensures sound { OnOk result (IsSoundWith [] (state_of run.new.collector session.new)) }
-    ensures expanded { OnOk result ((state_of run.new.collector session.new).expansions ≡ []) }
+    ensures bare { OnOk result (IsBare (state_of run.new.collector session.new)) }
     ensures session { AddsLocations (session_of session.old) (session_of session.new) }
 {
     seed_with_top_level(&mut run.collector, run.db, session, tree_id)?;

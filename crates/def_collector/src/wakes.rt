@@ -4,6 +4,7 @@ ghost use Rattle.std.specs.Prelude.{◌≡◌, ◌≤◌, [], false, true, is_so
 ghost use Rattle.def_collector.specs.Collector.{state_of};
 ghost use Rattle.def_collector.specs.Passes.{IsUnready};
 ghost use Rattle.def_steps.specs.ImportLists.{import_at};
+ghost use Rattle.def_rules.specs.State.{IsBare};
 ghost use Rattle.def_laws.specs.Runs.{Leads};
 ghost use Rattle.def_laws.specs.Turns.{Moves, turns_left};
 
@@ -22,7 +23,7 @@ pub fn record_woken<'a, D: SourceDatabase>(
     db: &D,
     session: &Interner,
 ) -> Result<(), AllocError>
-    requires { (state_of collector.old session.now).expansions ≡ [] }
+    requires { IsBare (state_of collector.old session.now) }
     ensures run { OnOk result (Leads (D.oracle db.now)
         [] (state_of collector.old session.now) [] (state_of collector.new session.now)) }
     ensures turns { OnOk result (turns_left (state_of collector.new session.now) ≤ turns_left (state_of collector.old session.now)) }
@@ -48,7 +49,7 @@ fn record_next<'a, D: SourceDatabase>(
     session: &Interner,
     waking: &mut Waking,
 ) -> Result<bool, AllocError>
-    requires { (state_of collector.old session.now).expansions ≡ [] }
+    requires { IsBare (state_of collector.old session.now) }
     ensures moved { IfOk result (λ moved. moved ≡ true →
         Moves (D.oracle db.now) (state_of collector.old session.now) (state_of collector.new session.now)) }
     ensures same { IfOk result (λ moved. moved ≡ false → collector.new ≡ collector.old) }
@@ -78,7 +79,7 @@ fn try_woken<'a, D: SourceDatabase>(
     watchers: &mut Watchers,
     import: ImportAt,
 ) -> Result<bool, AllocError>
-    requires { (state_of collector.old session.now).expansions ≡ [] }
+    requires { IsBare (state_of collector.old session.now) }
     ensures moved { IfOk result (λ moved. moved ≡ true →
         Moves (D.oracle db.now) (state_of collector.old session.now) (state_of collector.new session.now)) }
     ensures unready { IfOk result (λ moved. moved ≡ false →

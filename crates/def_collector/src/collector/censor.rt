@@ -39,6 +39,7 @@ impl<'a> DefCollector<'a> {
             item_attrs,
             deferred_builtin_derives,
             unresolved_macros,
+            inner_calls,
             expansions,
             diagnostics,
         } = self;
@@ -64,6 +65,7 @@ impl<'a> DefCollector<'a> {
             item_attrs,
             deferred_builtin_derives,
             unresolved_macros,
+            inner_calls,
             expansions,
             diagnostics,
         })

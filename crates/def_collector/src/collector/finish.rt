@@ -85,6 +85,7 @@ impl DefCollector<'_> {
             deferred_builtin_derives: _,
             imports: _,
             unresolved_macros: _,
+            inner_calls: _,
             expansions: _,
             diagnostics,
         } = self;

@@ -1,5 +1,5 @@
 use Rattle.std.proofs.Common.{◌≡◌, ◌&&◌, ◌||◌, true, false, nat_lt, ap, ◌∙◌}
-use Rattle.def_laws.proofs.StepsLaws.{leads_trans}
+use Rattle.def_laws.proofs.StepsLaws.{leads_bare, leads_trans}
 use Rattle.def_collector.proofs.TriesLemmas.{fewer_after_both, settled}
 use Rattle.def_collector.proofs.imports.resolve_imports.Goals as goal
 
@@ -45,4 +45,4 @@ returns-else-unresolved-clause-settled g c = λ none.
     c.in_ok-unresolved.ensures.unready c.in_ok-unresolved.ensures.same c.in_ok-indeterminate.ensures.unready c.in_ok-indeterminate.ensures.same
 
 pub try_imports-requires-2 : goal.try_imports-requires-2
-try_imports-requires-2 g c = c.in_ok-unresolved.ensures.run.expansions ∙ c.requires
+try_imports-requires-2 g c = leads_bare c.in_ok-unresolved.ensures.run c.requires

@@ -2,6 +2,7 @@ use Rattle.std.proofs.Common.{◌+◌, false, sym, subst, ◌∙◌, inl, inr}
 use Rattle.std.proofs.lemmas.Bool.{cases_lt}
 use Rattle.def_collector.specs.declared.collector.DefCollector.{DefCollector}
 use Rattle.def_collector.proofs.PassLemmas.{TriedSoFar, tried_moved, tried_none, tried_unready}
+use Rattle.def_laws.proofs.StepsLaws.{leads_bare}
 use Rattle.def_collector.proofs.TriesLemmas.{dropped, unready_past}
 use Rattle.def_collector.proofs.imports.try_imports.Goals as goal
 use Rattle.def_collector.proofs.imports.try_imports.Goals.{then-branch, else-branch}
@@ -24,4 +25,4 @@ tried-preserved g c =
     ]
 
 pub try_import-requires : goal.try_import-requires
-try_import-requires g c = c.tried.invariant.leads.expansions ∙ c.requires
+try_import-requires g c = leads_bare c.tried.invariant.leads c.requires

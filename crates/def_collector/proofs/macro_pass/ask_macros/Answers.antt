@@ -1,4 +1,4 @@
-use Rattle.std.proofs.Common.{◌+◌, ◌<◌, ◌∷◌, ap, arith, drop, get_or, length, subst, sym}
+use Rattle.std.proofs.Common.{◌+◌, ◌<◌, [], ◌∷◌, ap, arith, drop, get_or, length, subst, sym}
 use Rattle.std.proofs.lemmas.List.{drop_all, drop_more, length-append, length-drop, length-map}
 use Rattle.def_calls.specs.Shown.{macro_directive_of, macros_in}
 use Rattle.def_collector.specs.Collector.{state_of}
@@ -6,7 +6,7 @@ use Rattle.def_collector.specs.Passes.{HadTurn, HadTurns}
 use Rattle.def_interner.specs.Session.{session_of}
 use Rattle.def_interner.specs.SessionLaws.{adds_refl, adds_trans}
 use Rattle.def_rules.specs.State.{State}
-use Rattle.def_collector.proofs.MacroPassLemmas.{no_turns, turns_kept, turns_left}
+use Rattle.def_collector.proofs.MacroPassLemmas.{no_turns, turns_kept, turns_left, turns_noted}
 use Rattle.def_collector.proofs.macro_pass.ask_macros.Goals.{else-branch, then-branch}
 use Rattle.def_collector.proofs.macro_pass.ask_macros.Goals as goal
 
@@ -69,7 +69,8 @@ returns-clause-turns g c =
     let held = c.args.collector.now.unresolved_macros.ok.0 in
     let end = c.len-i-end.ensures in
     let test = c.asked-test.false in
-    subst (λ ds. HadTurns oracle start ds c.asked.moved now) (drop_all c.asked.i all (omega (arith, long, held, end, test))) c.asked.invariant.so_far
+    let turns : HadTurns oracle start [] c.asked.moved now = subst (λ ds. HadTurns oracle start ds c.asked.moved now) (drop_all c.asked.i all (omega (arith, long, held, end, test))) c.asked.invariant.so_far in
+    subst (HadTurns oracle start [] c.asked.moved) (λ i. record now { map = sym c.in_ok-record_inner.ensures.recorded i; inner_calls = sym c.in_ok-record_inner.ensures.none i }) (turns_noted oracle start now [] c.asked.moved turns)
 
 pub returns-in_err-ask_macro-clause-session : goal.returns-in_err-ask_macro-clause-session
 returns-in_err-ask_macro-clause-session g c =

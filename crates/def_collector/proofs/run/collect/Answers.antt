@@ -1,19 +1,18 @@
-use Rattle.std.proofs.Common.{◌≡◌, ◌+◌, ap, arith, map, subst, ◌∙◌}
-use Rattle.def_calls.specs.Shown.{expansion_shown}
+use Rattle.std.proofs.Common.{◌≡◌, ◌+◌, arith, subst}
 use Rattle.def_interner.specs.Session.{session_of}
 use Rattle.def_interner.specs.SessionLaws.{adds_trans}
 use Rattle.def_laws.proofs.ResultLaws.{if_ok}
 use Rattle.def_laws.specs.Runs.{HoldRounds}
 use Rattle.def_laws.proofs.RoundsLaws.{holds_both, holds_none}
 use Rattle.def_laws.proofs.InTurnLaws.{turn_both, turn_empty}
-use Rattle.def_laws.proofs.StepsLaws.{calmly_led, collects_sound, collects_trans}
+use Rattle.def_laws.proofs.StepsLaws.{calmly_led, collects_sound, collects_trans, leads_bare}
 use Rattle.def_collector.proofs.run.collect.Goals as goal
 
 pub resolution_loop-requires-clause-sound : goal.resolution_loop-requires-clause-sound
 resolution_loop-requires-clause-sound g c = collects_sound c.in_ok-seed_with_top_level.ensures.run.collects c.requires.start
 
 pub resolution_loop-requires-clause-bare : goal.resolution_loop-requires-clause-bare
-resolution_loop-requires-clause-bare g c = c.in_ok-seed_with_top_level.ensures.run.expansions ∙ ap (map expansion_shown) c.requires.bare
+resolution_loop-requires-clause-bare g c = leads_bare c.in_ok-seed_with_top_level.ensures.run (record { inner_calls = c.requires.bare.inner_calls; expansions = c.requires.bare.expansions })
 
 pub returns-clause-ends : goal.returns-clause-ends
 returns-clause-ends g c = if_ok c.resolution_loop.result c.resolution_loop.ensures.ends (λ limit_met later.

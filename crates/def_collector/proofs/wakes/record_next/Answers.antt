@@ -1,5 +1,6 @@
-use Rattle.std.proofs.Common.{ap, ◌∙◌}
+use Rattle.std.proofs.Common.{ap, subst, sym, ◌∙◌}
 use Rattle.def_collector.specs.Collector.{state_of}
+use Rattle.def_rules.specs.State.{IsBare}
 use Rattle.def_collector.proofs.WakeLemmas.{moved_unwatched}
 use Rattle.def_collector.proofs.wakes.record_next.Goals as goal
 
@@ -20,4 +21,4 @@ pub returns-clause-same : goal.returns-clause-same
 returns-clause-same g c = λ _. c.turns.invariant
 
 pub try_woken-requires : goal.try_woken-requires
-try_woken-requires g c = ap (λ k. (state_of k c.args.session.now).expansions) c.turns.invariant ∙ c.requires
+try_woken-requires g c = subst (λ k. IsBare (state_of k c.args.session.now)) (sym c.turns.invariant) c.requires

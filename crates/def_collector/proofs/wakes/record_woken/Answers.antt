@@ -2,7 +2,7 @@ use Rattle.std.proofs.Common.{[], ◌≤◌, arith, subst, sym, ◌∙◌}
 use Rattle.def_collector.specs.Collector.{state_of}
 use Rattle.def_laws.specs.Runs.{Leads}
 use Rattle.def_laws.specs.Turns.{turns_left}
-use Rattle.def_laws.proofs.StepsLaws.{leads_refl, leads_trans}
+use Rattle.def_laws.proofs.StepsLaws.{leads_bare, leads_refl, leads_trans}
 use Rattle.def_collector.proofs.WakeLemmas.{with_imports, with_table}
 use Rattle.def_rules.specs.State.{State}
 use Rattle.def_collector.proofs.wakes.record_woken.Goals as goal
@@ -41,4 +41,4 @@ returns-clause-turns g c =
     (subst (λ k. turns_left (state_of k c.args.session.now) ≤ turns_left (state_of c.args.collector.now c.args.session.now)) (sym last) c.woken.invariant.turns)
 
 pub record_next-requires : goal.record_next-requires
-record_next-requires g c = c.woken.invariant.run.expansions ∙ c.requires
+record_next-requires g c = leads_bare c.woken.invariant.run c.requires
