@@ -5,9 +5,9 @@ use Rattle.item_tree.specs.declared.items.ExpandTo.{ExpandTo}
 use Rattle.item_tree.specs.declared.items.ItemNode.{ItemNode}
 use Rattle.item_tree.specs.declared.items.ModItemKind.TheVariants.{MacroCall}
 use Rattle.item_tree.specs.declared.mod_path.ModPath.{ModPath}
-use Rattle.def_interner.specs.SessionLaws.{adds_refl}
 use Rattle.def_oracle.specs.Oracle.{Oracle}
 use Rattle.def_rules.specs.Calls.{call_effect}
+use Rattle.def_rules.specs.LocationsLaws.{own_refl}
 use Rattle.def_rules.specs.Rules.{Handles}
 use Rattle.def_rules.specs.State.{State, Effect, followed_by, Site, Task}
 use Rattle.def_laws.specs.Performs.{Handled, IsDone, Performs}
@@ -26,6 +26,6 @@ pub handled_call : (oracle : Oracle) (s t : State) (site : Site) (item : ItemNod
     → item.kind ≡ MacroCall path expand_to ctxt → IsDone oracle (call_effect oracle s site item (record { path = path; expand_to = expand_to; ctxt = ctxt })) t inner → Handled oracle s t site item inner
 handled_call oracle s t site item path expand_to ctxt inner kind done = record {
   effect = call_effect oracle s site item (record { path = path; expand_to = expand_to; ctxt = ctxt });
-  handled = (s.session, adds_refl s.session, subst (λ k. Handles oracle s site item k (call_effect oracle s site item (record { path = path; expand_to = expand_to; ctxt = ctxt }))) (sym kind) refl);
+  handled = (s.session, own_refl site item s.session, subst (λ k. Handles oracle s site item k (call_effect oracle s site item (record { path = path; expand_to = expand_to; ctxt = ctxt }))) (sym kind) refl);
   done = done;
 }

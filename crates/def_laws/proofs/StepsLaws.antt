@@ -294,7 +294,7 @@ module _ {oracle : Oracle} where
   leads_handled s t site id item inner found on none handled rest =
       let gave = handled.gave in
       let then = handled.handled in
-      leads_done site id rest s t then.effect inner (does_enabled oracle s site id item found on None none then.effect (gave.session, gave.adds, handled.given, gave.impls, then.handled)) then.done
+      leads_done site id rest s t then.effect inner (does_enabled oracle s site id item found on None none then.effect (gave.session, gave.own, handled.given, gave.impls, then.handled)) then.done
 
   -- or it waits for the macro of an attribute
   pub leads_waits : (s t : State) (site : Site) (id : ModItemId) (item : ItemNode) (attr : AttrId × Attr) → node_at oracle site.tree id ≡ Some item → disabled_by item.attrs ≡ None → awaited_attr oracle s site id item ≡ Some attr

@@ -2,13 +2,14 @@
 use Rattle.std.specs.Prelude.{◌≡◌, ◌≤◌, ◌+◌, ◌*◌, List, [], ◌++◌, length, Option}
 use Rattle.item_tree.specs.declared.items.ItemNode.{ItemNode}
 use Rattle.def_ids.specs.declared.ids.ModuleId.{ModuleId}
-use Rattle.def_interner.specs.Session.{AddsLocations, Session}
+use Rattle.def_interner.specs.Session.{Session}
 use Rattle.def_bindings.specs.declared.bindings.Entry.{Entry}
 use Rattle.def_bindings.specs.declared.visibility.Visibility.{Visibility}
 use Rattle.def_oracle.specs.Oracle.{Oracle}
 use Rattle.def_laws.specs.Travels.{Travels}
 use Rattle.def_rules.specs.Calls.{expansion_effect}
 use Rattle.def_rules.specs.Deferred.{ImplsAreGiven}
+use Rattle.def_rules.specs.Locations.{AddsOwn}
 use Rattle.def_rules.specs.Rules.{HandlesByKind}
 use Rattle.def_rules.specs.Directives.{tries}
 use Rattle.def_rules.specs.State.{State, Site, Task, Effect, followed_by, order, with_content}
@@ -54,10 +55,10 @@ pub record Handled (oracle : Oracle) (s t : State) (site : Site) (item : ItemNod
   pub handled : HandlesByKind oracle s site item effect
   pub done : IsDone oracle effect t inner
 
--- the derives that are deferred for an item gave their impls, in a session that may have more locations
+-- the derives that are deferred for an item gave their impls, in a session that may have more locations of it
 pub record GaveImpls (oracle : Oracle) (s : State) (site : Site) (item : ItemNode) (given : State) : Type 0 where
   pub session : Session
-  pub adds : AddsLocations s.session session
+  pub own : AddsOwn site item s.session session
   pub impls : ImplsAreGiven oracle (record s { session = session }) site item given
 
 -- so they did, and then the item was handled by its kind

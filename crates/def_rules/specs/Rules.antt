@@ -18,7 +18,7 @@ use Rattle.def_ids.specs.declared.ids.Def.{Def}
 use Rattle.def_ids.specs.declared.ids.Def.TheVariants as def
 use Rattle.def_ids.specs.declared.ids.ItemContainerId.TheVariants as contained
 use Rattle.def_ids.specs.declared.ids.MacroId.TheVariants as macro_of
-use Rattle.def_interner.specs.Session.{Session, AddsLocations, ItemKind, FunctionItem, StructItem, UnionItem, EnumItem, ConstItem, StaticItem, TraitItem, TypeAliasItem, ImplItem, UseItem, ExternCrateItem, ExternBlockItem}
+use Rattle.def_interner.specs.Session.{Session, ItemKind, FunctionItem, StructItem, UnionItem, EnumItem, ConstItem, StaticItem, TraitItem, TypeAliasItem, ImplItem, UseItem, ExternCrateItem, ExternBlockItem}
 use Rattle.def_bindings.specs.declared.bindings.Namespace.{Namespace}
 use Rattle.def_bindings.specs.declared.bindings.Namespace.TheVariants.{Types, Values}
 use Rattle.def_modules.specs.Scopes.{with_extern_block, with_extern_crate, with_impl, with_unnamed_const}
@@ -29,6 +29,7 @@ use Rattle.def_rules.specs.State.{State, Effect, only, followed_by, reported, Si
 use Rattle.def_rules.specs.Waiting.{WrittenCall}
 use Rattle.def_rules.specs.Items.{IsNumber, ctor_vis, declared_effect, diagnostic, node_at, noted_in, new_imports, struct_effect, walk, written_vis}
 use Rattle.def_rules.specs.Macros.{IsBuiltinName, item_effect, item_expander, item_flags, macro_loc, macros_brought, rules_effect, rules_expander, rules_flags}
+use Rattle.def_rules.specs.Locations.{AddsOwn}
 use Rattle.def_rules.specs.ProcMacros.{DeclaresFunction, exported_macro}
 use Rattle.def_rules.specs.Attributes.{awaited_attr, awaiting}
 use Rattle.def_rules.specs.Calls.{call_effect, queued}
@@ -119,15 +120,15 @@ Follows oracle s site item (calls_macro written) effect = effect ≡ call_effect
 abbrev pub Handles : Oracle → State → Site → ItemNode → ModItemKind → Effect → Type 0
 Handles oracle s site item kind effect = Follows oracle s site item (rule_of kind) effect
 
--- so it is in a session that may have more locations
+-- so it is in a session that may have more locations, of this item
 abbrev pub HandlesByKind : Oracle → State → Site → ItemNode → Effect → Type 0
 HandlesByKind oracle s site item effect =
-    (session : Session) × AddsLocations s.session session × Handles oracle (record s { session = session }) site item item.kind effect
+    (session : Session) × AddsOwn site item s.session session × Handles oracle (record s { session = session }) site item item.kind effect
 
 -- an item is handled: the derives that are deferred for it give their impls, and then its kind's rule is followed
 abbrev pub HandlesInSession : Oracle → State → Site → ItemNode → Effect → Type 0
 HandlesInSession oracle s site item effect =
-    (session : Session) × AddsLocations s.session session × (given : State) × ImplsAreGiven oracle (record s { session = session }) site item given
+    (session : Session) × AddsOwn site item s.session session × (given : State) × ImplsAreGiven oracle (record s { session = session }) site item given
     × HandlesByKind oracle given site item effect
 
 -- an item that cfg does not disable: one with an attribute that may be a macro waits for it, any other is handled

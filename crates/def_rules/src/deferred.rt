@@ -5,8 +5,8 @@ use def_modules::HelpersRange;
 use item_tree::{AttrId, MacroCallId};
 
 /// A builtin derive that is not expanded, since its impls are known: its number, the number of its
-/// attribute and its place in the list, its call, its helpers, and where its expansion would stand. It is the
-/// `DeferredBuiltinDerive` of rust-analyzer's collector.
+/// attribute and its place in the list, its call, its helpers, and where its expansion would stand.
+/// It is the `DeferredBuiltinDerive` of rust-analyzer's collector.
 #[derive(Clone, Copy, Drop)]
 pub struct DeferredDerive {
     /// The builtin derive, by the oracle's number.
