@@ -6,12 +6,13 @@ use Rattle.def_ids.specs.declared.ids.Adt.{Adt}
 use Rattle.def_ids.specs.declared.ids.BuiltinDeriveImplId.{BuiltinDeriveImplId}
 use Rattle.def_ids.specs.declared.ids.ModuleId.{ModuleId}
 use Rattle.def_interner.specs.Session.{AddsLocations, Session}
-use Rattle.def_interner.specs.SessionLaws.{adds_refl, adds_trans}
 use Rattle.def_map.specs.Oracle.{Oracle}
 use Rattle.def_modules.specs.Maps.{with_module}
 use Rattle.def_modules.specs.MapState.{MapState}
 use Rattle.def_modules.specs.Scopes.{with_derive_impl}
 use Rattle.def_rules.specs.declared.deferred.DeferredDerive.{DeferredDerive}
+use Rattle.def_rules.specs.Locations.{AddsImpls}
+use Rattle.def_rules.specs.LocationsLaws.{only_refl, only_trans}
 use Rattle.def_rules.specs.Deferred.{AreGiven, AreImpls, giving_impls, last_of, naming_impl, with_impls}
 
 module _ (adt : Adt) (derive : DeferredDerive) where
@@ -44,23 +45,23 @@ pub record GaveFor (old new : Session) (at : ModuleId) (adt : Adt) (derive : Def
   pub are : AreImpls new adt derive traits ids
   pub map : n ≡ with_impls m at ids
   pub is_last : last ≡ last_of None ids
-  pub adds : AddsLocations old new
+  pub own : AddsImpls adt old new
 
 module _ (at : ModuleId) (adt : Adt) (derive : DeferredDerive) where
   -- none
   pub gave_none : (s : Session) (m : MapState) → GaveFor s s at adt derive [] None m m
-  gave_none s m = record { ids = []; are = tt; map = refl; is_last = refl; adds = adds_refl s }
+  gave_none s m = record { ids = []; are = tt; map = refl; is_last = refl; own = only_refl s }
 
   -- one more
-  pub gave_more : (old s t : Session) (traits : List ℕ) (last : Option BuiltinDeriveImplId) (m n k : MapState) → GaveFor old s at adt derive traits last m n → (derived : ℕ) (id : BuiltinDeriveImplId) → AddsLocations s t
+  pub gave_more : (old s t : Session) (traits : List ℕ) (last : Option BuiltinDeriveImplId) (m n k : MapState) → GaveFor old s at adt derive traits last m n → (derived : ℕ) (id : BuiltinDeriveImplId) → AddsImpls adt s t
       → t.derive_impl id.0 ≡ Some (record { adt = adt; derived = derived; attr = derive.attr_id; pos = derive.pos }) → k ≡ with_module n at.index (with_derive_impl id)
       → GaveFor old t at adt derive (traits ++ derived ∷ []) (Some id) m k
-  gave_more old s t traits last m n k gave derived id adds is after = record {
+  gave_more old s t traits last m n k gave derived id own is after = record {
     ids = gave.ids ++ id ∷ [];
-    are = impls_push adt derive t traits gave.ids derived id (impls_stay adt derive s t adds traits gave.ids gave.are) is;
+    are = impls_push adt derive t traits gave.ids derived id (impls_stay adt derive s t own.adds traits gave.ids gave.are) is;
     map = after ∙ ap (λ x. with_module x at.index (with_derive_impl id)) gave.map ∙ sym (with_push at gave.ids id m);
     is_last = sym (last_push None gave.ids id);
-    adds = adds_trans old s t gave.adds adds;
+    own = only_trans old s t gave.own own;
   }
 
   -- all of them, and the last stands for the derive

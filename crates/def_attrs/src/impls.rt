@@ -4,6 +4,7 @@ ghost use Rattle.def_ids.specs.declared.ids.BuiltinDeriveImplId.{BuiltinDeriveIm
 ghost use Rattle.def_interner.specs.Session.{AddsLocations, session_of};
 ghost use Rattle.def_modules.specs.Maps.{map_state};
 ghost use Rattle.def_rules.specs.Deferred.{AreGiven, AreImpls, giving_impls};
+ghost use Rattle.def_rules.specs.Locations.{AddsImpls};
 
 use def_ids::{Adt, BuiltinDeriveImplLoc, ModuleId};
 use def_interner::{Interner, Location};
@@ -33,6 +34,7 @@ pub fn give_impls<D: SourceDatabase>(
 ) -> Result<(), AllocError>
     ensures given { OnOk result (
         AreGiven (D.oracle db.now) (session_of session.new) item.module_id item.position item.adt derives.now (map_state def_map.old) (map_state def_map.new)) }
+    ensures own { OnOk result (AddsImpls item.adt (session_of session.old) (session_of session.new)) }
     ensures session { AddsLocations (session_of session.old) (session_of session.new) }
 {
     'derives: for derive in derives {
@@ -53,6 +55,7 @@ fn give_each<D: SourceDatabase>(
     ensures given { OnOk result ((ids : List Impl)
         × AreImpls (session_of session.new) item.adt derive.now ((D.oracle db.now).derive_traits derive.now.derive) ids
         × (map_state def_map.new ≡ giving_impls (map_state def_map.old) item.module_id item.position derive.now ids)) }
+    ensures own { OnOk result (AddsImpls item.adt (session_of session.old) (session_of session.new)) }
     ensures session { AddsLocations (session_of session.old) (session_of session.new) }
 {
     let module = item.module_id.index;

@@ -15,8 +15,7 @@ use Rattle.def_ids.specs.declared.ids.Def.TheVariants.{Module}
 use Rattle.def_ids.specs.declared.ids.Def.TheVariants as def
 use Rattle.def_ids.specs.declared.ids.MacroId.{MacroId}
 use Rattle.def_ids.specs.declared.ids.ModuleId.{ModuleId}
-use Rattle.def_interner.specs.Session.{Session, AddsLocations, StructItem, UseItem, in_module, ImplItem, ExternCrateItem, ExternBlockItem}
-use Rattle.def_interner.specs.SessionLaws.{adds_refl}
+use Rattle.def_interner.specs.Session.{Session, StructItem, UseItem, in_module, ImplItem, ExternCrateItem, ExternBlockItem}
 use Rattle.def_bindings.specs.declared.bindings.Entry.{Entry}
 use Rattle.def_bindings.specs.declared.bindings.Namespace.TheVariants.{Types, Values}
 use Rattle.def_bindings.specs.declared.visibility.Visibility.{Visibility}
@@ -32,6 +31,8 @@ use Rattle.def_rules.specs.Imports.{no_namespaces}
 use Rattle.def_rules.specs.Macros.{macros_brought}
 use Rattle.def_rules.specs.Modules.{add_module, fresh_module, module_item, next_module}
 use Rattle.def_rules.specs.ExternCrates.{crate_effect, crate_name, named_crate}
+use Rattle.def_rules.specs.Locations.{AddsOwn}
+use Rattle.def_rules.specs.LocationsLaws.{own_refl}
 use Rattle.def_rules.specs.Rules.{Handles}
 use Rattle.def_parts.specs.Directories.{Directory}
 use Rattle.def_rules.specs.State.{State, Effect, ImportDirective, Rearranges, Site, Task, only, with_map, order, followed_by}
@@ -94,7 +95,7 @@ pub handled_module : (oracle : Oracle) (s t : State) (site : Site) (item : ItemN
     → item.kind ≡ Mod name raw contents → vis ≡ written_vis oracle s site.scope raw → IsDone oracle (module_item oracle s site item name vis contents) t inner → Handled oracle s t site item inner
 handled_module oracle s t site item name raw contents vis inner kind seen done = record {
   effect = module_item oracle s site item name vis contents;
-  handled = (s.session, adds_refl s.session, subst (λ k. Handles oracle s site item k (module_item oracle s site item name vis contents)) (sym kind) (ap (λ v. module_item oracle s site item name v contents) seen));
+  handled = (s.session, own_refl site item s.session, subst (λ k. Handles oracle s site item k (module_item oracle s site item name vis contents)) (sym kind) (ap (λ v. module_item oracle s site item name v contents) seen));
   done = done;
 }
 
@@ -108,10 +109,10 @@ imports_at at position n raw prelude imports =
 
 -- a `use` item was handled, and its imports stand anywhere among the others
 pub handled_use : (oracle : Oracle) (s t : State) (session : Session) (site : Site) (item : ItemNode) (raw : RawVisibility) (imports : List UseImport) (n : ℕ) (position : InFile FileAstId) (prelude : Bool)
-    → item.kind ≡ Use raw imports → AddsLocations s.session session → position ≡ position_of site item → prelude ≡ is_prelude_import item.attrs → session.item UseItem n ≡ Some (in_module site.scope position)
+    → item.kind ≡ Use raw imports → AddsOwn site item s.session session → position ≡ position_of site item → prelude ≡ is_prelude_import item.attrs → session.item UseItem n ≡ Some (in_module site.scope position)
     → Rearranges (record s { session = session; imports = s.imports ++ imports_at site.scope position n raw prelude imports }) t
     → Handled oracle s t site item []
-handled_use oracle s t session site item raw imports n position prelude kind adds placed asked numbered after =
+handled_use oracle s t session site item raw imports n position prelude kind own placed asked numbered after =
     let effect : Effect = only (record s { session = session; imports = s.imports ++ new_imports site item (record { 0 = n }) raw imports }) in
     let number : session.item UseItem n ≡ Some (loc_of site UseItem item) = numbered ∙ ap (λ p. Some (in_module site.scope p)) placed in
     let became : record s { session = session; imports = s.imports ++ imports_at site.scope position n raw prelude imports } ≡ effect.state =
@@ -120,17 +121,17 @@ handled_use oracle s t session site item raw imports n position prelude kind add
     let same : Rearranges effect.state t = subst (λ u. Rearranges u t) became after in
     record {
       effect = effect;
-      handled = (session, adds, subst (λ k. Handles oracle (record s { session = session }) site item k effect) (sym kind) (n, number, refl));
+      handled = (session, own, subst (λ k. Handles oracle (record s { session = session }) site item k effect) (sym kind) (n, number, refl));
       done = record { puts = []; tasks = refl; performs = performs_rearranged effect.state t same };
     }
 
 -- a struct was handled
 pub handled_struct : (oracle : Oracle) (s t : State) (session : Session) (site : Site) (item : ItemNode) (name : Name) (raw : RawVisibility) (written : CtorVisibility) (n : ℕ) (position : InFile FileAstId) (vis : Visibility) (ctor : Option Visibility)
-    → item.kind ≡ Struct name raw written → AddsLocations s.session session → position ≡ position_of site item → session.item StructItem n ≡ Some (in_module site.scope position)
+    → item.kind ≡ Struct name raw written → AddsOwn site item s.session session → position ≡ position_of site item → session.item StructItem n ≡ Some (in_module site.scope position)
     → vis ≡ written_vis oracle (record s { session = session }) site.scope raw → ctor ≡ ctor_vis oracle (record s { session = session }) site.scope written
     → (let effect = struct_effect (record s { session = session }) site.scope name (def.Struct (record { 0 = n })) vis ctor in Performs oracle effect.tasks effect.state t)
     → Handled oracle s t site item []
-handled_struct oracle s t session site item name raw written n position vis ctor kind adds placed numbered seen built after =
+handled_struct oracle s t session site item name raw written n position vis ctor kind own placed numbered seen built after =
     let effect : Effect = struct_effect (record s { session = session }) site.scope name (def.Struct (record { 0 = n })) vis ctor in
     let number : session.item StructItem n ≡ Some (loc_of site StructItem item) = numbered ∙ ap (λ p. Some (in_module site.scope p)) placed in
     let is : effect ≡ struct_effect (record s { session = session }) site.scope name (def.Struct (record { 0 = n })) (written_vis oracle (record s { session = session }) site.scope raw) (ctor_vis oracle (record s { session = session }) site.scope written) =
@@ -138,13 +139,13 @@ handled_struct oracle s t session site item name raw written n position vis ctor
     ∙ ap (struct_effect (record s { session = session }) site.scope name (def.Struct (record { 0 = n })) (written_vis oracle (record s { session = session }) site.scope raw)) built in
     record {
       effect = effect;
-      handled = (session, adds, subst (λ k. Handles oracle (record s { session = session }) site item k effect) (sym kind) (n, number, is));
+      handled = (session, own, subst (λ k. Handles oracle (record s { session = session }) site item k effect) (sym kind) (n, number, is));
       done = record { puts = effect.tasks; tasks = sym (append-nil effect.tasks); performs = after };
     }
 
 -- Something was recorded in the module, and nothing put
 
-module _ (oracle : Oracle) (s t : State) (session : Session) (site : Site) (item : ItemNode) (n : ℕ) (position : InFile FileAstId) (adds : AddsLocations s.session session) (placed : position ≡ position_of site item) where
+module _ (oracle : Oracle) (s t : State) (session : Session) (site : Site) (item : ItemNode) (n : ℕ) (position : InFile FileAstId) (own : AddsOwn site item s.session session) (placed : position ≡ position_of site item) where
   abbrev kept : State
   kept = record s { session = session }
 
@@ -155,7 +156,7 @@ module _ (oracle : Oracle) (s t : State) (session : Session) (site : Site) (item
       let effect : Effect = only (noted_in kept site.scope (with_impl (record { 0 = n }) of_trait)) in
       record {
         effect = effect;
-        handled = (session, adds, subst (λ k. Handles oracle kept site item k effect) (sym kind) (n, numbered ∙ ap (λ p. Some (in_module site.scope p)) placed, refl));
+        handled = (session, own, subst (λ k. Handles oracle kept site item k effect) (sym kind) (n, numbered ∙ ap (λ p. Some (in_module site.scope p)) placed, refl));
         done = record { puts = []; tasks = refl; performs = subst (λ u. Performs oracle [] effect.state u) (sym after) (performs_none effect.state) };
       }
 
@@ -178,7 +179,7 @@ module _ (oracle : Oracle) (s t : State) (session : Session) (site : Site) (item
       ∙ ap (λ x. crate_effect begun site item (record { 0 = n }) (crate_name name alias) seen_vis (macros_brought oracle kept item name x) x) found in
       record {
         effect = effect;
-        handled = (session, adds, subst (λ k. Handles oracle kept site item k effect) (sym kind) (n, number, is));
+        handled = (session, own, subst (λ k. Handles oracle kept site item k effect) (sym kind) (n, number, is));
         done = record { puts = effect.tasks; tasks = sym (append-nil effect.tasks); performs = after };
       }
 
@@ -190,7 +191,7 @@ module _ (oracle : Oracle) (s t : State) (session : Session) (site : Site) (item
       let effect : Effect = followed_by (noted_in kept site.scope (with_extern_block (record { 0 = n }))) (walk oracle (record site { container = contained.ExternBlock (record { 0 = n }) }) children) in
       record {
         effect = effect;
-        handled = (session, adds, subst (λ k. Handles oracle kept site item k effect) (sym kind) (n, numbered ∙ ap (λ p. Some (in_module site.scope p)) placed, refl));
+        handled = (session, own, subst (λ k. Handles oracle kept site item k effect) (sym kind) (n, numbered ∙ ap (λ p. Some (in_module site.scope p)) placed, refl));
         done = record {
           puts = [];
           tasks = ap (λ d. walk oracle (record site { container = contained.ExternBlock (record { 0 = n }); directory = d }) children) (sym same_directory)

@@ -6,6 +6,7 @@ ghost use Rattle.def_parts.specs.Sites.{site_of};
 ghost use Rattle.def_rules.specs.Deferred.{IsAdt};
 ghost use Rattle.def_rules.specs.Derives.{derives_kind};
 ghost use Rattle.def_rules.specs.Items.{loc_of};
+ghost use Rattle.def_rules.specs.Locations.{AddsOwn, number_kind};
 ghost use Rattle.def_rules.specs.State.{State};
 
 use def_bindings::Namespace;
@@ -47,6 +48,7 @@ pub fn number_item<'a>(
     ensures declared { IfOk result (λ declared.
         IsDeclared (session_of session.new) (site_of site.now) node.now declared) }
     ensures same { OnOk result (is_declaring node.now.kind ≡ false → session.new ≡ session.old) }
+    ensures own { OnOk result (AddsOwn (site_of site.now) node.now (session_of session.old) (session_of session.new)) }
     ensures session { AddsLocations (session_of session.old) (session_of session.new) }
 {
     match &node.kind {
@@ -120,6 +122,7 @@ pub fn number_adt(
     ensures numbered { IfOk result (λ found. IfSome found (λ adt. (s : State) →
         IsAdt (record s { session = session_of session.new }) (site_of site.now) node.now node.now.kind adt)) }
     ensures other { IfOk result (λ found. IfNone found (derives_kind node.now.kind ≡ false)) }
+    ensures own { OnOk result (AddsOwn (site_of site.now) node.now (session_of session.old) (session_of session.new)) }
     ensures session { AddsLocations (session_of session.old) (session_of session.new) }
 {
     let container = site.module_id;
@@ -160,6 +163,8 @@ pub fn number_function(
     node: &ItemNode,
 ) -> Result<FunctionId, AllocError>
     ensures numbered { IfOk result (λ id. (session_of session.new).item FunctionItem id.0 ≡ Some (loc_of (site_of site.now) FunctionItem node.now)) }
+    ensures own { OnOk result (number_kind node.now.kind ≡ Some FunctionItem →
+        AddsOwn (site_of site.now) node.now (session_of session.old) (session_of session.new)) }
     ensures session { AddsLocations (session_of session.old) (session_of session.new) }
 {
     let id = FunctionLoc {
@@ -179,6 +184,7 @@ fn number_value<'a>(
     ensures declared { IfOk result (λ declared. is_type node.now.kind ≡ false →
         IsDeclared (session_of session.new) (site_of site.now) node.now declared) }
     ensures same { OnOk result (is_declaring node.now.kind ≡ false → session.new ≡ session.old) }
+    ensures own { OnOk result (AddsOwn (site_of site.now) node.now (session_of session.old) (session_of session.new)) }
     ensures session { AddsLocations (session_of session.old) (session_of session.new) }
 {
     match &node.kind {

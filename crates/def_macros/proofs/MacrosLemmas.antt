@@ -19,7 +19,7 @@ use Rattle.def_ids.specs.Ids.{is_same_map}
 use Rattle.def_ids.specs.declared.edition.Edition.{Edition}
 use Rattle.def_ids.specs.declared.expander.MacroExpander.{MacroExpander}
 use Rattle.def_interner.specs.MacroKinds.{kind_of_expander}
-use Rattle.def_interner.specs.Session.{AddsLocations, MacroLoc, Session}
+use Rattle.def_interner.specs.Session.{MacroLoc, Session}
 use Rattle.def_bindings.specs.declared.visibility.Visibility.{Visibility}
 use Rattle.def_bindings.specs.Content.{Content}
 use Rattle.def_parts.specs.Sites.{site_of}
@@ -31,6 +31,7 @@ use Rattle.def_modules.specs.MapView.{MapView}
 use Rattle.def_laws.specs.Performs.{Handled, Performs}
 use Rattle.def_rules.specs.Items.{position_of, written_vis}
 use Rattle.def_rules.specs.Macros.{defined_effect, export_effect, item_effect, item_expander, item_flags, macro_loc, rules_effect, rules_expander, rules_flags, taken_by, taken_in, textual_state, unimplemented_reported}
+use Rattle.def_rules.specs.Locations.{AddsOwn}
 use Rattle.def_rules.specs.Rules.{Handles}
 use Rattle.def_rules.specs.State.{State, Effect, Site}
 
@@ -55,7 +56,7 @@ placed edition site node expander position flags known at same =
     let loc : InFile FileAstId → MacroRulesLocFlags → MacroLoc = λ p f. record { container = site.scope; position = p; kind = kind_of_expander expander; flags = f; edition = edition } in
     ap (λ p. loc p flags) at ∙ ap (loc (position_of site node)) same
 
-module _ (oracle : Oracle) (s t u : State) (session : Session) (site : Site) (node : ItemNode) (name : Name) (m : MacroItem) (adds : AddsLocations s.session session) (told : u ≡ unimplemented_reported (record s { session = session }) (site_of m.site.now) m.node.now m.expander) where
+module _ (oracle : Oracle) (s t u : State) (session : Session) (site : Site) (node : ItemNode) (name : Name) (m : MacroItem) (own : AddsOwn site node s.session session) (told : u ≡ unimplemented_reported (record s { session = session }) (site_of m.site.now) m.node.now m.expander) where
   abbrev kept : State
   kept = record s { session = session }
 
@@ -87,7 +88,7 @@ module _ (oracle : Oracle) (s t u : State) (session : Session) (site : Site) (no
       ap (λ x. session.macro_at x) (sym by) ∙ rules.numbered ∙ ap (λ x. Some (macro_loc s.map.krate.edition site node x (rules_flags node))) by_this in
       record {
         effect = effect;
-        handled = (session, adds, subst (λ k. Handles oracle kept site node k effect) (sym kind) (rules.n, rules.found, rules.looked_up, number, refl));
+        handled = (session, own, subst (λ k. Handles oracle kept site node k effect) (sym kind) (rules.n, rules.found, rules.looked_up, number, refl));
         done = record { puts = effect.tasks; tasks = sym (append-nil effect.tasks); performs = performed_same made effect (first ∙ second) after };
       }
 
@@ -118,6 +119,6 @@ module _ (oracle : Oracle) (s t u : State) (session : Session) (site : Site) (no
       ap (λ x. session.macro_at x) (sym by) ∙ item.numbered ∙ ap (λ x. Some (macro_loc s.map.krate.edition site node x (item_flags node))) by_this in
       record {
         effect = effect;
-        handled = (session, adds, subst (λ k. Handles oracle kept site node k effect) (sym kind) (item.n, number, refl));
+        handled = (session, own, subst (λ k. Handles oracle kept site node k effect) (sym kind) (item.n, number, refl));
         done = record { puts = effect.tasks; tasks = sym (append-nil effect.tasks); performs = performed_same made effect (first ∙ second) after };
       }

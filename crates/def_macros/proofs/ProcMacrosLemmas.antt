@@ -17,12 +17,13 @@ use Rattle.def_bindings.specs.declared.bindings.Namespace.TheVariants.{Macros, V
 use Rattle.def_bindings.specs.declared.visibility.Visibility.{Visibility}
 use Rattle.def_bindings.specs.declared.visibility.Visibility.TheVariants.{Public}
 use Rattle.def_bindings.specs.Content.{without_binding}
-use Rattle.def_interner.specs.Session.{AddsLocations, FunctionItem, Session}
-use Rattle.def_interner.specs.SessionLaws.{adds_trans}
+use Rattle.def_interner.specs.Session.{FunctionItem, Session}
 use Rattle.def_map.specs.Oracle.{Oracle}
 use Rattle.def_readings.specs.ProcMacros.{MacroDecl, proc_macro_of}
 use Rattle.def_rules.specs.Items.{declared_effect, declared_entry, loc_of, written_vis}
 use Rattle.def_rules.specs.ProcMacros.{DeclaresFunction, binds_function, built_as, exported_effect, exported_macro, proc_loc, taken_out, takes_out}
+use Rattle.def_rules.specs.Locations.{AddsOwn}
+use Rattle.def_rules.specs.LocationsLaws.{own_trans}
 use Rattle.def_rules.specs.Rules.{Handles}
 use Rattle.def_rules.specs.State.{State, Effect, Site, Task, root, with_content}
 use Rattle.def_rules.specs.Targets.{leaves_out}
@@ -70,7 +71,7 @@ exported_performed oracle before first t u v site node name vis function decl id
     (subst (λ e. Updated (root before.map) (e ∷ []) t u) is_macros put_macros) gone
 
 module _ (oracle : Oracle) (s t : State) (session : Session) (site : Site) (node : ItemNode) (name : Name) (raw : RawVisibility) (function : FunctionId) (vis : Visibility)
-    (kind : node.kind ≡ Function name raw) (adds : AddsLocations s.session session) (numbered : session.item FunctionItem function.0 ≡ Some (loc_of site FunctionItem node)) where
+    (kind : node.kind ≡ Function name raw) (own : AddsOwn site node s.session session) (numbered : session.item FunctionItem function.0 ≡ Some (loc_of site FunctionItem node)) where
   -- the state in the session that has grown
   abbrev kept : State
   kept = record s { session = session }
@@ -83,7 +84,7 @@ module _ (oracle : Oracle) (s t : State) (session : Session) (site : Site) (node
           effect = effect;
           handled = (
             session,
-            adds,
+            own,
             subst (λ k. Handles oracle kept site node k effect) (sym kind) (
               function.0,
               numbered,
@@ -103,9 +104,9 @@ module _ (oracle : Oracle) (s t : State) (session : Session) (site : Site) (node
     handled_exported decl id is stands after = handled_by (Some decl) (exported_effect kept site node name vis function decl id) is (id, stands, refl) after
 
 -- what is handled in a session that has grown is handled
-pub handled_grown : (oracle : Oracle) (s t : State) (session : Session) (site : Site) (node : ItemNode) (inner : List Task) → AddsLocations s.session session → Handled oracle (record s { session = session }) t site node inner → Handled oracle s t site node inner
-handled_grown oracle s t session site node inner adds handled =
-    record { effect = handled.effect; handled = (handled.handled.0, adds_trans s.session session handled.handled.0 adds handled.handled.1, handled.handled.2); done = handled.done }
+pub handled_grown : (oracle : Oracle) (s t : State) (session : Session) (site : Site) (node : ItemNode) (inner : List Task) → AddsOwn site node s.session session → Handled oracle (record s { session = session }) t site node inner → Handled oracle s t site node inner
+handled_grown oracle s t session site node inner own handled =
+    record { effect = handled.effect; handled = (handled.handled.0, own_trans site node s.session session handled.handled.0 own handled.handled.1, handled.handled.2); done = handled.done }
 
 -- in a module that is not left out a function exports nothing
 pub exports_nothing : (s : State) (site : Site) (node : ItemNode) (name : Name) → leaves_out s site.scope ≡ false → exported_macro s site node name ≡ None

@@ -1,9 +1,12 @@
 //! Items that define macros: each gets its number, and with it what expands it.
-ghost use Rattle.std.specs.Prelude.{IfOk};
+ghost use Rattle.std.specs.Prelude.{◌≡◌, IfOk, OnOk};
+ghost use Rattle.item_tree.specs.declared.items.ModItemKind.TheVariants as kinds;
+ghost use Rattle.item_tree.specs.declared.items.RawVisibility.{RawVisibility};
 ghost use Rattle.def_interner.specs.Session.{AddsLocations, session_of};
 ghost use Rattle.def_modules.specs.Maps.{map_state};
 ghost use Rattle.def_parts.specs.Sites.{site_of};
 ghost use Rattle.def_macros.specs.Numbered.{IsItem, IsRules};
+ghost use Rattle.def_rules.specs.Locations.{AddsOwn};
 
 use crate::expanders::{builtin_name, item_expander, rules_expander};
 use crate::flags::{item_flags, rules_flags};
@@ -36,6 +39,8 @@ pub fn number_macro_rules<'a, D: SourceDatabase>(
 ) -> Result<MacroItem<'a>, AllocError>
     ensures rules { IfOk result (λ item.
         IsRules (D.oracle db.now) (map_state def_map.now) (session_of session.new) (site_of site.now) node.now name item) }
+    ensures own { OnOk result (node.now.kind ≡ kinds.MacroRules name →
+        AddsOwn (site_of site.now) node.now (session_of session.old) (session_of session.new)) }
     ensures session { AddsLocations (session_of session.old) (session_of session.new) }
 {
     let found = builtin_name(session, node, name);
@@ -68,6 +73,8 @@ pub fn number_macro<'a, D: SourceDatabase>(
 ) -> Result<MacroItem<'a>, AllocError>
     ensures item { IfOk result (λ item.
         IsItem (D.oracle db.now) (map_state def_map.now) (session_of session.new) (site_of site.now) node.now name item) }
+    ensures own { OnOk result ((raw : RawVisibility) → node.now.kind ≡ kinds.Macro2 name raw →
+        AddsOwn (site_of site.now) node.now (session_of session.old) (session_of session.new)) }
     ensures session { AddsLocations (session_of session.old) (session_of session.new) }
 {
     let expander = item_expander(db, def_map.tree.map.krate, site, node, name);

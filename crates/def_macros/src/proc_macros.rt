@@ -1,6 +1,8 @@
 //! Procedural macros: what functions in the root of their crate declare, and what they export.
 ghost use Rattle.std.specs.Prelude.{◌≡◌, cond, option_map, true, IfOk, IfSome, OnOk, Some};
 ghost use Rattle.item_tree.specs.Attrs.{attrs_of};
+ghost use Rattle.item_tree.specs.declared.items.ModItemKind.TheVariants as kinds;
+ghost use Rattle.item_tree.specs.declared.items.RawVisibility.{RawVisibility as WrittenVis};
 ghost use Rattle.def_ids.specs.declared.ids.MacroId.TheVariants as macro_of;
 ghost use Rattle.def_interner.specs.Session.{AddsLocations, session_of};
 ghost use Rattle.def_bindings.specs.declared.bindings.Namespace.TheVariants.{Values};
@@ -13,6 +15,7 @@ ghost use Rattle.def_modules.specs.Maps.{map_state};
 ghost use Rattle.def_parts.specs.ProcMacros.{decl_of, kind_of};
 ghost use Rattle.def_parts.specs.Sites.{site_of};
 ghost use Rattle.def_readings.specs.ProcMacros.{proc_macro_of};
+ghost use Rattle.def_rules.specs.Locations.{AddsOwn};
 ghost use Rattle.def_rules.specs.ProcMacros as rules;
 ghost use Rattle.def_rules.specs.State.{State, with_map};
 ghost use Rattle.def_rules.specs.Targets.{leaves_out};
@@ -160,6 +163,8 @@ pub fn number_proc_macro<D: SourceDatabase>(
 ) -> Result<Option<ExportedMacro>, AllocError>
     ensures numbered { IfOk result (λ found.
         IsNumbered (D.oracle db.now) (map_state def_map.now) (session_of session.new) (site_of site.now) node.now name found) }
+    ensures own { OnOk result ((raw : WrittenVis) → node.now.kind ≡ kinds.Function name raw →
+        AddsOwn (site_of site.now) node.now (session_of session.old) (session_of session.new)) }
     ensures session { AddsLocations (session_of session.old) (session_of session.new) }
 {
     let Some(def) = declared_macro(alloc, node, name)? else {

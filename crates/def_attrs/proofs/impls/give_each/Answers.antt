@@ -3,13 +3,14 @@ use Rattle.std.proofs.lemmas.List.{take_all, take_more}
 use Rattle.def_interner.specs.Session.{session_of}
 use Rattle.def_interner.specs.SessionLaws.{adds_trans}
 use Rattle.def_modules.specs.Maps.{map_state, with_renamed_helpers}
+use Rattle.def_rules.specs.LocationsLaws.{own_derive_impl}
 use Rattle.def_attrs.proofs.ImplsLemmas.{GaveFor, gave_all, gave_more}
 use Rattle.def_attrs.proofs.impls.give_each.Goals as goal
 
 pub returns-in_err-define_builtin_derive_impl-clause-session :
     goal.returns-in_err-define_builtin_derive_impl-clause-session
 returns-in_err-define_builtin_derive_impl-clause-session g c =
-    adds_trans (session_of c.args.session.now) (session_of c.traits.session) (session_of c.intern.new.session) c.traits.invariant.adds c.in_ok-id.ensures.adds
+    adds_trans (session_of c.args.session.now) (session_of c.traits.session) (session_of c.intern.new.session) c.traits.invariant.own.adds c.in_ok-id.ensures.adds
 
 pub traits-preserved : goal.traits-preserved
 traits-preserved g c =
@@ -22,7 +23,7 @@ traits-preserved g c =
     subst (λ traits. GaveFor old t c.args.item.module_id c.args.item.adt c.args.derive.now traits (Some c.in_ok-id.id) m k)
     (sym (take_more items i 0 (omega (arith, c.traits-test.true, c.traits.auto.derived-index-end))))
     (gave_more c.args.item.module_id c.args.item.adt c.args.derive.now old (session_of c.traits.session) t (take i items) c.traits.last m (map_state c.traits.def_map) k c.traits.invariant
-    (get_or items i 0) c.in_ok-id.id c.in_ok-id.ensures.adds c.in_ok-id.ensures.shown c.in_ok-define_builtin_derive_impl.ensures)
+    (get_or items i 0) c.in_ok-id.id (own_derive_impl c.traits.session c.intern.new.session _ c.in_ok-id.ensures.grown c.in_ok-id.ensures.others c.in_ok-id.ensures.adds) c.in_ok-id.ensures.shown c.in_ok-define_builtin_derive_impl.ensures)
 
 pub returns-in-Some-clause-given : goal.returns-in-Some-clause-given
 returns-in-Some-clause-given g c =

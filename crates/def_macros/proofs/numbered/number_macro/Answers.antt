@@ -1,5 +1,6 @@
 use Rattle.std.proofs.Common.{Some, ap, refl, ◌∙◌}
 use Rattle.def_parts.specs.Sites.{site_of}
+use Rattle.def_rules.specs.LocationsLaws.{own_macro2}
 use Rattle.def_macros.proofs.MacrosLemmas.{placed}
 use Rattle.def_macros.proofs.numbered.number_macro.Goals as goal
 
@@ -14,3 +15,7 @@ returns-clause-item g c =
       expander = c.item_expander-expander.ensures;
       numbered = c.in_ok-id.ensures.shown ∙ ap (λ loc. Some loc) (placed c.args.def_map.now.krate.edition site node c.item_expander-expander.result c.position.result c.item_flags.result _ c.position.ensures c.item_flags.ensures);
     }
+
+pub returns-clause-own : goal.returns-clause-own
+returns-clause-own g c = λ raw kind.
+    own_macro2 (site_of c.args.site.now) c.args.node.now c.args.session.now c.intern.new.session _ c.args.name raw kind refl c.position.ensures c.in_ok-id.ensures.grown c.in_ok-id.ensures.others c.in_ok-id.ensures.adds
