@@ -7,13 +7,14 @@ use Rattle.item_tree.specs.declared.items.ModItemKind.{ModItemKind}
 use Rattle.item_tree.specs.declared.items.ModItemKind.TheVariants.{Struct, Union, Enum}
 use Rattle.def_ids.specs.declared.ids.Adt.{Adt}
 use Rattle.def_interner.specs.Session.{AddsLocations, EnumItem, Session, StructItem, UnionItem}
-use Rattle.def_interner.specs.SessionLaws.{adds_refl, adds_trans}
 use Rattle.def_map.specs.Oracle.{Oracle}
 use Rattle.def_modules.specs.MapState.{MapState}
 use Rattle.def_rules.specs.declared.deferred.DeferredDerive.{DeferredDerive}
 use Rattle.def_rules.specs.Deferred.{AreGiven, GiveImpls, IsAdt, deferred_at, deferred_in, without_deferred}
 use Rattle.def_rules.specs.Derives.{derives_kind}
 use Rattle.def_rules.specs.Items.{position_of}
+use Rattle.def_rules.specs.Locations.{AddsImpls, AddsOwn}
+use Rattle.def_rules.specs.LocationsLaws.{own_adt, own_impls, own_refl, own_trans}
 use Rattle.def_rules.specs.State.{Site, State}
 use Rattle.def_rules.specs.Waiting.{Deferrals}
 use Rattle.def_laws.specs.Performs.{GaveImpls}
@@ -43,7 +44,7 @@ module _ (oracle : Oracle) (s : State) (site : Site) (item : ItemNode) where
   -- where nothing is deferred, nothing is given
   pub gave_nothing : s.deferred ≡ [] → GaveImpls oracle s site item s
   gave_nothing none =
-      record { session = s.session; adds = adds_refl s.session; impls = subst (λ ds. GiveImpls oracle s site item (derives_kind item.kind) ds s) (sym (ap (λ ds. deferred_in ds position) none)) (by (derives_kind item.kind)) }
+      record { session = s.session; own = own_refl site item s.session; impls = subst (λ ds. GiveImpls oracle s site item (derives_kind item.kind) ds s) (sym (ap (λ ds. deferred_in ds position) none)) (by (derives_kind item.kind)) }
     where
       same : s.deferred ≡ without_deferred s.deferred position
       same = none ∙ sym (ap (λ ds. without_deferred ds position) none)
@@ -53,7 +54,7 @@ module _ (oracle : Oracle) (s : State) (site : Site) (item : ItemNode) where
       by false = refl
 
   -- those that are deferred for an item give their impls
-  module _ (numbered session : Session) (first : AddsLocations s.session numbered) (adds : AddsLocations numbered session) (adt : Adt) (of_item : IsAdt (record s { session = numbered }) site item item.kind adt)
+  module _ (numbered session : Session) (first : AddsOwn site item s.session numbered) (adt : Adt) (added : AddsImpls adt numbered session) (of_item : IsAdt (record s { session = numbered }) site item item.kind adt)
       (m : MapState) (left : Deferrals) (is_left : left ≡ without_deferred s.deferred position) where
     abbrev after : State
     after = record s { session = session; map = m; deferred = left }
@@ -61,12 +62,12 @@ module _ (oracle : Oracle) (s : State) (site : Site) (item : ItemNode) where
     by_list : (derives : List DeferredDerive) → AreGiven oracle session site.scope position adt derives s.map m → GiveImpls oracle (record s { session = session }) site item true derives after
     by_list [] given = λ i. record s { session = session; map = given i; deferred = is_left i }
     by_list (derive ∷ derives) given =
-        (adt, adt_stays s site item adt numbered session adds item.kind of_item, m, given, λ i. record s { session = session; map = m; deferred = is_left i })
+        (adt, adt_stays s site item adt numbered session added.adds item.kind of_item, m, given, λ i. record s { session = session; map = m; deferred = is_left i })
 
     pub gave_impls : (derives : List DeferredDerive) → derives ≡ deferred_at s position → AreGiven oracle session site.scope position adt derives s.map m → GaveImpls oracle s site item after
     gave_impls derives is given = record {
       session = session;
-      adds = adds_trans s.session numbered session first adds;
+      own = own_trans site item s.session numbered session first (own_impls site item numbered session adt (own_adt site item (record s { session = numbered }) adt item.kind refl of_item) added);
       impls = subst (λ may. GiveImpls oracle (record s { session = session }) site item may (deferred_at s position) after) (sym (adt_may (record s { session = numbered }) site item adt item.kind of_item))
           (subst (λ ds. GiveImpls oracle (record s { session = session }) site item true ds after) is (by_list derives given));
     }

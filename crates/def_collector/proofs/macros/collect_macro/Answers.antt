@@ -16,5 +16,5 @@ returns-clause-handled g c = on_ok c.keep_macro.result c.keep_macro.ensures (λ 
     let item = c.in_ok-item.item in
     let told : State = unimplemented_reported kept (site_of item.site.now) item.node.now item.expander in
     handled_item oracle before _ told (session_of c.number_macro.new.session) (site_of c.args.site.now) c.args.node.now c.args.written.name item
-    c.number_macro.ensures.session refl c.args.written.visibility.now c.resolve_visibility-vis.result kind c.resolve_visibility-vis.ensures c.in_ok-item.ensures.item
+    (c.in_ok-item.ensures.own c.args.written.visibility.now kind) refl c.args.written.visibility.now c.resolve_visibility-vis.result kind c.resolve_visibility-vis.ensures c.in_ok-item.ensures.item
     (defined oracle kept))

@@ -16,4 +16,4 @@ returns-clause-handled g c = on_ok c.keep_macro_rules.result c.keep_macro_rules.
     let item = c.in_ok-item.item in
     let told : State = unimplemented_reported kept (site_of item.site.now) item.node.now item.expander in
     handled_rules oracle before _ told (session_of c.number_macro_rules.new.session) (site_of c.args.site.now) c.args.node.now c.args.name item
-    c.number_macro_rules.ensures.session refl kind c.in_ok-item.ensures.rules (defined oracle kept))
+    (c.in_ok-item.ensures.own kind) refl kind c.in_ok-item.ensures.rules (defined oracle kept))

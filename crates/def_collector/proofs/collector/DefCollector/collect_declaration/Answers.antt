@@ -13,7 +13,7 @@ pub returns-in-Name-clause-handled : goal.returns-in-Name-clause-handled
 returns-in-Name-clause-handled g c = on_ok c.declare.result c.declare.ensures (λ declared declares.
     let session = session_of c.number_item.new.session in
     let site = site_of c.args.site.now in
-    handled_name (g.D.SourceDatabase.oracle c.args.db.now) (state_of c.args.self.now c.args.session.now) _ session site c.args.node.now c.number_item.ensures.session c.in-Name.declaration
+    handled_name (g.D.SourceDatabase.oracle c.args.db.now) (state_of c.args.self.now c.args.session.now) _ session site c.args.node.now c.in_ok-declared.ensures.own c.in-Name.declaration
     (subst (IsDeclared session site c.args.node.now) c.in-Name.is c.in_ok-declared.ensures.declared) declared)
 
 pub returns-in-UnnamedConst-clause-handled : goal.returns-in-UnnamedConst-clause-handled
@@ -21,7 +21,7 @@ returns-in-UnnamedConst-clause-handled g c = on_ok c.define_unnamed_const.result
     let session = session_of c.number_item.new.session in
     let site = site_of c.args.site.now in
     let before : State = state_of c.args.self.now c.args.session.now in
-    handled_unnamed (g.D.SourceDatabase.oracle c.args.db.now) before _ session site c.args.node.now c.number_item.ensures.session c.in-UnnamedConst.id
+    handled_unnamed (g.D.SourceDatabase.oracle c.args.db.now) before _ session site c.args.node.now c.in_ok-declared.ensures.own c.in-UnnamedConst.id
     (subst (IsDeclared session site c.args.node.now) c.in-UnnamedConst.is c.in_ok-declared.ensures.declared)
     (ap (with_map (record before { session = session })) defined))
 

@@ -20,7 +20,7 @@ returns-in-Some-clause-handled g c = on_ok c.define_exported.result c.define_exp
     let kept : State = record before { session = session } in
     let exported = c.in-Some.exported in
     let numbered : IsNumbered oracle before.map session site node name (Some exported) = subst (IsNumbered oracle before.map session site node name) c.in-Some.is c.in_ok-exported.ensures.numbered in
-    handled_exported oracle before _ session site node name c.args.written.visibility.now c.args.id _ kind c.number_proc_macro.ensures.session (c.number_proc_macro.ensures.session.grows.item FunctionItem c.args.id.0 _ c.requires.numbered) c.resolve_visibility-vis.ensures
+    handled_exported oracle before _ session site node name c.args.written.visibility.now c.args.id _ kind (c.in_ok-exported.ensures.own c.args.written.visibility.now kind) (c.number_proc_macro.ensures.session.grows.item FunctionItem c.args.id.0 _ c.requires.numbered) c.resolve_visibility-vis.ensures
     (decl_of exported.def) exported.id (exports_declared kept site node name c.requires.root ∙ sym numbered.declared) numbered.numbered (defined oracle kept c.requires.root))
 
 pub returns-in-None-clause-handled : goal.returns-in-None-clause-handled
@@ -33,5 +33,5 @@ returns-in-None-clause-handled g c = on_ok c.declare.result c.declare.ensures (�
     let name = c.args.written.name in
     let kept : State = record before { session = session } in
     let numbered : IsNumbered oracle before.map session site node name None = subst (IsNumbered oracle before.map session site node name) c.in-None.is c.in_ok-exported.ensures.numbered in
-    handled_function oracle before _ session site node name c.args.written.visibility.now c.args.id _ kind c.number_proc_macro.ensures.session (c.number_proc_macro.ensures.session.grows.item FunctionItem c.args.id.0 _ c.requires.numbered) refl
+    handled_function oracle before _ session site node name c.args.written.visibility.now c.args.id _ kind (c.in_ok-exported.ensures.own c.args.written.visibility.now kind) (c.number_proc_macro.ensures.session.grows.item FunctionItem c.args.id.0 _ c.requires.numbered) refl
     (exports_declared kept site node name c.requires.root ∙ sym numbered.declared) declared)
