@@ -1,5 +1,5 @@
 -- `macro_rules! foo {} #[foo] struct T;`, where foo may be called by attributes and gives `struct S;`: T waits, and is not declared; once all is walked foo is called, and S declared in its place.
-use Rattle.std.proofs.Common.{◌≡◌, ℕ, zero, true, Option, Some, None, [], ◌∷◌, Contains, refl, subst, map, lit<, false}
+use Rattle.std.proofs.Common.{◌≡◌, true, Option, Some, [], ◌∷◌, Contains, refl, subst, map, lit<, false}
 use Rattle.item_tree.specs.declared.attrs.AttrsOrCfg.TheVariants.{Enabled}
 use Rattle.tree_ids.specs.declared.ids.HirFileId.{HirFileId}
 use Rattle.tree_ids.specs.declared.ids.HirFileId.TheVariants.{File, Macro as MacroFile}
@@ -7,10 +7,8 @@ use Rattle.item_tree.specs.declared.items.ItemNode.{ItemNode}
 use Rattle.item_tree.specs.declared.items.ModItemKind.TheVariants.{MacroRules as RulesItem}
 use Rattle.item_tree.specs.declared.tree.ItemTree.{ItemTree}
 use Rattle.def_ids.specs.declared.ids.ItemContainerId.TheVariants.{Module}
-use Rattle.def_ids.specs.declared.ids.MacroId.{MacroId}
-use Rattle.def_ids.specs.declared.ids.MacroId.TheVariants.{MacroRules, Macro2, ProcMacro}
 use Rattle.def_interner.specs.declared.macro_def.MacroDefKind.TheVariants.{Declarative}
-use Rattle.def_interner.specs.Session.{Session, AddsLocations, MacroLoc}
+use Rattle.def_interner.specs.Session.{Session, MacroLoc, StructItem}
 use Rattle.def_bindings.specs.declared.bindings.Namespace.TheVariants.{Types, Values}
 use Rattle.def_rules.specs.Directives.{Stays, told}
 use Rattle.def_rules.specs.Headline.{Answers}
@@ -21,14 +19,15 @@ use Rattle.def_rules.specs.Start.{start}
 use Rattle.def_rules.specs.State.{Setting, Moment, PutExplicit}
 use Rattle.def_rules.specs.Waiting.{Attr, Expansion, MacroDirective}
 use Rattle.def_rules.specs.Steps.{Reaches, join, one, performs}
-use Rattle.def_runs.proofs.Called.{declared, expansion, foo, s, t}
+use Rattle.def_runs.proofs.Called.{declared, expansion, foo, in_expansion, s, t}
 use Rattle.def_runs.proofs.Exported.{marked_with}
 use Rattle.def_runs.proofs.RowLemmas.{answer_of, answers_without, are_bare, asked_in_turn, expansion_taken, macro_asked, no_targets, none_leave_in_turn, quiet_without}
-use Rattle.def_runs.proofs.Rows.{crate_of, knowing, module_at, no_session, position, session_with, unchanged}
-use Rattle.def_runs.proofs.Textual.{foo_loc}
+use Rattle.def_runs.proofs.Rows.{crate_of, knowing, module_at, position}
+use Rattle.def_runs.proofs.Sessions.{gets_macro, gets_number, no_session, unchanged, with_item, with_macro}
+use Rattle.def_runs.proofs.Textual.{foo_loc as called_loc, the_macro}
 use Rattle.def_runs.proofs.Trees.{items, node, root_file, tree_with, unit_struct}
 use Rattle.def_runs.proofs.Vectors.{nothing_left}
-use Rattle.def_runs.proofs.Waiting.{numbers, pending as beside, the_call}
+use Rattle.def_runs.proofs.Waiting.{pending as beside, the_call}
 
 -- `#[foo] struct T;`
 abbrev with_attribute : ItemNode
@@ -47,27 +46,22 @@ abbrev setting : Setting
 setting = record (crate_of tree) { oracle = record (knowing tree) { item_tree = λ id. tree_of id.file; rule_styles = λ file krate. record { 0 = 2 } } }
 
 -- foo is number 0 among macros by rules
-abbrev numbered : ℕ → Option MacroLoc
-numbered zero = Some (record foo_loc { kind = Declarative (record { 0 = 2 }) })
-numbered _ = None
+abbrev foo_loc : MacroLoc
+foo_loc = record called_loc { kind = Declarative (record { 0 = 2 }) }
 
-abbrev macros : MacroId → Option MacroLoc
-macros (MacroRules id) = numbered id.0
-macros (Macro2 id) = None
-macros (ProcMacro id) = None
+abbrev with_foo : Session
+with_foo = with_macro the_macro foo_loc no_session
 
+-- and S among structs
 abbrev session : Session
-session = record (session_with numbers) { macro_at = macros }
-
-more : AddsLocations no_session session
-more = record { text = refl; grows = record { text = λ n t h. cc; item = λ k i at h. cc; macro_at = λ m at h. cc; derive_impl = λ i at h. cc } }
+session = with_item StructItem 0 in_expansion with_foo
 
 -- the walk: foo is defined, and T waits
 abbrev walked : (m : Moment) × Reaches setting.oracle (start setting no_session) m
 walked = (
   _,
   join (one (performs _ _ _ refl refl refl))
-      (join (one (performs _ _ _ refl (session, more, _, refl, (session, unchanged session, (0, Some foo, refl, refl, refl))) refl))
+      (join (one (performs _ _ _ refl (with_foo, gets_macro the_macro foo_loc tt refl refl refl, _, refl, (with_foo, unchanged with_foo, (0, Some foo, refl, refl, refl))) refl))
       (one (performs _ _ _ refl refl refl))),
 )
 
@@ -117,7 +111,7 @@ expanded = (
   _,
   join (expansion_taken setting.oracle asked_to pending [] refl refl refl)
       (join (one (performs _ _ _ refl refl refl))
-      (join (one (performs _ _ _ refl (session, unchanged session, _, refl, (session, unchanged session, (0, refl, refl))) refl))
+      (join (one (performs _ _ _ refl (session, gets_number StructItem 0 refl refl, _, refl, (session, unchanged session, (0, refl, refl))) refl))
       (join (one (performs _ _ _ refl refl refl))
       (one (performs _ _ _ refl refl refl))))),
 )

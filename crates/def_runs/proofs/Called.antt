@@ -1,9 +1,7 @@
 -- `macro_rules! foo {} foo!(); struct T;`, where the call gives `struct S;`: the call is settled where it stands, S is declared before T, and nothing waits.
-use Rattle.std.proofs.Common.{◌≡◌, ℕ, zero, suc, Bool, true, false, Option, Some, None, Ok, Err, List, Result, [], ◌∷◌, refl, map}
-use Rattle.tree_ids.specs.declared.ids.FileAstId.{FileAstId}
+use Rattle.std.proofs.Common.{◌≡◌, ℕ, Bool, true, false, Option, Some, None, Ok, Err, List, Result, [], ◌∷◌, refl, map}
 use Rattle.tree_ids.specs.declared.ids.HirFileId.{HirFileId}
 use Rattle.tree_ids.specs.declared.ids.HirFileId.TheVariants.{File, Macro as MacroFile}
-use Rattle.tree_ids.specs.declared.ids.InFile.{InFile}
 use Rattle.item_tree.specs.declared.items.ExpandTo.TheVariants.{Items}
 use Rattle.item_tree.specs.declared.items.ModItemKind.TheVariants.{MacroCall, MacroRules as RulesItem}
 use Rattle.item_tree.specs.declared.mod_path.ModPath.{ModPath}
@@ -12,12 +10,8 @@ use Rattle.tree_ids.specs.declared.name.Name.{Name}
 use Rattle.item_tree.specs.declared.tree.ItemTree.{ItemTree}
 use Rattle.def_ids.specs.declared.ids.Def.TheVariants.{Struct as StructDef}
 use Rattle.def_ids.specs.declared.ids.ItemContainerId.TheVariants.{Module}
-use Rattle.def_ids.specs.declared.ids.MacroId.{MacroId}
-use Rattle.def_ids.specs.declared.ids.MacroId.TheVariants.{MacroRules, Macro2, ProcMacro}
-use Rattle.def_ids.specs.declared.edition.Edition.TheVariants.{Edition2021}
 use Rattle.def_interner.specs.declared.macro_def.MacroDefId.{MacroDefId}
-use Rattle.def_interner.specs.declared.macro_def.MacroDefKind.TheVariants.{Declarative}
-use Rattle.def_interner.specs.Session.{Session, AddsLocations, ItemKind, ItemLoc, MacroLoc, StructItem}
+use Rattle.def_interner.specs.Session.{Session, ItemLoc, StructItem}
 use Rattle.def_bindings.specs.declared.bindings.Binding.{Binding}
 use Rattle.def_bindings.specs.declared.bindings.Namespace.TheVariants.{Types, Values}
 use Rattle.def_bindings.specs.declared.visibility.Visibility.{Visibility}
@@ -32,7 +26,9 @@ use Rattle.def_rules.specs.Start.{start}
 use Rattle.def_rules.specs.State.{Setting, Moment}
 use Rattle.def_rules.specs.Steps.{Reaches, join, one, performs}
 use Rattle.def_runs.proofs.RowLemmas.{answer_of, answers_without, are_bare, no_targets, none_leave_in_turn}
-use Rattle.def_runs.proofs.Rows.{crate_of, knowing, loc, module_at, no_session, position, session_with, unchanged}
+use Rattle.def_runs.proofs.Rows.{crate_of, knowing, loc, module_at, position}
+use Rattle.def_runs.proofs.Sessions.{gets_macro, gets_number, no_session, unchanged, with_item}
+use Rattle.def_runs.proofs.Textual.{foo_loc, the_macro, with_foo}
 use Rattle.def_runs.proofs.Trees.{items, named, node, tree_with, unit_struct}
 use Rattle.def_runs.proofs.Vectors.{nothing_left}
 
@@ -71,46 +67,29 @@ answer_to call _ = Err (record { path = call.path })
 abbrev pub setting : Setting
 setting = record (crate_of tree) { oracle = record (knowing tree) { item_tree = λ id. tree_of id.file; asked_paths = λ call. call.path ∷ []; macro_call = answer_to; rule_styles = λ file krate. record { 0 = 1 } } }
 
--- S is item 0 of the expansion, and T item 2 of the file
-abbrev pub in_expansion : InFile FileAstId
-in_expansion = record { file = MacroFile (record { 0 = 0 }); value = record { 0 = 0 } }
+-- S is item 0 of the expansion
+abbrev pub in_expansion : ItemLoc
+in_expansion = record { container = Module (module_at 0); position = record { file = MacroFile (record { 0 = 0 }); value = record { 0 = 0 } } }
 
-abbrev pub numbers : ItemKind → ℕ → Option ItemLoc
-numbers StructItem zero = Some (record { container = Module (module_at 0); position = in_expansion })
-numbers StructItem (suc zero) = Some (loc 0 2)
-numbers _ _ = None
-
--- foo is item 0, of the root
-abbrev pub foo_loc : MacroLoc
-foo_loc = record { container = module_at 0; position = position 0; kind = Declarative (record { 0 = 1 }); flags = record { 0 = 0 }; edition = Edition2021 }
-
-abbrev pub numbered : ℕ → Option MacroLoc
-numbered zero = Some foo_loc
-numbered _ = None
-
-abbrev pub macros : MacroId → Option MacroLoc
-macros (MacroRules id) = numbered id.0
-macros (Macro2 id) = None
-macros (ProcMacro id) = None
+-- foo is macro 0, S struct 0, and T, item 2 of the file, struct 1
+abbrev pub with_s : Session
+with_s = with_item StructItem 0 in_expansion with_foo
 
 abbrev pub session : Session
-session = record (session_with numbers) { macro_at = macros }
-
-pub more : AddsLocations no_session session
-more = record { text = refl; grows = record { text = λ n t h. cc; item = λ k i at h. cc; macro_at = λ m at h. cc; derive_impl = λ i at h. cc } }
+session = with_item StructItem 1 (loc 0 2) with_s
 
 -- the walk: foo is defined; its call is expanded, and S declared; then T
 abbrev pub walked : (m : Moment) × Reaches setting.oracle (start setting no_session) m
 walked = (
   _,
   join (one (performs _ _ _ refl refl refl))
-      (join (one (performs _ _ _ refl (session, more, _, refl, (session, unchanged session, (0, Some foo, refl, refl, refl))) refl))
-      (join (one (performs _ _ _ refl (session, unchanged session, _, refl, (session, unchanged session, refl)) refl))
+      (join (one (performs _ _ _ refl (with_foo, gets_macro the_macro foo_loc tt refl refl refl, _, refl, (with_foo, unchanged with_foo, (0, Some foo, refl, refl, refl))) refl))
+      (join (one (performs _ _ _ refl (with_foo, unchanged with_foo, _, refl, (with_foo, unchanged with_foo, refl)) refl))
       (join (one (performs _ _ _ refl refl refl))
-      (join (one (performs _ _ _ refl (session, unchanged session, _, refl, (session, unchanged session, (0, refl, refl))) refl))
+      (join (one (performs _ _ _ refl (with_s, gets_number StructItem 0 refl refl, _, refl, (with_s, unchanged with_s, (0, refl, refl))) refl))
       (join (one (performs _ _ _ refl refl refl))
       (join (one (performs _ _ _ refl refl refl))
-      (join (one (performs _ _ _ refl (session, unchanged session, _, refl, (session, unchanged session, (1, refl, refl))) refl))
+      (join (one (performs _ _ _ refl (session, gets_number StructItem 1 refl refl, _, refl, (session, unchanged session, (1, refl, refl))) refl))
       (join (one (performs _ _ _ refl refl refl))
       (one (performs _ _ _ refl refl refl)))))))))),
 )

@@ -1,5 +1,5 @@
 -- `#[rustc_builtin_macro] macro derive {} macro_rules! foo {} #[derive(foo)] struct T;`, where foo may be called by derives: T waits; once all is walked foo is called by the list, T declared, and the call's expansion walked.
-use Rattle.std.proofs.Common.{◌≡◌, ℕ, zero, Option, Some, None, [], ◌∷◌, Contains, refl, subst, map, lit<, false}
+use Rattle.std.proofs.Common.{◌≡◌, Option, Some, None, [], ◌∷◌, Contains, refl, subst, map, lit<, false}
 use Rattle.either.specs.declared.Either.TheVariants.{Left}
 use Rattle.item_tree.specs.declared.attrs.Attr.{Attr as AttrNode}
 use Rattle.item_tree.specs.declared.attrs.AttrsOrCfg.TheVariants.{Enabled}
@@ -14,10 +14,10 @@ use Rattle.item_tree.specs.declared.tree.ItemTree.{ItemTree}
 use Rattle.item_tree.specs.KnownNames.{rustc_builtin_macro_name}
 use Rattle.def_ids.specs.declared.ids.ItemContainerId.TheVariants.{Module}
 use Rattle.def_ids.specs.declared.ids.MacroId.{MacroId}
-use Rattle.def_ids.specs.declared.ids.MacroId.TheVariants.{MacroRules, Macro2, ProcMacro}
+use Rattle.def_ids.specs.declared.ids.MacroId.TheVariants.{Macro2}
 use Rattle.def_ids.specs.declared.expander.BuiltinAttr.TheVariants.{Derive as BuiltinDerive}
 use Rattle.def_interner.specs.declared.macro_def.MacroDefKind.TheVariants.{Declarative, BuiltInAttr}
-use Rattle.def_interner.specs.Session.{Session, AddsLocations, ItemKind, ItemLoc, MacroLoc, StructItem}
+use Rattle.def_interner.specs.Session.{Session, MacroLoc, StructItem}
 use Rattle.def_rules.specs.Directives.{Stays, told}
 use Rattle.def_rules.specs.Headline.{Answers}
 use Rattle.def_rules.specs.Fallback.{IsQuiet}
@@ -30,8 +30,9 @@ use Rattle.def_rules.specs.Steps.{Reaches, join, one, performs}
 use Rattle.def_runs.proofs.Called.{foo, of_foo, t}
 use Rattle.def_runs.proofs.Exported.{marked_with}
 use Rattle.def_runs.proofs.RowLemmas.{answer_of, answers_without, are_bare, asked_in_turn, expansion_taken, macro_asked, no_targets, none_leave_in_turn, quiet_without}
-use Rattle.def_runs.proofs.Rows.{crate_of, knowing, loc, module_at, no_session, position, session_with, unchanged}
-use Rattle.def_runs.proofs.Textual.{foo_loc}
+use Rattle.def_runs.proofs.Rows.{crate_of, knowing, loc, module_at, position}
+use Rattle.def_runs.proofs.Sessions.{gets_macro, gets_number, no_session, unchanged, with_item, with_macro}
+use Rattle.def_runs.proofs.Textual.{foo_loc as called_loc, the_macro}
 use Rattle.def_runs.proofs.Trees.{items, named, node, root_file, tree_with, unit_struct}
 use Rattle.def_runs.proofs.Vectors.{nothing_left}
 
@@ -67,39 +68,35 @@ setting =
       oracle = record (knowing tree) { item_tree = λ id. tree_of id.file; rule_styles = λ file krate. record { 0 = 4 }; find_builtin_attr = λ name. Some BuiltinDerive; make_derive_call = λ query. derived };
     }
 
--- T is number 0 among structs
-abbrev numbers : ItemKind → ℕ → Option ItemLoc
-numbers StructItem zero = Some (loc 0 2)
-numbers _ _ = None
+-- `derive` is number 0 among `macro` items
+abbrev the_derive : MacroId
+the_derive = Macro2 (record { 0 = 0 })
 
--- foo is number 0 among macros by rules, and `derive` among `macro` items
-abbrev by_rules : ℕ → Option MacroLoc
-by_rules zero = Some (record foo_loc { position = position 1; kind = Declarative (record { 0 = 4 }) })
-by_rules _ = None
+abbrev derive_loc : MacroLoc
+derive_loc = record called_loc { kind = BuiltInAttr BuiltinDerive }
 
-abbrev by_items : ℕ → Option MacroLoc
-by_items zero = Some (record foo_loc { kind = BuiltInAttr BuiltinDerive })
-by_items _ = None
+abbrev with_derive : Session
+with_derive = with_macro the_derive derive_loc no_session
 
-abbrev macros : MacroId → Option MacroLoc
-macros (MacroRules id) = by_rules id.0
-macros (Macro2 id) = by_items id.0
-macros (ProcMacro id) = None
+-- foo is number 0 among macros by rules
+abbrev foo_loc : MacroLoc
+foo_loc = record called_loc { position = position 1; kind = Declarative (record { 0 = 4 }) }
 
+abbrev with_foo : Session
+with_foo = with_macro the_macro foo_loc with_derive
+
+-- and T among structs
 abbrev session : Session
-session = record (session_with numbers) { macro_at = macros }
-
-more : AddsLocations no_session session
-more = record { text = refl; grows = record { text = λ n t h. cc; item = λ k i at h. cc; macro_at = λ m at h. cc; derive_impl = λ i at h. cc } }
+session = with_item StructItem 0 (loc 0 2) with_foo
 
 -- the walk: both macros are defined, and T waits
 abbrev walked : (m : Moment) × Reaches setting.oracle (start setting no_session) m
 walked = (
   _,
   join (one (performs _ _ _ refl refl refl))
-      (join (one (performs _ _ _ refl (session, more, _, refl, (session, unchanged session, (0, refl, refl))) refl))
+      (join (one (performs _ _ _ refl (with_derive, gets_macro the_derive derive_loc tt refl refl refl, _, refl, (with_derive, unchanged with_derive, (0, refl, refl))) refl))
       (join (one (performs _ _ _ refl refl refl))
-      (join (one (performs _ _ _ refl (session, unchanged session, _, refl, (session, unchanged session, (0, Some foo, refl, refl, refl))) refl))
+      (join (one (performs _ _ _ refl (with_foo, gets_macro the_macro foo_loc tt refl refl refl, _, refl, (with_foo, unchanged with_foo, (0, Some foo, refl, refl, refl))) refl))
       (one (performs _ _ _ refl refl refl))))),
 )
 
@@ -136,7 +133,7 @@ abbrev tried : (m : Moment) × Reaches setting.oracle asked_to m
 tried = (
   _,
   join (one (performs _ _ _ refl refl refl))
-      (join (one (performs _ _ _ refl (session, unchanged session, _, refl, (session, unchanged session, (0, refl, refl))) refl))
+      (join (one (performs _ _ _ refl (session, gets_number StructItem 0 refl refl, _, refl, (session, unchanged session, (0, refl, refl))) refl))
       (join (one (performs _ _ _ refl refl refl))
       (one (performs _ _ _ refl refl refl)))),
 )

@@ -12,7 +12,8 @@ use Rattle.def_rules.specs.Start.{start}
 use Rattle.def_rules.specs.State.{Setting, Moment}
 use Rattle.def_rules.specs.Steps.{Reaches, one, performs}
 use Rattle.def_runs.proofs.RowLemmas.{answer_of, answers_without, are_bare, no_targets, none_leave_in_turn}
-use Rattle.def_runs.proofs.Rows.{crate_of, no_session}
+use Rattle.def_runs.proofs.Rows.{crate_of}
+use Rattle.def_runs.proofs.Sessions.{no_session}
 use Rattle.def_runs.proofs.Trees.{tree_with}
 use Rattle.def_runs.proofs.Vectors.{nothing_left}
 

@@ -18,7 +18,7 @@ use Rattle.def_rules.specs.Steps.{Does, Step, performs, asks, copies, notes, exp
 use Rattle.def_runs.proofs.Empty.{setting}
 use Rattle.def_runs.proofs.NoRounds.{not_over_the_limit}
 use Rattle.def_runs.proofs.RowLemmas.{NoneWaits, none_asked, none_given_up, none_noted, none_recorded, none_taken, none_waits_rearranged, none_waits_reordered}
-use Rattle.def_runs.proofs.Rows.{no_session}
+use Rattle.def_runs.proofs.Sessions.{no_session}
 
 -- where the items of the root stand
 abbrev root : Site

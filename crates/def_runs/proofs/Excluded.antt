@@ -38,7 +38,8 @@ use Rattle.def_rules.specs.Waiting.{Deferrals, MacroDirective, WrittenAttr, Writ
 use Rattle.def_rules.specs.Steps.{Does, Reaches, Step, asks, copies, event_of, notes, expands, performs, rearranges, records, falls_back, reorders}
 use Rattle.def_runs.proofs.Plain as plain
 use Rattle.def_runs.proofs.RowLemmas.{none_recorded_unready, none_taken}
-use Rattle.def_runs.proofs.Rows.{no_session, not_recorded}
+use Rattle.def_runs.proofs.Rows.{not_recorded}
+use Rattle.def_runs.proofs.Sessions.{no_session}
 
 -- Ends
 

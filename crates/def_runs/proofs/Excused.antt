@@ -1,5 +1,5 @@
 -- `extern crate gone as g; use g::X; use ::g::Y; use self::g::Z;`: the crate is not found, so paths that may begin with its name are excused.
-use Rattle.std.proofs.Common.{◌≡◌, ℕ, zero, suc, true, false, Option, Some, None, [], ◌∷◌, map, refl, lit<}
+use Rattle.std.proofs.Common.{◌≡◌, ℕ, true, false, Some, [], ◌∷◌, map, refl, lit<}
 use Rattle.item_tree.specs.declared.items.ImportAlias.TheVariants.{Alias}
 use Rattle.item_tree.specs.declared.items.ImportKind.TheVariants.{Plain as PlainImport}
 use Rattle.item_tree.specs.declared.items.ModItemKind.TheVariants.{ExternCrate}
@@ -9,7 +9,7 @@ use Rattle.item_tree.specs.declared.mod_path.PathKind.{PathKind}
 use Rattle.item_tree.specs.declared.mod_path.PathKind.TheVariants.{Abs, Plain, Super}
 use Rattle.tree_ids.specs.declared.name.Name.{Name}
 use Rattle.item_tree.specs.declared.tree.ItemTree.{ItemTree}
-use Rattle.def_interner.specs.Session.{Session, ItemKind, ItemLoc, ExternCrateItem, UseItem}
+use Rattle.def_interner.specs.Session.{Session, ExternCrateItem, UseItem}
 use Rattle.def_bindings.specs.Content.{empty}
 use Rattle.def_rules.specs.declared.diagnostics.DefDiagnosticKind.TheVariants.{UnresolvedExternCrate, UnresolvedImport}
 use Rattle.def_rules.specs.declared.outcome.LeftImport.{LeftImport}
@@ -21,7 +21,8 @@ use Rattle.def_rules.specs.Start.{start}
 use Rattle.def_rules.specs.State.{Setting, Moment, Import}
 use Rattle.def_rules.specs.Steps.{Reaches, join, one, performs}
 use Rattle.def_runs.proofs.RowLemmas.{answer_of, answers_without, are_bare, no_targets, none_leave_in_turn}
-use Rattle.def_runs.proofs.Rows.{crate_of, grown, import_of, loc, module_at, no_session, not_recorded, position, session_with, unchanged}
+use Rattle.def_runs.proofs.Rows.{crate_of, import_of, loc, module_at, not_recorded, position}
+use Rattle.def_runs.proofs.Sessions.{gets_number, no_session, unchanged, with_item}
 use Rattle.def_runs.proofs.Trees.{items, named, node, tree_with, use_one}
 use Rattle.def_runs.proofs.Vectors.{vec_of}
 
@@ -55,25 +56,28 @@ tree =
 abbrev setting : Setting
 setting = crate_of tree
 
-abbrev numbers : ItemKind → ℕ → Option ItemLoc
-numbers ExternCrateItem zero = Some (loc 0 0)
-numbers UseItem zero = Some (loc 0 1)
-numbers UseItem (suc zero) = Some (loc 0 2)
-numbers UseItem (suc (suc zero)) = Some (loc 0 3)
-numbers _ _ = None
+-- each item in turn gets a number
+abbrev with_crate : Session
+with_crate = with_item ExternCrateItem 0 (loc 0 0) no_session
+
+abbrev with_x : Session
+with_x = with_item UseItem 0 (loc 0 1) with_crate
+
+abbrev with_y : Session
+with_y = with_item UseItem 1 (loc 0 2) with_x
 
 abbrev session : Session
-session = session_with numbers
+session = with_item UseItem 2 (loc 0 3) with_y
 
 -- the walk: the root is entered, the extern crate is visited and reported, and the three `use`s are visited
 abbrev walked : (m : Moment) × Reaches setting.oracle (start setting no_session) m
 walked = (
   _,
   join (one (performs _ _ _ refl refl refl))
-      (join (one (performs _ _ _ refl (session, grown numbers, _, refl, (session, unchanged session, (0, refl, refl))) refl))
-      (join (one (performs _ _ _ refl (session, unchanged session, _, refl, (session, unchanged session, (0, refl, refl))) refl))
-      (join (one (performs _ _ _ refl (session, unchanged session, _, refl, (session, unchanged session, (1, refl, refl))) refl))
-      (one (performs _ _ _ refl (session, unchanged session, _, refl, (session, unchanged session, (2, refl, refl))) refl))))),
+      (join (one (performs _ _ _ refl (with_crate, gets_number ExternCrateItem 0 refl refl, _, refl, (with_crate, unchanged with_crate, (0, refl, refl))) refl))
+      (join (one (performs _ _ _ refl (with_x, gets_number UseItem 0 refl refl, _, refl, (with_x, unchanged with_x, (0, refl, refl))) refl))
+      (join (one (performs _ _ _ refl (with_y, gets_number UseItem 1 refl refl, _, refl, (with_y, unchanged with_y, (1, refl, refl))) refl))
+      (one (performs _ _ _ refl (session, gets_number UseItem 2 refl refl, _, refl, (session, unchanged session, (2, refl, refl))) refl))))),
 )
 
 abbrev last : Moment

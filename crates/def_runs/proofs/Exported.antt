@@ -1,5 +1,5 @@
 -- `mod m { #[rustc_builtin_macro] #[macro_export] macro_rules! foo {} }`, where no builtin has the name: foo is reported, and declared in the root all the same.
-use Rattle.std.proofs.Common.{◌≡◌, ℕ, zero, Option, Some, None, [], ◌∷◌, refl, map}
+use Rattle.std.proofs.Common.{◌≡◌, Some, None, [], ◌∷◌, refl, map}
 use Rattle.item_tree.specs.declared.attrs.Attr.{Attr}
 use Rattle.item_tree.specs.declared.attrs.AttrsOrCfg.TheVariants.{Enabled}
 use Rattle.item_tree.specs.declared.items.ItemNode.{ItemNode}
@@ -9,11 +9,9 @@ use Rattle.tree_ids.specs.declared.name.Name.{Name}
 use Rattle.item_tree.specs.declared.tree.ItemTree.{ItemTree}
 use Rattle.item_tree.specs.KnownNames.{macro_export_name, rustc_builtin_macro_name}
 use Rattle.def_ids.specs.declared.ids.Def.TheVariants.{Macro, Module as ModuleDef}
-use Rattle.def_ids.specs.declared.ids.MacroId.{MacroId}
-use Rattle.def_ids.specs.declared.ids.MacroId.TheVariants.{MacroRules, Macro2, ProcMacro}
 use Rattle.def_ids.specs.declared.expander.MacroExpander.TheVariants.{UnimplementedBuiltIn}
 use Rattle.def_interner.specs.MacroKinds.{kind_of_expander}
-use Rattle.def_interner.specs.Session.{Session, AddsLocations, MacroLoc}
+use Rattle.def_interner.specs.Session.{Session, MacroLoc}
 use Rattle.def_bindings.specs.declared.bindings.Binding.{Binding}
 use Rattle.def_bindings.specs.declared.bindings.Namespace.TheVariants.{Macros}
 use Rattle.def_bindings.specs.declared.visibility.Visibility.{Visibility}
@@ -28,7 +26,8 @@ use Rattle.def_rules.specs.State.{Setting, Moment}
 use Rattle.def_rules.specs.Steps.{Reaches, join, one, performs}
 use Rattle.def_runs.proofs.HandedOn.{m}
 use Rattle.def_runs.proofs.RowLemmas.{answer_of, answers_without, are_bare, no_targets, none_leave_in_turn}
-use Rattle.def_runs.proofs.Rows.{crate_of, module_at, no_session, position, unchanged}
+use Rattle.def_runs.proofs.Rows.{crate_of, module_at, position}
+use Rattle.def_runs.proofs.Sessions.{gets_macro, no_session, unchanged, with_macro}
 use Rattle.def_runs.proofs.Textual.{foo, foo_loc, the_macro}
 use Rattle.def_runs.proofs.Trees.{inline_mod, items, node, tree_with}
 use Rattle.def_runs.proofs.Vectors.{nothing_left}
@@ -47,30 +46,21 @@ abbrev setting : Setting
 setting = crate_of tree
 
 -- foo is item 1, of `m`
-abbrev numbered : ℕ → Option MacroLoc
-numbered zero = Some (record foo_loc { container = module_at 1; position = position 1; kind = kind_of_expander UnimplementedBuiltIn })
-numbered _ = None
-
-abbrev macros : MacroId → Option MacroLoc
-macros (MacroRules id) = numbered id.0
-macros (Macro2 id) = None
-macros (ProcMacro id) = None
+abbrev builtin_loc : MacroLoc
+builtin_loc = record foo_loc { container = module_at 1; position = position 1; kind = kind_of_expander UnimplementedBuiltIn }
 
 abbrev session : Session
-session = record no_session { macro_at = macros }
-
-more : AddsLocations no_session session
-more = record { text = refl; grows = record { text = λ n t h. cc; item = λ k i at h. cc; macro_at = λ id at h. cc; derive_impl = λ i at h. cc } }
+session = with_macro the_macro builtin_loc no_session
 
 -- the root is entered; `mod m` is visited, and `m` put in the root; it is entered, foo visited, and put in the root
 abbrev run : (a : Moment) × Reaches setting.oracle (start setting no_session) a
 run = (
   _,
   join (one (performs _ _ _ refl refl refl))
-      (join (one (performs _ _ _ refl (session, more, _, refl, (session, unchanged session, refl)) refl))
+      (join (one (performs _ _ _ refl (no_session, unchanged no_session, _, refl, (no_session, unchanged no_session, refl)) refl))
       (join (one (performs _ _ _ refl refl refl))
       (join (one (performs _ _ _ refl refl refl))
-      (join (one (performs _ _ _ refl (session, unchanged session, _, refl, (session, unchanged session, (0, Some foo, refl, refl, refl))) refl))
+      (join (one (performs _ _ _ refl (session, gets_macro the_macro builtin_loc tt refl refl refl, _, refl, (session, unchanged session, (0, Some foo, refl, refl, refl))) refl))
       (one (performs _ _ _ refl refl refl)))))),
 )
 

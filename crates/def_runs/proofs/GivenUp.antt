@@ -4,7 +4,7 @@ use Rattle.item_tree.specs.declared.attrs.AttrsOrCfg.TheVariants.{Enabled}
 use Rattle.item_tree.specs.declared.items.ItemNode.{ItemNode}
 use Rattle.item_tree.specs.declared.tree.ItemTree.{ItemTree}
 use Rattle.def_ids.specs.declared.ids.ItemContainerId.TheVariants.{Module}
-use Rattle.def_interner.specs.Session.{Session, AddsLocations}
+use Rattle.def_interner.specs.Session.{Session, StructItem}
 use Rattle.def_bindings.specs.declared.bindings.Namespace.TheVariants.{Types, Values}
 use Rattle.def_rules.specs.Fallback.{IsStuck, attr_diagnostic}
 use Rattle.def_rules.specs.Headline.{Answers}
@@ -18,10 +18,11 @@ use Rattle.def_rules.specs.Steps.{Reaches, falls_back, join, one, performs}
 use Rattle.def_runs.proofs.Called.{declared, foo, s}
 use Rattle.def_runs.proofs.Exported.{marked_with}
 use Rattle.def_runs.proofs.RowLemmas.{answer_of, answers_without, are_bare, no_targets, none_leave_in_turn, stuck_without}
-use Rattle.def_runs.proofs.Rows.{crate_of, module_at, no_session, position, session_with, unchanged}
+use Rattle.def_runs.proofs.Rows.{crate_of, module_at, position}
+use Rattle.def_runs.proofs.Sessions.{gets_number, no_session, unchanged}
 use Rattle.def_runs.proofs.Trees.{items, node, root_file, tree_with, unit_struct}
 use Rattle.def_runs.proofs.Vectors.{nothing_left}
-use Rattle.def_runs.proofs.OneStruct.{numbers}
+use Rattle.def_runs.proofs.OneStruct.{session}
 
 -- `#[foo] struct S;`
 abbrev with_attribute : ItemNode
@@ -32,12 +33,6 @@ tree = tree_with (with_attribute ∷ []) (items (0 ∷ [])) refl
 
 abbrev setting : Setting
 setting = crate_of tree
-
-abbrev session : Session
-session = session_with numbers
-
-more : AddsLocations no_session session
-more = record { text = refl; grows = record { text = λ n t h. cc; item = λ k i at h. cc; macro_at = λ m at h. cc; derive_impl = λ i at h. cc } }
 
 -- the walk: S waits
 abbrev walked : (m : Moment) × Reaches setting.oracle (start setting no_session) m
@@ -73,7 +68,7 @@ abbrev given_up : (m : Moment) × Reaches setting.oracle walked_to m
 given_up = (
   _,
   join (one (falls_back _ refl (record { before = []; directive = waiting; behind = []; written = written; stands = refl; is_attr = refl; stuck = stuck; is = refl }) refl))
-      (join (one (performs _ _ _ refl (session, more, _, refl, (session, unchanged session, (0, refl, refl))) refl))
+      (join (one (performs _ _ _ refl (session, gets_number StructItem 0 refl refl, _, refl, (session, unchanged session, (0, refl, refl))) refl))
       (join (one (performs _ _ _ refl refl refl))
       (one (performs _ _ _ refl refl refl)))),
 )

@@ -1,5 +1,5 @@
 -- `#[macro_use] mod m { macro_rules! foo {} } use foo as bar;`: once `m` is walked its textual macro is the root's too, and the import finds it.
-use Rattle.std.proofs.Common.{◌≡◌, ℕ, zero, Option, Some, None, [], ◌∷◌, refl}
+use Rattle.std.proofs.Common.{◌≡◌, Some, None, [], ◌∷◌, refl}
 use Rattle.item_tree.specs.declared.attrs.AttrsOrCfg.TheVariants.{Enabled}
 use Rattle.item_tree.specs.declared.items.ImportKind.TheVariants.{Plain as PlainImport}
 use Rattle.item_tree.specs.declared.items.ItemNode.{ItemNode}
@@ -9,9 +9,7 @@ use Rattle.item_tree.specs.declared.mod_path.PathKind.TheVariants.{Plain}
 use Rattle.tree_ids.specs.declared.name.Name.{Name}
 use Rattle.item_tree.specs.declared.tree.ItemTree.{ItemTree}
 use Rattle.item_tree.specs.KnownNames.{macro_use_name}
-use Rattle.def_ids.specs.declared.ids.MacroId.{MacroId}
-use Rattle.def_ids.specs.declared.ids.MacroId.TheVariants.{MacroRules, Macro2, ProcMacro}
-use Rattle.def_interner.specs.Session.{Session, AddsLocations, ItemKind, ItemLoc, MacroLoc, UseItem}
+use Rattle.def_interner.specs.Session.{Session, MacroLoc, UseItem}
 use Rattle.def_bindings.specs.declared.bindings.Namespace.TheVariants.{Types, Macros}
 use Rattle.def_modules.specs.Maps.{textual_at}
 use Rattle.def_rules.specs.Headline.{Answers}
@@ -21,7 +19,8 @@ use Rattle.def_rules.specs.Start.{start}
 use Rattle.def_rules.specs.State.{Setting, Moment, Import}
 use Rattle.def_rules.specs.Steps.{Reaches, join, one, performs}
 use Rattle.def_runs.proofs.RowLemmas.{answer_of, answers_without, are_bare, import_recorded, no_targets, none_leave_in_turn}
-use Rattle.def_runs.proofs.Rows.{crate_of, import_of, knowing, loc, module_at, module_in_root, no_session, not_recorded, position, session_with, unchanged}
+use Rattle.def_runs.proofs.Rows.{crate_of, import_of, knowing, loc, module_at, module_in_root, not_recorded, position}
+use Rattle.def_runs.proofs.Sessions.{gets_macro, gets_number, no_session, unchanged, with_item, with_macro}
 use Rattle.def_runs.proofs.Textual.{as_bar, bar, foo, foo_loc, imported, of_foo, the_macro}
 use Rattle.def_runs.proofs.Trees.{inline_mod, items, named, node, tree_with}
 use Rattle.def_runs.proofs.Vectors.{nothing_left}
@@ -42,35 +41,25 @@ tree = tree_with (handing_mod ∷ node 1 (RulesItem foo) ∷ node 2 (Use PubSelf
 abbrev setting : Setting
 setting = record (crate_of tree) { oracle = record (knowing tree) { rule_styles = λ file krate. record { 0 = 1 } } }
 
-abbrev numbers : ItemKind → ℕ → Option ItemLoc
-numbers UseItem zero = Some (loc 0 2)
-numbers _ _ = None
-
 -- foo is item 1, of `m`
-abbrev numbered : ℕ → Option MacroLoc
-numbered zero = Some (record foo_loc { container = module_at 1; position = position 1 })
-numbered _ = None
+abbrev loc_in_m : MacroLoc
+loc_in_m = record foo_loc { container = module_at 1; position = position 1 }
 
-abbrev macros : MacroId → Option MacroLoc
-macros (MacroRules id) = numbered id.0
-macros (Macro2 id) = None
-macros (ProcMacro id) = None
+abbrev with_foo : Session
+with_foo = with_macro the_macro loc_in_m no_session
 
 abbrev session : Session
-session = record (session_with numbers) { macro_at = macros }
-
-more : AddsLocations no_session session
-more = record { text = refl; grows = record { text = λ n t h. cc; item = λ k i at h. cc; macro_at = λ id at h. cc; derive_impl = λ i at h. cc } }
+session = with_item UseItem 0 (loc 0 2) with_foo
 
 -- the walk of `m`: the root is entered; `mod m` is visited, and `m` put in the root; it is entered, and foo visited
 abbrev inside : (a : Moment) × Reaches setting.oracle (start setting no_session) a
 inside = (
   _,
   join (one (performs _ _ _ refl refl refl))
-      (join (one (performs _ _ _ refl (session, more, _, refl, (session, unchanged session, refl)) refl))
+      (join (one (performs _ _ _ refl (no_session, unchanged no_session, _, refl, (no_session, unchanged no_session, refl)) refl))
       (join (one (performs _ _ _ refl refl refl))
       (join (one (performs _ _ _ refl refl refl))
-      (one (performs _ _ _ refl (session, unchanged session, _, refl, (session, unchanged session, (0, Some foo, refl, refl, refl))) refl))))),
+      (one (performs _ _ _ refl (with_foo, gets_macro the_macro loc_in_m tt refl refl refl, _, refl, (with_foo, unchanged with_foo, (0, Some foo, refl, refl, refl))) refl))))),
 )
 
 -- so far foo is a textual macro of `m` alone
@@ -82,7 +71,7 @@ abbrev walked : (a : Moment) × Reaches setting.oracle inside.0 a
 walked = (
   _,
   join (one (performs _ _ _ refl refl refl))
-      (one (performs _ _ _ refl (session, unchanged session, _, refl, (session, unchanged session, (0, refl, refl))) refl)),
+      (one (performs _ _ _ refl (session, gets_number UseItem 0 refl refl, _, refl, (session, unchanged session, (0, refl, refl))) refl)),
 )
 
 abbrev walked_to : Moment

@@ -3,6 +3,7 @@ pub mod TableLemmas
 pub mod Trees
 pub mod Vectors
 pub mod Rows
+pub mod Sessions
 pub mod RowLemmas
 pub mod Empty
 pub mod OneStruct

@@ -1,9 +1,9 @@
 -- `pub struct S;`: it is numbered, recorded as a declaration, and bound in types and values.
-use Rattle.std.proofs.Common.{◌≡◌, ℕ, zero, Option, Some, None, [], ◌∷◌, refl}
+use Rattle.std.proofs.Common.{◌≡◌, Some, None, [], ◌∷◌, refl}
 use Rattle.tree_ids.specs.declared.name.Name.{Name}
 use Rattle.item_tree.specs.declared.tree.ItemTree.{ItemTree}
 use Rattle.def_ids.specs.declared.ids.Def.TheVariants.{Struct}
-use Rattle.def_interner.specs.Session.{Session, ItemKind, ItemLoc, StructItem}
+use Rattle.def_interner.specs.Session.{Session, StructItem}
 use Rattle.def_bindings.specs.declared.bindings.Binding.{Binding}
 use Rattle.def_bindings.specs.declared.bindings.Namespace.TheVariants.{Types, Values, Macros}
 use Rattle.def_bindings.specs.declared.visibility.Visibility.{Visibility}
@@ -15,7 +15,8 @@ use Rattle.def_rules.specs.Start.{start}
 use Rattle.def_rules.specs.State.{Setting, Moment, PutExplicit}
 use Rattle.def_rules.specs.Steps.{Reaches, join, one, performs}
 use Rattle.def_runs.proofs.RowLemmas.{answer_of, answers_without, are_bare, no_targets, none_leave_in_turn}
-use Rattle.def_runs.proofs.Rows.{crate_of, grown, loc, module_at, no_session, session_with, unchanged}
+use Rattle.def_runs.proofs.Rows.{crate_of, loc, module_at}
+use Rattle.def_runs.proofs.Sessions.{gets_number, no_session, unchanged, with_item}
 use Rattle.def_runs.proofs.Trees.{items, named, node, tree_with, unit_struct}
 use Rattle.def_runs.proofs.Vectors.{nothing_left}
 
@@ -29,19 +30,15 @@ abbrev pub setting : Setting
 setting = crate_of tree
 
 -- the session after the run: struct 0 is item 0 of the root
-abbrev pub numbers : ItemKind → ℕ → Option ItemLoc
-numbers StructItem zero = Some (loc 0 0)
-numbers _ _ = None
-
 abbrev pub session : Session
-session = session_with numbers
+session = with_item StructItem 0 (loc 0 0) no_session
 
 -- the walk of the root begins, the struct is visited, and its two entries are put
 abbrev pub ran : (end : Moment) × Reaches setting.oracle (start setting no_session) end
 ran = (
   _,
   join (one (performs _ _ _ refl refl refl))
-      (join (one (performs _ _ _ refl (session, grown numbers, _, refl, (session, unchanged session, (0, refl, refl))) refl))
+      (join (one (performs _ _ _ refl (session, gets_number StructItem 0 refl refl, _, refl, (session, unchanged session, (0, refl, refl))) refl))
       (join (one (performs _ _ _ refl refl refl))
       (one (performs _ _ _ refl refl refl)))),
 )

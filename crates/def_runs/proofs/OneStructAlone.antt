@@ -28,7 +28,8 @@ use Rattle.def_rules.specs.State.{Site, State, Effect, Task, Enter, Visit, Event
 use Rattle.def_rules.specs.Steps.{Does, Step, performs, asks, copies, notes, expands, rearranges, records, falls_back, reorders}
 use Rattle.def_runs.proofs.OneStruct.{S, setting}
 use Rattle.def_runs.proofs.RowLemmas.{NoneWaits, none_asked, none_given_up, none_noted, none_recorded, none_taken, none_waits_rearranged, none_waits_reordered}
-use Rattle.def_runs.proofs.Rows.{module_at, no_session}
+use Rattle.def_runs.proofs.Rows.{module_at}
+use Rattle.def_runs.proofs.Sessions.{no_session}
 use Rattle.def_runs.proofs.Trees.{node, unit_struct}
 
 -- where the items of the root stand

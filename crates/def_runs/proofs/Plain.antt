@@ -1,5 +1,5 @@
 -- `mod a { pub struct S; } use a::S; use a::T;`: S is imported in types and values, and T is left over and reported.
-use Rattle.std.proofs.Common.{◌≡◌, ℕ, zero, suc, true, false, Option, Some, None, [], ◌∷◌, refl, map, lit<}
+use Rattle.std.proofs.Common.{◌≡◌, ℕ, true, false, Some, None, [], ◌∷◌, refl, map, lit<}
 use Rattle.item_tree.specs.declared.items.ImportKind.TheVariants.{Plain as PlainImport}
 use Rattle.item_tree.specs.declared.items.RawVisibility.TheVariants.{PubSelf}
 use Rattle.item_tree.specs.declared.mod_path.ModPath.{ModPath}
@@ -7,7 +7,7 @@ use Rattle.item_tree.specs.declared.mod_path.PathKind.TheVariants.{Plain}
 use Rattle.tree_ids.specs.declared.name.Name.{Name}
 use Rattle.item_tree.specs.declared.tree.ItemTree.{ItemTree}
 use Rattle.def_ids.specs.declared.ids.Def.TheVariants.{Struct}
-use Rattle.def_interner.specs.Session.{Session, ItemKind, ItemLoc, StructItem, UseItem}
+use Rattle.def_interner.specs.Session.{Session, StructItem, UseItem}
 use Rattle.def_bindings.specs.declared.bindings.Binding.{Binding}
 use Rattle.def_bindings.specs.declared.bindings.ImportOrExternCrate.TheVariants.{Import as ByImport}
 use Rattle.def_bindings.specs.declared.bindings.Namespace.TheVariants.{Types, Values}
@@ -25,7 +25,8 @@ use Rattle.def_rules.specs.Start.{start}
 use Rattle.def_rules.specs.State.{Setting, Moment, Import, ImportDirective}
 use Rattle.def_rules.specs.Steps.{Reaches, join, one, performs}
 use Rattle.def_runs.proofs.RowLemmas.{answer_of, answers_without, are_bare, import_recorded, no_targets, none_leave_in_turn, settled_by_test}
-use Rattle.def_runs.proofs.Rows.{crate_of, grown, import_of, loc, module_at, module_in_root, no_session, not_recorded, position, recorded_from, session_with, unchanged}
+use Rattle.def_runs.proofs.Rows.{crate_of, import_of, loc, module_at, module_in_root, not_recorded, position, recorded_from}
+use Rattle.def_runs.proofs.Sessions.{gets_number, no_session, unchanged, with_item}
 use Rattle.def_runs.proofs.Trees.{inline_mod, items, named, node, tree_with, unit_struct, use_one}
 use Rattle.def_runs.proofs.Vectors.{vec_of}
 
@@ -53,28 +54,29 @@ abbrev pub setting : Setting
 setting = crate_of tree
 
 -- struct 0 is item 1, of module 1; the two `use`s are items 2 and 3, of the root
-abbrev pub numbers : ItemKind → ℕ → Option ItemLoc
-numbers StructItem zero = Some (loc 1 1)
-numbers UseItem zero = Some (loc 0 2)
-numbers UseItem (suc zero) = Some (loc 0 3)
-numbers _ _ = None
+abbrev pub with_struct : Session
+with_struct = with_item StructItem 0 (loc 1 1) no_session
 
+abbrev pub with_first : Session
+with_first = with_item UseItem 0 (loc 0 2) with_struct
+
+-- the session after the run
 abbrev pub session : Session
-session = session_with numbers
+session = with_item UseItem 1 (loc 0 3) with_first
 
 -- the walk: the root is entered; `mod a` is visited, and `a` put in the root; it is entered, S is visited, and put in types and in values; the two `use`s are visited
 abbrev pub walked : (m : Moment) × Reaches setting.oracle (start setting no_session) m
 walked = (
   _,
   join (one (performs _ _ _ refl refl refl))
-      (join (one (performs _ _ _ refl (session, grown numbers, _, refl, (session, unchanged session, refl)) refl))
+      (join (one (performs _ _ _ refl (no_session, unchanged no_session, _, refl, (no_session, unchanged no_session, refl)) refl))
       (join (one (performs _ _ _ refl refl refl))
       (join (one (performs _ _ _ refl refl refl))
-      (join (one (performs _ _ _ refl (session, unchanged session, _, refl, (session, unchanged session, (0, refl, refl))) refl))
+      (join (one (performs _ _ _ refl (with_struct, gets_number StructItem 0 refl refl, _, refl, (with_struct, unchanged with_struct, (0, refl, refl))) refl))
       (join (one (performs _ _ _ refl refl refl))
       (join (one (performs _ _ _ refl refl refl))
-      (join (one (performs _ _ _ refl (session, unchanged session, _, refl, (session, unchanged session, (0, refl, refl))) refl))
-      (one (performs _ _ _ refl (session, unchanged session, _, refl, (session, unchanged session, (1, refl, refl))) refl))))))))),
+      (join (one (performs _ _ _ refl (with_first, gets_number UseItem 0 refl refl, _, refl, (with_first, unchanged with_first, (0, refl, refl))) refl))
+      (one (performs _ _ _ refl (session, gets_number UseItem 1 refl refl, _, refl, (session, unchanged session, (1, refl, refl))) refl))))))))),
 )
 
 abbrev pub walked_to : Moment

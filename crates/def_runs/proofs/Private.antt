@@ -1,5 +1,5 @@
 -- `mod a { pub struct T(u8); } use a::*;`: the constructor is seen in `a` alone, so the glob brings T in types alone.
-use Rattle.std.proofs.Common.{◌≡◌, ℕ, zero, false, Option, Some, None, List, [], ◌∷◌, refl, lit<}
+use Rattle.std.proofs.Common.{◌≡◌, false, Option, Some, None, List, [], ◌∷◌, refl, lit<}
 use Rattle.item_tree.specs.declared.items.CtorVisibility.TheVariants.{ValueNsCtorWithMinVis}
 use Rattle.item_tree.specs.declared.items.ImportKind.TheVariants.{Glob as GlobImport}
 use Rattle.item_tree.specs.declared.items.ModItemKind.{ModItemKind}
@@ -10,7 +10,7 @@ use Rattle.tree_ids.specs.declared.name.Name.{Name}
 use Rattle.item_tree.specs.declared.tree.ItemTree.{ItemTree}
 use Rattle.def_ids.specs.declared.ids.Def.TheVariants.{Module as ModuleDef, Struct}
 use Rattle.def_ids.specs.declared.ids.GlobId.{GlobId}
-use Rattle.def_interner.specs.Session.{Session, ItemKind, ItemLoc, StructItem, UseItem}
+use Rattle.def_interner.specs.Session.{Session, StructItem, UseItem}
 use Rattle.def_bindings.specs.declared.bindings.Binding.{Binding}
 use Rattle.def_bindings.specs.declared.bindings.EdgeTo.{EdgeTo}
 use Rattle.def_bindings.specs.declared.bindings.ImportOrExternCrate.{ImportOrExternCrate}
@@ -30,7 +30,8 @@ use Rattle.def_rules.specs.Steps.{Reaches, join, one, performs}
 use Rattle.def_rules.specs.Targets.{leaves_out, target_of}
 use Rattle.def_runs.proofs.OutcomeLemmas.{edges_listed, listed, targets_listed}
 use Rattle.def_runs.proofs.RowLemmas.{answer_of, answers, are_bare, copied_along, import_recorded, none_leave_in_turn}
-use Rattle.def_runs.proofs.Rows.{bound, crate_of, glob_of_use, grown, import_of, loc, module_at, module_in_root, no_session, not_recorded, session_with, unchanged}
+use Rattle.def_runs.proofs.Rows.{bound, crate_of, glob_of_use, import_of, loc, module_at, module_in_root, not_recorded}
+use Rattle.def_runs.proofs.Sessions.{gets_number, no_session, unchanged, with_item}
 use Rattle.def_runs.proofs.TableLemmas.{closed_by_test, coherent_by_test, raised_by_test}
 use Rattle.def_runs.proofs.Tables.{Bound, IsTable, Leaving}
 use Rattle.def_runs.proofs.Trees.{inline_mod, items, named, node, tree_with, use_one}
@@ -56,26 +57,25 @@ tree =
 abbrev setting : Setting
 setting = crate_of tree
 
-abbrev numbers : ItemKind → ℕ → Option ItemLoc
-numbers StructItem zero = Some (loc 1 1)
-numbers UseItem zero = Some (loc 0 2)
-numbers _ _ = None
+-- T is struct 0, in module 1; the `use` stands in the root
+abbrev with_struct : Session
+with_struct = with_item StructItem 0 (loc 1 1) no_session
 
 abbrev session : Session
-session = session_with numbers
+session = with_item UseItem 0 (loc 0 2) with_struct
 
 -- the walk: the root is entered; `mod a` is visited, and `a` put in the root; it is entered, T is visited, and put in types and in values; the `use` is visited
 abbrev walked : (m : Moment) × Reaches setting.oracle (start setting no_session) m
 walked = (
   _,
   join (one (performs _ _ _ refl refl refl))
-      (join (one (performs _ _ _ refl (session, grown numbers, _, refl, (session, unchanged session, refl)) refl))
+      (join (one (performs _ _ _ refl (no_session, unchanged no_session, _, refl, (no_session, unchanged no_session, refl)) refl))
       (join (one (performs _ _ _ refl refl refl))
       (join (one (performs _ _ _ refl refl refl))
-      (join (one (performs _ _ _ refl (session, unchanged session, _, refl, (session, unchanged session, (0, refl, refl))) refl))
+      (join (one (performs _ _ _ refl (with_struct, gets_number StructItem 0 refl refl, _, refl, (with_struct, unchanged with_struct, (0, refl, refl))) refl))
       (join (one (performs _ _ _ refl refl refl))
       (join (one (performs _ _ _ refl refl refl))
-      (one (performs _ _ _ refl (session, unchanged session, _, refl, (session, unchanged session, (0, refl, refl))) refl)))))))),
+      (one (performs _ _ _ refl (session, gets_number UseItem 0 refl refl, _, refl, (session, unchanged session, (0, refl, refl))) refl)))))))),
 )
 
 abbrev walked_to : Moment

@@ -1,5 +1,5 @@
 -- `#[proc_macro] pub fn f() {} pub struct S;` in a crate of procedural macros: f is put in values, its macro in macros, and f is taken out again; in the answer the macro stays public, and S is seen in the crate alone.
-use Rattle.std.proofs.Common.{◌≡◌, ◌∙◌, ℕ, zero, Bool, true, false, cond, Option, Some, None, option_map, [], ◌∷◌, refl, sym, ap, subst, map}
+use Rattle.std.proofs.Common.{◌≡◌, ◌∙◌, Bool, true, false, cond, Option, Some, None, option_map, [], ◌∷◌, refl, sym, ap, subst, map}
 use Rattle.item_tree.specs.declared.attrs.AttrsOrCfg.TheVariants.{Enabled}
 use Rattle.item_tree.specs.declared.items.ItemNode.{ItemNode}
 use Rattle.item_tree.specs.declared.items.ModItemKind.TheVariants.{Function as FunctionNode}
@@ -12,11 +12,10 @@ use Rattle.def_ids.specs.declared.expander.CustomProcMacroExpander.TheVariants.{
 use Rattle.def_ids.specs.declared.expander.ProcMacroUse.TheVariants.{Bang}
 use Rattle.def_ids.specs.declared.ids.Def.TheVariants.{Function, Macro, Struct}
 use Rattle.def_ids.specs.declared.ids.FunctionId.{FunctionId}
-use Rattle.def_ids.specs.declared.ids.MacroId.{MacroId}
-use Rattle.def_ids.specs.declared.ids.MacroId.TheVariants.{MacroRules, Macro2, ProcMacro}
+use Rattle.def_ids.specs.declared.ids.MacroId.TheVariants.{ProcMacro}
 use Rattle.def_ids.specs.declared.ids.ProcMacroId.{ProcMacroId}
 use Rattle.def_interner.specs.declared.macro_def.MacroDefKind.TheVariants.{ProcMacro as ByProcMacro}
-use Rattle.def_interner.specs.Session.{Session, AddsLocations, FunctionItem, ItemKind, ItemLoc, MacroLoc, StructItem}
+use Rattle.def_interner.specs.Session.{Session, FunctionItem, MacroLoc, StructItem}
 use Rattle.def_bindings.specs.declared.bindings.Binding.{Binding}
 use Rattle.def_bindings.specs.declared.bindings.Namespace.{Namespace}
 use Rattle.def_bindings.specs.declared.bindings.Namespace.TheVariants.{Types, Values, Macros}
@@ -35,7 +34,8 @@ use Rattle.def_rules.specs.Steps.{Reaches, join, one, performs}
 use Rattle.def_rules.specs.Targets.{is_censored}
 use Rattle.def_runs.proofs.Exported.{marked_with}
 use Rattle.def_runs.proofs.RowLemmas.{answer_of, answers_without, are_bare, no_targets, none_leave_in_turn}
-use Rattle.def_runs.proofs.Rows.{crate_of, knowing, loc, module_at, no_session, position, session_with, unchanged}
+use Rattle.def_runs.proofs.Rows.{crate_of, knowing, loc, module_at, position}
+use Rattle.def_runs.proofs.Sessions.{gets_macro, gets_number, no_session, unchanged, with_item, with_macro}
 use Rattle.def_runs.proofs.Trees.{items, named, node, tree_with, unit_struct}
 use Rattle.def_runs.proofs.Vectors.{nothing_left}
 
@@ -60,31 +60,6 @@ of_macros = record { root_file = record { 0 = 0 }; proc_macro = true; lang = Non
 abbrev pub setting : Setting
 setting = record (crate_of tree) { oracle = record (knowing tree) { crate_data = λ krate. Some of_macros; proc_macros = λ krate. (f, 7, false) ∷ [] } }
 
--- the function is item 0, and the struct item 1, of the root
-abbrev numbers : ItemKind → ℕ → Option ItemLoc
-numbers FunctionItem zero = Some (loc 0 0)
-numbers StructItem zero = Some (loc 0 1)
-numbers _ _ = None
-
--- the macro is item 0, of the root, too: it is called as `f!(..)`, and expanded by what was built
-abbrev f_loc : MacroLoc
-f_loc = record { container = module_at 0; position = position 0; kind = ByProcMacro (Id 7) Bang; flags = record { 0 = 0 }; edition = Edition2021 }
-
-abbrev numbered : ℕ → Option MacroLoc
-numbered zero = Some f_loc
-numbered _ = None
-
-abbrev macros : MacroId → Option MacroLoc
-macros (MacroRules id) = None
-macros (Macro2 id) = None
-macros (ProcMacro id) = numbered id.0
-
-abbrev pub session : Session
-session = record (session_with numbers) { macro_at = macros }
-
-more : AddsLocations no_session session
-more = record { text = refl; grows = record { text = λ n t h. cc; item = λ k i at h. cc; macro_at = λ id at h. cc; derive_impl = λ i at h. cc } }
-
 -- the function and the macro that it exports
 abbrev the_function : FunctionId
 the_function = record { 0 = 0 }
@@ -92,12 +67,27 @@ the_function = record { 0 = 0 }
 abbrev the_macro : ProcMacroId
 the_macro = record { 0 = 0 }
 
+-- the function is item 0, of the root
+abbrev with_f : Session
+with_f = with_item FunctionItem 0 (loc 0 0) no_session
+
+-- the macro is item 0, too: it is called as `f!(..)`, and expanded by what was built
+abbrev f_loc : MacroLoc
+f_loc = record { container = module_at 0; position = position 0; kind = ByProcMacro (Id 7) Bang; flags = record { 0 = 0 }; edition = Edition2021 }
+
+abbrev with_both : Session
+with_both = with_macro (ProcMacro the_macro) f_loc with_f
+
+-- the struct is item 1
+abbrev pub session : Session
+session = with_item StructItem 0 (loc 0 1) with_both
+
 -- the root is entered, f is visited, and put in values, and its macro in macros
 abbrev walked : (m : Moment) × Reaches setting.oracle (start setting no_session) m
 walked = (
   _,
   join (one (performs _ _ _ refl refl refl))
-      (join (one (performs _ _ _ refl (session, more, _, refl, (session, unchanged session, (0, refl, (the_macro, refl, refl)))) refl))
+      (join (one (performs _ _ _ refl (with_f, gets_number FunctionItem 0 refl refl, _, refl, (with_both, gets_macro (ProcMacro the_macro) f_loc tt refl refl refl, (0, refl, (the_macro, refl, refl)))) refl))
       (join (one (performs _ _ _ refl refl refl))
       (one (performs _ _ _ refl refl refl)))),
 )
@@ -110,7 +100,7 @@ abbrev goes_on : (m : Moment) × Reaches setting.oracle walked_to m
 goes_on = (
   _,
   join (one (performs _ _ _ refl refl refl))
-      (join (one (performs _ _ _ refl (session, unchanged session, _, refl, (session, unchanged session, (0, refl, refl))) refl))
+      (join (one (performs _ _ _ refl (session, gets_number StructItem 0 refl refl, _, refl, (session, unchanged session, (0, refl, refl))) refl))
       (join (one (performs _ _ _ refl refl refl))
       (one (performs _ _ _ refl refl refl)))),
 )

@@ -38,7 +38,8 @@ use Rattle.def_rules.specs.Targets.{leaves_out}
 use Rattle.def_runs.proofs.Exported.{marked_with}
 use Rattle.def_runs.proofs.ProcMacro.{answered, f, last, macro_function, of_function, root_shows, s, session, setting}
 use Rattle.def_runs.proofs.RowLemmas.{NoneWaits, none_asked, none_given_up, none_noted, none_recorded, none_taken, none_waits_rearranged, none_waits_reordered}
-use Rattle.def_runs.proofs.Rows.{module_at, no_session, own_map}
+use Rattle.def_runs.proofs.Rows.{module_at, own_map}
+use Rattle.def_runs.proofs.Sessions.{no_session}
 use Rattle.def_runs.proofs.Trees.{node, unit_struct}
 
 -- where the items of the root stand

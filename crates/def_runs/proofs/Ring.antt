@@ -1,5 +1,5 @@
 -- `mod a { pub use crate::b::*; pub struct X; } mod b { pub use crate::c::*; } mod c { pub use crate::a::*; }`: a name travels around a ring of globs, by copies.
-use Rattle.std.proofs.Common.{◌≡◌, ◌∙◌, ℕ, zero, suc, false, Option, Some, None, List, [], ◌∷◌, refl, lit<, subst, true}
+use Rattle.std.proofs.Common.{◌≡◌, ◌∙◌, ℕ, false, Option, Some, None, List, [], ◌∷◌, refl, lit<, subst, true}
 use Rattle.item_tree.specs.declared.items.ImportKind.TheVariants.{Glob as GlobImport}
 use Rattle.item_tree.specs.declared.items.RawVisibility.TheVariants.{Public as RawPublic}
 use Rattle.item_tree.specs.declared.mod_path.ModPath.{ModPath}
@@ -8,7 +8,7 @@ use Rattle.tree_ids.specs.declared.name.Name.{Name}
 use Rattle.item_tree.specs.declared.tree.ItemTree.{ItemTree}
 use Rattle.def_ids.specs.declared.ids.Def.TheVariants.{Module as ModuleDef, Struct}
 use Rattle.def_ids.specs.declared.ids.GlobId.{GlobId}
-use Rattle.def_interner.specs.Session.{Session, ItemKind, ItemLoc, StructItem, UseItem}
+use Rattle.def_interner.specs.Session.{Session, StructItem, UseItem}
 use Rattle.def_bindings.specs.declared.bindings.Binding.{Binding}
 use Rattle.def_bindings.specs.declared.bindings.EdgeTo.{EdgeTo}
 use Rattle.def_bindings.specs.declared.bindings.ImportOrExternCrate.{ImportOrExternCrate}
@@ -30,7 +30,8 @@ use Rattle.def_rules.specs.Steps.{Reaches, join, one, performs}
 use Rattle.def_rules.specs.Targets.{leaves_out, target_of}
 use Rattle.def_runs.proofs.OutcomeLemmas.{edges_listed, listed, targets_listed}
 use Rattle.def_runs.proofs.RowLemmas.{answer_of, answers, are_bare, copied_along, import_recorded, none_leave_in_turn}
-use Rattle.def_runs.proofs.Rows.{bound, crate_of, glob_of_use, grown, import_of, loc, module_at, module_in_root, no_session, not_recorded, recorded_from, session_with, unchanged}
+use Rattle.def_runs.proofs.Rows.{bound, crate_of, glob_of_use, import_of, loc, module_at, module_in_root, not_recorded, recorded_from}
+use Rattle.def_runs.proofs.Sessions.{gets_number, no_session, unchanged, with_item}
 use Rattle.def_runs.proofs.TableLemmas.{closed_by_test, coherent_by_test, raised_by_test}
 use Rattle.def_runs.proofs.Tables.{Bound, IsTable, Leaving}
 use Rattle.def_runs.proofs.Trees.{inline_mod, items, named, node, tree_with, unit_struct, use_one}
@@ -65,36 +66,39 @@ abbrev setting : Setting
 setting = crate_of tree
 
 -- X is struct 0, in module 1; each module has a `use`
-abbrev numbers : ItemKind → ℕ → Option ItemLoc
-numbers StructItem zero = Some (loc 1 2)
-numbers UseItem zero = Some (loc 1 1)
-numbers UseItem (suc zero) = Some (loc 2 4)
-numbers UseItem (suc (suc zero)) = Some (loc 3 6)
-numbers _ _ = None
+abbrev with_first : Session
+with_first = with_item UseItem 0 (loc 1 1) no_session
 
+abbrev with_x : Session
+with_x = with_item StructItem 0 (loc 1 2) with_first
+
+abbrev with_second : Session
+with_second = with_item UseItem 1 (loc 2 4) with_x
+
+-- the session after the run
 abbrev session : Session
-session = session_with numbers
+session = with_item UseItem 2 (loc 3 6) with_second
 
 -- the walk: the root is entered; `mod a` is visited, and `a` put in the root; it is entered, its `use` and X are visited, and X is put in types and in values; so `mod b` and `mod c`
 abbrev walked : (m : Moment) × Reaches setting.oracle (start setting no_session) m
 walked = (
   _,
   join (one (performs _ _ _ refl refl refl))
-      (join (one (performs _ _ _ refl (session, grown numbers, _, refl, (session, unchanged session, refl)) refl))
+      (join (one (performs _ _ _ refl (no_session, unchanged no_session, _, refl, (no_session, unchanged no_session, refl)) refl))
       (join (one (performs _ _ _ refl refl refl))
       (join (one (performs _ _ _ refl refl refl))
-      (join (one (performs _ _ _ refl (session, unchanged session, _, refl, (session, unchanged session, (0, refl, refl))) refl))
-      (join (one (performs _ _ _ refl (session, unchanged session, _, refl, (session, unchanged session, (0, refl, refl))) refl))
+      (join (one (performs _ _ _ refl (with_first, gets_number UseItem 0 refl refl, _, refl, (with_first, unchanged with_first, (0, refl, refl))) refl))
+      (join (one (performs _ _ _ refl (with_x, gets_number StructItem 0 refl refl, _, refl, (with_x, unchanged with_x, (0, refl, refl))) refl))
       (join (one (performs _ _ _ refl refl refl))
       (join (one (performs _ _ _ refl refl refl))
-      (join (one (performs _ _ _ refl (session, unchanged session, _, refl, (session, unchanged session, refl)) refl))
+      (join (one (performs _ _ _ refl (with_x, unchanged with_x, _, refl, (with_x, unchanged with_x, refl)) refl))
       (join (one (performs _ _ _ refl refl refl))
       (join (one (performs _ _ _ refl refl refl))
-      (join (one (performs _ _ _ refl (session, unchanged session, _, refl, (session, unchanged session, (1, refl, refl))) refl))
-      (join (one (performs _ _ _ refl (session, unchanged session, _, refl, (session, unchanged session, refl)) refl))
+      (join (one (performs _ _ _ refl (with_second, gets_number UseItem 1 refl refl, _, refl, (with_second, unchanged with_second, (1, refl, refl))) refl))
+      (join (one (performs _ _ _ refl (with_second, unchanged with_second, _, refl, (with_second, unchanged with_second, refl)) refl))
       (join (one (performs _ _ _ refl refl refl))
       (join (one (performs _ _ _ refl refl refl))
-      (one (performs _ _ _ refl (session, unchanged session, _, refl, (session, unchanged session, (2, refl, refl))) refl)))))))))))))))),
+      (one (performs _ _ _ refl (session, gets_number UseItem 2 refl refl, _, refl, (session, unchanged session, (2, refl, refl))) refl)))))))))))))))),
 )
 
 abbrev walked_to : Moment

@@ -1,5 +1,5 @@
--- What the worked rows share: an oracle that knows one tree, sessions, the setting of a crate in one file, and how runs go on.
-use Rattle.std.proofs.Common.{ℕ, nat_lt, false, Option, Some, None, Err, [], refl}
+-- What the worked rows share: an oracle that knows one tree, the setting of a crate in one file, and how runs go on.
+use Rattle.std.proofs.Common.{ℕ, nat_lt, false, Some, None, Err, []}
 use Rattle.item_tree.specs.declared.items.ImportKind.{ImportKind}
 use Rattle.item_tree.specs.declared.items.RawVisibility.{RawVisibility}
 use Rattle.item_tree.specs.declared.mod_path.ModPath.{ModPath}
@@ -11,7 +11,7 @@ use Rattle.def_ids.specs.declared.ids.ItemContainerId.TheVariants.{Module}
 use Rattle.def_ids.specs.declared.ids.MapId.{MapId}
 use Rattle.def_ids.specs.declared.ids.ModuleId.{ModuleId}
 use Rattle.def_ids.specs.declared.edition.Edition.TheVariants.{Edition2021}
-use Rattle.def_interner.specs.Session.{Session, AddsLocations, ItemKind, ItemLoc}
+use Rattle.def_interner.specs.Session.{ItemLoc}
 use Rattle.def_bindings.specs.declared.bindings.Binding.{Binding}
 use Rattle.def_bindings.specs.declared.bindings.Namespace.{Namespace}
 use Rattle.def_bindings.specs.declared.visibility.Visibility.{Visibility}
@@ -76,22 +76,6 @@ position n = record { file = root_file.file; value = record { 0 = n } }
 -- where the item of a number stands that a module contains
 abbrev pub loc : ℕ → ℕ → ItemLoc
 loc at n = record { container = Module (module_at at); position = position n }
-
--- a session with these locations of items, and nothing else
-abbrev pub session_with : (ItemKind → ℕ → Option ItemLoc) → Session
-session_with items = record { text = λ name. None; item = items; macro_at = λ id. None; derive_impl = λ id. None }
-
--- a session with nothing
-abbrev pub no_session : Session
-no_session = session_with (λ kind number. None)
-
--- each has more than nothing
-pub grown : (items : ItemKind → ℕ → Option ItemLoc) → AddsLocations no_session (session_with items)
-grown items = record { text = refl; grows = record { text = λ n t h. cc; item = λ k i at h. cc; macro_at = λ m at h. cc; derive_impl = λ i at h. cc } }
-
--- a session has what it has
-pub unchanged : (session : Session) → AddsLocations session session
-unchanged session = record { text = refl; grows = record { text = λ n t h. h; item = λ k i at h. h; macro_at = λ m at h. h; derive_impl = λ i at h. h } }
 
 -- the one import of a `use`: its module, its item and its `use` by their numbers, and what is written
 abbrev pub import_of : ℕ → ℕ → ℕ → RawVisibility → ImportKind → ModPath → Import

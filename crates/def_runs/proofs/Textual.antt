@@ -1,5 +1,5 @@
 -- `macro_rules! foo {} use foo as bar;`: the import finds the textual macro, and binds it as bar in macros alone; foo is bound nowhere.
-use Rattle.std.proofs.Common.{◌≡◌, ℕ, zero, true, false, Option, Some, None, [], ◌∷◌, refl, map}
+use Rattle.std.proofs.Common.{◌≡◌, true, false, Some, None, [], ◌∷◌, refl, map}
 use Rattle.item_tree.specs.declared.items.ImportAlias.TheVariants.{Alias}
 use Rattle.item_tree.specs.declared.items.ImportKind.TheVariants.{Plain as PlainImport}
 use Rattle.item_tree.specs.declared.items.ModItemKind.TheVariants.{MacroRules as RulesItem, Use}
@@ -11,10 +11,10 @@ use Rattle.tree_ids.specs.declared.name.Name.{Name}
 use Rattle.item_tree.specs.declared.tree.ItemTree.{ItemTree}
 use Rattle.def_ids.specs.declared.ids.Def.TheVariants.{Macro}
 use Rattle.def_ids.specs.declared.ids.MacroId.{MacroId}
-use Rattle.def_ids.specs.declared.ids.MacroId.TheVariants.{MacroRules, Macro2, ProcMacro}
+use Rattle.def_ids.specs.declared.ids.MacroId.TheVariants.{MacroRules}
 use Rattle.def_ids.specs.declared.edition.Edition.TheVariants.{Edition2021}
 use Rattle.def_interner.specs.declared.macro_def.MacroDefKind.TheVariants.{Declarative}
-use Rattle.def_interner.specs.Session.{Session, AddsLocations, ItemKind, ItemLoc, MacroLoc, UseItem}
+use Rattle.def_interner.specs.Session.{Session, MacroLoc, UseItem}
 use Rattle.def_bindings.specs.declared.bindings.Binding.{Binding}
 use Rattle.def_bindings.specs.declared.bindings.ImportOrExternCrate.TheVariants.{Import as ByImport}
 use Rattle.def_bindings.specs.declared.bindings.Namespace.TheVariants.{Types, Values, Macros}
@@ -30,7 +30,8 @@ use Rattle.def_rules.specs.Start.{start}
 use Rattle.def_rules.specs.State.{Setting, Moment, Import, ImportDirective, Recorded, PutExplicit}
 use Rattle.def_rules.specs.Steps.{Reaches, join, one, performs}
 use Rattle.def_runs.proofs.RowLemmas.{answer_of, answers_without, are_bare, import_recorded, no_targets, none_leave_in_turn, settled_by_test}
-use Rattle.def_runs.proofs.Rows.{crate_of, import_of, knowing, loc, module_at, no_session, not_recorded, position, recorded_from, session_with, unchanged}
+use Rattle.def_runs.proofs.Rows.{crate_of, import_of, knowing, loc, module_at, not_recorded, position, recorded_from}
+use Rattle.def_runs.proofs.Sessions.{gets_macro, gets_number, no_session, unchanged, with_item, with_macro}
 use Rattle.def_runs.proofs.Trees.{items, named, node, tree_with}
 use Rattle.def_runs.proofs.Vectors.{nothing_left}
 
@@ -55,39 +56,28 @@ tree = tree_with (node 0 (RulesItem foo) ∷ node 1 (Use PubSelf (as_bar ∷ [])
 abbrev pub setting : Setting
 setting = record (crate_of tree) { oracle = record (knowing tree) { rule_styles = λ file krate. record { 0 = 1 } } }
 
--- the `use` is item 1, of the root
-abbrev pub numbers : ItemKind → ℕ → Option ItemLoc
-numbers UseItem zero = Some (loc 0 1)
-numbers _ _ = None
+-- macro 0 by rules
+abbrev pub the_macro : MacroId
+the_macro = MacroRules (record { 0 = 0 })
 
 -- foo is item 0, of the root: its own rules expand it, and it has no flags
 abbrev pub foo_loc : MacroLoc
 foo_loc = record { container = module_at 0; position = position 0; kind = Declarative (record { 0 = 1 }); flags = record { 0 = 0 }; edition = Edition2021 }
 
--- foo is number 0 among macros by rules
-abbrev pub numbered : ℕ → Option MacroLoc
-numbered zero = Some foo_loc
-numbered _ = None
+abbrev pub with_foo : Session
+with_foo = with_macro the_macro foo_loc no_session
 
-abbrev pub macros : MacroId → Option MacroLoc
-macros (MacroRules id) = numbered id.0
-macros (Macro2 id) = None
-macros (ProcMacro id) = None
-
+-- the `use` is item 1, of the root
 abbrev pub session : Session
-session = record (session_with numbers) { macro_at = macros }
-
--- it has more than nothing
-pub more : AddsLocations no_session session
-more = record { text = refl; grows = record { text = λ n t h. cc; item = λ k i at h. cc; macro_at = λ m at h. cc; derive_impl = λ i at h. cc } }
+session = with_item UseItem 0 (loc 0 1) with_foo
 
 -- the walk: the root is entered, foo is visited, and nothing put; the `use` is visited
 abbrev pub walked : (m : Moment) × Reaches setting.oracle (start setting no_session) m
 walked = (
   _,
   join (one (performs _ _ _ refl refl refl))
-      (join (one (performs _ _ _ refl (session, more, _, refl, (session, unchanged session, (0, Some foo, refl, refl, refl))) refl))
-      (one (performs _ _ _ refl (session, unchanged session, _, refl, (session, unchanged session, (0, refl, refl))) refl))),
+      (join (one (performs _ _ _ refl (with_foo, gets_macro the_macro foo_loc tt refl refl refl, _, refl, (with_foo, unchanged with_foo, (0, Some foo, refl, refl, refl))) refl))
+      (one (performs _ _ _ refl (session, gets_number UseItem 0 refl refl, _, refl, (session, unchanged session, (0, refl, refl))) refl))),
 )
 
 abbrev pub walked_to : Moment
@@ -150,10 +140,6 @@ in_turn = none_leave_in_turn ran refl
 -- what is answered of this crate
 textual_answers : Answers setting no_session session answered
 textual_answers = answers_without setting no_session last nothing_left ran in_turn refl (are_bare refl refl) refl refl refl shown (λ source. refl) refl
-
--- macro 0 by rules
-abbrev pub the_macro : MacroId
-the_macro = MacroRules (record { 0 = 0 })
 
 -- bar of the root, visible in it, by import 0 of `use` 0
 abbrev pub imported : Binding Visibility

@@ -21,7 +21,8 @@ use Rattle.def_rules.specs.Waiting.{FnLike, MacroDirective}
 use Rattle.def_rules.specs.Steps.{Reaches, join, one, performs}
 use Rattle.def_runs.proofs.Called.{answer_to, of_foo}
 use Rattle.def_runs.proofs.RowLemmas.{answer_of, answers_without, are_bare, asked_in_turn, macro_asked, no_targets, none_leave_in_turn, quiet_without}
-use Rattle.def_runs.proofs.Rows.{crate_of, knowing, module_at, no_session, position, unchanged}
+use Rattle.def_runs.proofs.Rows.{crate_of, knowing, module_at, position}
+use Rattle.def_runs.proofs.Sessions.{no_session, unchanged}
 use Rattle.def_runs.proofs.Trees.{items, node, tree_with}
 use Rattle.def_runs.proofs.Vectors.{nothing_left, vec_of}
 

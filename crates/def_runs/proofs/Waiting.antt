@@ -1,5 +1,5 @@
 -- `foo!(bar!()); macro_rules! foo {}`, where the call gives `struct S;`, and for its argument call 1 is made: no macro is in scope where the call stands, so it waits; once all is walked it is asked, call 1 is recorded behind it, S is declared, and nothing is left over.
-use Rattle.std.proofs.Common.{◌≡◌, ℕ, zero, true, false, Option, Some, None, Ok, Err, List, Result, [], ◌∷◌, Contains, refl, subst, map, lit<}
+use Rattle.std.proofs.Common.{◌≡◌, true, false, Option, Some, None, Ok, Err, List, Result, [], ◌∷◌, Contains, refl, subst, map, lit<}
 use Rattle.tree_ids.specs.declared.ids.HirFileId.{HirFileId}
 use Rattle.tree_ids.specs.declared.ids.HirFileId.TheVariants.{File, Macro as MacroFile}
 use Rattle.tree_ids.specs.declared.ids.MacroCallId.{MacroCallId}
@@ -8,7 +8,7 @@ use Rattle.item_tree.specs.declared.items.ModItemKind.TheVariants.{MacroCall, Ma
 use Rattle.item_tree.specs.declared.tree.ItemTree.{ItemTree}
 use Rattle.def_ids.specs.declared.ids.ItemContainerId.TheVariants.{Module}
 use Rattle.def_interner.specs.declared.macro_def.MacroDefId.{MacroDefId}
-use Rattle.def_interner.specs.Session.{Session, AddsLocations, ItemKind, ItemLoc, StructItem}
+use Rattle.def_interner.specs.Session.{Session, StructItem}
 use Rattle.def_bindings.specs.declared.bindings.Namespace.TheVariants.{Types, Values}
 use Rattle.def_oracle.specs.declared.source_database.CallAnswer.{CallAnswer}
 use Rattle.def_oracle.specs.declared.source_database.UnresolvedMacro.{UnresolvedMacro}
@@ -24,8 +24,9 @@ use Rattle.def_rules.specs.Waiting.{Expansion, FnLike, MacroDirective}
 use Rattle.def_rules.specs.Steps.{Reaches, join, notes, one, performs}
 use Rattle.def_runs.proofs.Called.{declared, expansion, foo, in_expansion, of_foo, s}
 use Rattle.def_runs.proofs.RowLemmas.{answer_of, answers_without, are_bare, asked_in_turn, expansion_taken, macro_asked, no_targets, none_leave_in_turn, quiet_without}
-use Rattle.def_runs.proofs.Rows.{crate_of, knowing, module_at, no_session, position, session_with, unchanged}
-use Rattle.def_runs.proofs.Textual.{macros}
+use Rattle.def_runs.proofs.Rows.{crate_of, knowing, module_at, position}
+use Rattle.def_runs.proofs.Sessions.{gets_macro, gets_number, no_session, unchanged, with_item}
+use Rattle.def_runs.proofs.Textual.{foo_loc, the_macro, with_foo}
 use Rattle.def_runs.proofs.Trees.{items, node, tree_with}
 use Rattle.def_runs.proofs.Vectors.{nothing_left}
 
@@ -46,16 +47,9 @@ answer_to call _ = Err (record { path = call.path })
 abbrev pub setting : Setting
 setting = record (crate_of tree) { oracle = record (knowing tree) { item_tree = λ id. tree_of id.file; asked_paths = λ call. call.path ∷ []; macro_call = answer_to; rule_styles = λ file krate. record { 0 = 1 } } }
 
--- S is item 0 of the expansion
-abbrev pub numbers : ItemKind → ℕ → Option ItemLoc
-numbers StructItem zero = Some (record { container = Module (module_at 0); position = in_expansion })
-numbers _ _ = None
-
+-- foo is macro 0, and S struct 0
 abbrev pub session : Session
-session = record (session_with numbers) { macro_at = macros }
-
-pub more : AddsLocations no_session session
-more = record { text = refl; grows = record { text = λ n t h. cc; item = λ k i at h. cc; macro_at = λ m at h. cc; derive_impl = λ i at h. cc } }
+session = with_item StructItem 0 in_expansion with_foo
 
 -- the walk: no macro is found for the call, and then foo is defined
 abbrev pub walked : (m : Moment) × Reaches setting.oracle (start setting no_session) m
@@ -63,7 +57,7 @@ walked = (
   _,
   join (one (performs _ _ _ refl refl refl))
       (join (one (performs _ _ _ refl (no_session, unchanged no_session, _, refl, (no_session, unchanged no_session, refl)) refl))
-      (one (performs _ _ _ refl (session, more, _, refl, (session, unchanged session, (0, Some foo, refl, refl, refl))) refl))),
+      (one (performs _ _ _ refl (with_foo, gets_macro the_macro foo_loc tt refl refl refl, _, refl, (with_foo, unchanged with_foo, (0, Some foo, refl, refl, refl))) refl))),
 )
 
 abbrev pub walked_to : Moment
@@ -126,7 +120,7 @@ expanded = (
   _,
   join (expansion_taken setting.oracle noted_to pending [] refl refl refl)
       (join (one (performs _ _ _ refl refl refl))
-      (join (one (performs _ _ _ refl (session, unchanged session, _, refl, (session, unchanged session, (0, refl, refl))) refl))
+      (join (one (performs _ _ _ refl (session, gets_number StructItem 0 refl refl, _, refl, (session, unchanged session, (0, refl, refl))) refl))
       (join (one (performs _ _ _ refl refl refl))
       (one (performs _ _ _ refl refl refl))))),
 )
