@@ -1,0 +1,9 @@
+//! Associated items: those of a trait or an impl, with the macro calls among them and what is reported
+//! of both.
+#![tactic(auto)]
+
+mod assoc;
+mod iter;
+
+pub use assoc::{AssocItemId, ImplItems, TraitItems};
+pub use iter::{AssocTypes, MacroCalls};
