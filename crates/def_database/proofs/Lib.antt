@@ -1,2 +1,3 @@
+mod ByMacroLemmas
 mod CallsLemmas
 mod FillingLemmas

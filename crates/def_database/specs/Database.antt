@@ -22,7 +22,8 @@ use Rattle.def_database.specs.declared.database.AssocKey.{AssocKey}
 use Rattle.def_database.specs.declared.database.AssocKey.TheVariants.{Trait, Impl, Expansion}
 use Rattle.def_database.specs.declared.database.CfgFlag.{CfgFlag}
 use Rattle.def_database.specs.declared.database.Database.{Database}
-use Rattle.def_database.specs.Calls.{attr_call, call_answer, call_eq, call_key_eq, derive_call, derive_call_key_eq, fn_like, no_call}
+use Rattle.def_database.specs.ByMacro.{said_at}
+use Rattle.def_database.specs.Calls.{attr_call, call_answer, call_eq, derive_call, derive_place_eq, fn_like, no_call}
 
 -- whether two trees are one
 abbrev pub tree_eq : TreeId → TreeId → Bool
@@ -92,9 +93,9 @@ answers_of s =
       original_file = source_file;
       expansion_depth = λ file. unwrap_or (get file_eq s.files.depths file) 0;
       asked_paths = λ query. query.path ∷ [];
-      macro_call = call_answer (get call_key_eq s.calls.answers);
-      make_attr_call = attr_call (get call_key_eq s.calls.attrs);
-      make_derive_call = derive_call (get derive_call_key_eq s.calls.derives);
+      macro_call = call_answer (said_at position_eq s.calls.answers);
+      make_attr_call = attr_call (said_at position_eq s.calls.attrs);
+      make_derive_call = derive_call (said_at derive_place_eq s.calls.derives);
       is_include = contains call_eq s.calls.includes;
       enum_variants = λ loc. option_map (λ v. v.items) (get position_eq s.types.variants loc.position);
       assoc_items = λ owner. get assoc_key_eq s.types.assoc_items (assoc_key owner);
@@ -125,7 +126,7 @@ nothing_known =
       original_file = source_file;
       expansion_depth = λ file. 0;
       asked_paths = λ query. query.path ∷ [];
-      macro_call = call_answer (λ key. None);
+      macro_call = call_answer (λ position macro_id. None);
       make_attr_call = λ query. no_call;
       make_derive_call = λ query. no_call;
       is_include = λ call. false;

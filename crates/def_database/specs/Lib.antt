@@ -1,3 +1,4 @@
+pub mod ByMacro
 pub mod Calls
 pub mod Database
 pub mod Filling

@@ -1,8 +1,11 @@
 //! A database whose answers are data.
+ghost use Rattle.std.proofs.Common.{rules};
 ghost use Rattle.std.specs.Prelude.{◌≡◌, IfOk};
 ghost use Rattle.def_database.specs.Database.{answers_of, assoc_key, is_read_attr, nothing_known};
 
+use crate::by_macro::{ByMacro, answer_at};
 use def_ids::{BuiltinAttr, EnumLoc, ImplId, MacroId, TraitId};
+use def_interner::Exact;
 use def_map::{
     AssocItemsOwner, AssocList, AttrCallQuery, CallAnswer, CallQuery, CrateData, DefMap,
     DeriveCallQuery, EnumVariant, LocalDefMap, MacroResolver, SourceDatabase, UnresolvedMacro,
@@ -108,15 +111,21 @@ impl Drop for Builtins {
     }
 }
 
-/// The call at a position, of the macro that is found for its path.
+/// Where a derive stands: at a place of an attribute's list.
 #[derive(Clone, Copy, PartialEq, Eq, Hash)]
-pub struct CallKey {
+pub struct DerivePlace {
+    /// The item that has the attribute.
     pub position: InFile<FileAstId>,
-    pub macro_id: MacroId,
+    pub attr_id: AttrId,
+    pub pos: usize,
+}
+
+impl Exact for DerivePlace {
+    ghost exact = { Prim.search rules };
 }
 
 /// The call of a derive at a place of an attribute's list, of the macro that is found for its path.
-#[derive(Clone, Copy, PartialEq, Eq, Hash)]
+#[derive(Clone, Copy)]
 pub struct DeriveCallKey {
     /// The item that has the attribute.
     pub position: InFile<FileAstId>,
@@ -125,13 +134,14 @@ pub struct DeriveCallKey {
     pub macro_id: MacroId,
 }
 
-/// What macro calls, attribute macros and derives give, whether attribute macros are expanded, which
-/// calls are calls of `include!`, and in which ways the macro at a position may be called.
+/// What macro calls, attribute macros and derives give where they stand, by the macros that are found,
+/// whether attribute macros are expanded, which calls are calls of `include!`, and in which ways the
+/// macro at a position may be called.
 pub struct Calls {
-    pub answers: IndexMap<CallKey, CallAnswer>,
-    pub attrs: IndexMap<CallKey, MacroCallId>,
+    pub answers: IndexMap<InFile<FileAstId>, ByMacro<CallAnswer>>,
+    pub attrs: IndexMap<InFile<FileAstId>, ByMacro<MacroCallId>>,
     pub expand_proc_attr_macros: bool,
-    pub derives: IndexMap<DeriveCallKey, MacroCallId>,
+    pub derives: IndexMap<DerivePlace, ByMacro<MacroCallId>>,
     pub includes: IndexSet<MacroCallId>,
     pub styles: IndexMap<InFile<FileAstId>, MacroCallStyles>,
 }
@@ -309,11 +319,7 @@ impl SourceDatabase for Database {
                 path: query.path.clone()?,
             }));
         };
-        let key = CallKey {
-            position: query.position,
-            macro_id: found.id,
-        };
-        match self.calls.answers.get(&key) {
+        match answer_at(&self.calls.answers, query.position, found.id) {
             Some(answer) => Ok(Ok(copy_of(answer)?)),
             None => Ok(Ok(CallAnswer {
                 value: None,
@@ -324,24 +330,19 @@ impl SourceDatabase for Database {
     }
 
     fn make_attr_call(&self, query: AttrCallQuery<'_>) -> MacroCallId {
-        let key = CallKey {
-            position: query.position,
-            macro_id: query.macro_def.id,
-        };
-        match self.calls.attrs.get(&key) {
+        match answer_at(&self.calls.attrs, query.position, query.macro_def.id) {
             Some(call) => *call,
             None => MacroCallId(usize::MAX),
         }
     }
 
     fn make_derive_call(&self, query: DeriveCallQuery) -> MacroCallId {
-        let key = DeriveCallKey {
+        let place = DerivePlace {
             position: query.position,
             attr_id: query.attr_id,
             pos: query.pos,
-            macro_id: query.macro_def.id,
         };
-        match self.calls.derives.get(&key) {
+        match answer_at(&self.calls.derives, place, query.macro_def.id) {
             Some(call) => *call,
             None => MacroCallId(usize::MAX),
         }

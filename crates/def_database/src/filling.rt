@@ -2,11 +2,12 @@
 ghost use Rattle.std.specs.Prelude.{◌≡◌, Some, bytes_eq, OnOk, OnErr};
 ghost use Rattle.indexmap.specs.IndexMap.{get_by_text};
 ghost use Rattle.def_modules.specs.Updates.{set_where};
-ghost use Rattle.def_database.specs.Calls.{with_attr_call, with_call, with_derive_call, with_include, with_styles};
+ghost use Rattle.def_database.specs.Calls.{with_attr_call, with_attr_call_at, with_call, with_call_at, with_derive_call, with_derive_call_at, with_include, with_styles};
 ghost use Rattle.def_database.specs.Database.{answers_of, leads};
 ghost use Rattle.def_database.specs.Filling.{with_tree, with_path, with_crate, with_maps, with_outer_map, with_variants, with_assoc_items, with_builtin, with_builtin_attr, with_builtin_derive, with_builtin_macro, with_depth, with_derive_fast_path, with_derive_traits, with_expand_proc_attr_macros, with_flag, with_inert_attr, with_lead, with_proc_macros};
 
-use crate::database::{CallKey, CfgFlag, Database, DeriveCallKey, assoc_key};
+use crate::by_macro::{write_for, write_for_any};
+use crate::database::{CfgFlag, Database, DeriveCallKey, DerivePlace, assoc_key};
 use def_ids::{BuiltinAttr, MacroId};
 use def_map::{
     AssocItemsOwner, AssocList, CallAnswer, CrateData, DefMap, EnumVariant, LocalDefMap,
@@ -195,8 +196,20 @@ impl Database {
         ensures ok { OnOk result (answers_of self.new ≡ with_call (answers_of self.old) position macro_id answer) }
         ensures err { OnErr result (answers_of self.new ≡ answers_of self.old) }
     {
-        let key = CallKey { position, macro_id };
-        self.calls.answers.insert(key, answer)?;
+        write_for(&mut self.calls.answers, position, macro_id, answer)?;
+        Ok(())
+    }
+
+    /// Gives the call at a position its answer, for whichever macro is found for its path.
+    pub fn add_call_at(
+        &mut self,
+        position: InFile<FileAstId>,
+        answer: CallAnswer,
+    ) -> Result<(), AllocError>
+        ensures ok { OnOk result (answers_of self.new ≡ with_call_at (answers_of self.old) position answer) }
+        ensures err { OnErr result (answers_of self.new ≡ answers_of self.old) }
+    {
+        write_for_any(&mut self.calls.answers, position, answer)?;
         Ok(())
     }
 
@@ -210,8 +223,20 @@ impl Database {
         ensures ok { OnOk result (answers_of self.new ≡ with_attr_call (answers_of self.old) position macro_id call) }
         ensures err { OnErr result (answers_of self.new ≡ answers_of self.old) }
     {
-        let key = CallKey { position, macro_id };
-        self.calls.attrs.insert(key, call)?;
+        write_for(&mut self.calls.attrs, position, macro_id, call)?;
+        Ok(())
+    }
+
+    /// Gives the attribute macros on the item at a position their call, whichever they are.
+    pub fn add_attr_call_at(
+        &mut self,
+        position: InFile<FileAstId>,
+        call: MacroCallId,
+    ) -> Result<(), AllocError>
+        ensures ok { OnOk result (answers_of self.new ≡ with_attr_call_at (answers_of self.old) position call) }
+        ensures err { OnErr result (answers_of self.new ≡ answers_of self.old) }
+    {
+        write_for_any(&mut self.calls.attrs, position, call)?;
         Ok(())
     }
 
@@ -224,7 +249,26 @@ impl Database {
         ensures ok { OnOk result (answers_of self.new ≡ with_derive_call (answers_of self.old) key call) }
         ensures err { OnErr result (answers_of self.new ≡ answers_of self.old) }
     {
-        self.calls.derives.insert(key, call)?;
+        let place = DerivePlace {
+            position: key.position,
+            attr_id: key.attr_id,
+            pos: key.pos,
+        };
+        write_for(&mut self.calls.derives, place, key.macro_id, call)?;
+        Ok(())
+    }
+
+    /// Gives the derive at a place of an attribute's list its call, whichever macro is found for its
+    /// path.
+    pub fn add_derive_call_at(
+        &mut self,
+        place: DerivePlace,
+        call: MacroCallId,
+    ) -> Result<(), AllocError>
+        ensures ok { OnOk result (answers_of self.new ≡ with_derive_call_at (answers_of self.old) place call) }
+        ensures err { OnErr result (answers_of self.new ≡ answers_of self.old) }
+    {
+        write_for_any(&mut self.calls.derives, place, call)?;
         Ok(())
     }
 

@@ -1,14 +1,23 @@
-use Rattle.std.proofs.Common.{ap, Some}
-use Rattle.def_modules.proofs.CrateLemmas.{rekeyed}
-use Rattle.def_database.specs.Calls.{call_key_eq}
+use Rattle.std.proofs.Common.{ap, ◌∙◌, ◌&&◌}
+use Rattle.def_ids.specs.Equality.{macro_eq}
+use Rattle.def_modules.specs.Equality.{position_eq}
+use Rattle.def_modules.specs.EqualityLaws.{derived_position_eq, positions_same}
+use Rattle.def_database.specs.ByMacro.{said_at}
+use Rattle.def_oracle.specs.Queries.{PlainAttrCall}
+use Rattle.def_database.specs.Calls.{attr_call}
 use Rattle.def_database.specs.Database.{answers_of}
-use Rattle.def_database.specs.declared.database.CallKey.{CallKey}
-use Rattle.def_database.specs.contracts.database.CallKeyPartialEq.TheImpl as keys
-use Rattle.def_database.proofs.CallsLemmas.{attr_call-set, keys_same}
+use Rattle.def_database.proofs.CallsLemmas.{for-rekeyed, made-set, still-rekeyed}
+use Rattle.def_database.proofs.FillingLemmas.{refused}
 use Rattle.def_database.proofs.database.Database.add_attr_call.Goals as goal
 
 pub returns-clause-ok : goal.returns-clause-ok
 returns-clause-ok c =
-    let key : CallKey = record { position = c.args.position; macro_id = c.args.macro_id } in
-    let e = rekeyed keys.ghosts.eq call_key_eq keys_same c.args.self.now.calls.attrs c.insert.new.self key (Some c.args.call) c.in_ok-insert.ensures.updates.0 in
-    ap (λ f. record (answers_of c.args.self.now) { make_attr_call = f }) (attr_call-set key c.args.call _ _ e)
+    let old = c.args.self.now.calls.attrs in
+    let e = for-rekeyed derived_position_eq position_eq positions_same old c.write_for.new.written c.args.position c.args.macro_id c.args.call c.in_ok-write_for.ensures.ok in
+    let set = made-set (λ (query : PlainAttrCall). query.position) (λ query. query.macro_def.id) (λ p m. position_eq c.args.position p && macro_eq c.args.macro_id m) c.args.call (said_at position_eq old) in
+    ap (λ f. record (answers_of c.args.self.now) { make_attr_call = f }) (ap attr_call e ∙ set)
+
+pub returns-in_err-write_for-clause-err : goal.returns-in_err-write_for-clause-err
+returns-in_err-write_for-clause-err c =
+    let still = still-rekeyed derived_position_eq position_eq positions_same c.args.self.now.calls.attrs c.write_for.new.written c.in_err-write_for.ensures.err in
+    refused c.from_residual.result (ap (λ f. record (answers_of c.args.self.now) { make_attr_call = attr_call f }) still)

@@ -1,14 +1,22 @@
-use Rattle.std.proofs.Common.{ap, Some}
-use Rattle.def_modules.proofs.CrateLemmas.{rekeyed}
-use Rattle.def_database.specs.Calls.{call_key_eq}
+use Rattle.std.proofs.Common.{ap, ◌∙◌, ◌&&◌}
+use Rattle.def_ids.specs.Equality.{macro_eq}
+use Rattle.def_modules.specs.Equality.{position_eq}
+use Rattle.def_modules.specs.EqualityLaws.{derived_position_eq, positions_same}
+use Rattle.def_database.specs.ByMacro.{said_at}
+use Rattle.def_database.specs.Calls.{call_answer}
 use Rattle.def_database.specs.Database.{answers_of}
-use Rattle.def_database.specs.declared.database.CallKey.{CallKey}
-use Rattle.def_database.specs.contracts.database.CallKeyPartialEq.TheImpl as keys
-use Rattle.def_database.proofs.CallsLemmas.{answer-set, keys_same}
+use Rattle.def_database.proofs.CallsLemmas.{answer-set, for-rekeyed, still-rekeyed}
+use Rattle.def_database.proofs.FillingLemmas.{refused}
 use Rattle.def_database.proofs.database.Database.add_call.Goals as goal
 
 pub returns-clause-ok : goal.returns-clause-ok
 returns-clause-ok c =
-    let key : CallKey = record { position = c.args.position; macro_id = c.args.macro_id } in
-    let e = rekeyed keys.ghosts.eq call_key_eq keys_same c.args.self.now.calls.answers c.insert.new.self key (Some c.args.answer) c.in_ok-insert.ensures.updates.0 in
-    ap (λ f. record (answers_of c.args.self.now) { macro_call = f }) (answer-set key c.args.answer _ _ e)
+    let old = c.args.self.now.calls.answers in
+    let e = for-rekeyed derived_position_eq position_eq positions_same old c.write_for.new.written c.args.position c.args.macro_id c.args.answer c.in_ok-write_for.ensures.ok in
+    let set = answer-set (λ p m. position_eq c.args.position p && macro_eq c.args.macro_id m) c.args.answer (said_at position_eq old) in
+    ap (λ f. record (answers_of c.args.self.now) { macro_call = f }) (ap call_answer e ∙ set)
+
+pub returns-in_err-write_for-clause-err : goal.returns-in_err-write_for-clause-err
+returns-in_err-write_for-clause-err c =
+    let still = still-rekeyed derived_position_eq position_eq positions_same c.args.self.now.calls.answers c.write_for.new.written c.in_err-write_for.ensures.err in
+    refused c.from_residual.result (ap (λ f. record (answers_of c.args.self.now) { macro_call = call_answer f }) still)

@@ -6,7 +6,8 @@ use Rattle.def_bindings.specs.Content.{is_name}
 use Rattle.def_map.specs.DefMaps.{view_of}
 use Rattle.def_modules.specs.Equality.{file_eq, position_eq}
 use Rattle.def_modules.specs.Locals.{local_view}
-use Rattle.def_database.specs.Calls.{attr_call, call_answer, call_eq, call_key_eq, derive_call, derive_call_key_eq, fn_like}
+use Rattle.def_database.specs.ByMacro.{said}
+use Rattle.def_database.specs.Calls.{attr_call, call_answer, call_eq, derive_call, derive_place_eq, fn_like}
 use Rattle.def_database.specs.Database.{assoc_key, assoc_key_eq, block_eq, crate_eq, file_id_eq, flag_eq, nothing_known, path_in, tree_eq}
 use Rattle.def_database.proofs.FillingLemmas.{none_inert}
 use Rattle.def_database.proofs.database.Database.new.Goals as goal
@@ -20,9 +21,9 @@ returns c = λ i. record nothing_known {
   local_def_map = λ krate. option_map local_view (lookup (crate_eq krate) (c.new-7.ensures.empty i));
   resolve_path = λ anchor path. path_in (lookup (file_id_eq anchor) (c.new-2.ensures.empty i)) path;
   expansion_depth = λ file. unwrap_or (lookup (file_eq file) (c.new-3.ensures.empty i)) 0;
-  macro_call = call_answer (λ key. lookup (call_key_eq key) (c.new-18.ensures.empty i));
-  make_attr_call = attr_call (λ key. lookup (call_key_eq key) (c.new-19.ensures.empty i));
-  make_derive_call = derive_call (λ key. lookup (derive_call_key_eq key) (c.new-20.ensures.empty i));
+  macro_call = call_answer (λ position macro_id. said (lookup (position_eq position) (c.new-18.ensures.empty i)) macro_id);
+  make_attr_call = attr_call (λ position macro_id. said (lookup (position_eq position) (c.new-19.ensures.empty i)) macro_id);
+  make_derive_call = derive_call (λ place macro_id. said (lookup (derive_place_eq place) (c.new-20.ensures.empty i)) macro_id);
   is_include = λ call. list_any (call_eq call) (c.new-21.ensures.empty i);
   enum_variants = λ loc. option_map (λ v. v.items) (lookup (position_eq loc.position) (c.new-10.ensures.empty i));
   assoc_items = λ owner. lookup (assoc_key_eq (assoc_key owner)) (c.new-11.ensures.empty i);
