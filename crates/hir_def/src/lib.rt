@@ -9,7 +9,7 @@ pub use item_tree::{
     ItemNode, ItemTree, KNOWN_NAMES, Leaf, MacroCallId, MacroCallStyles, MacroRulesLocFlags,
     ModContents, ModItemId, ModItemKind, ModPath, Name, NameTable, PathKind, RawVisibility, Seq,
     SyntaxContext, Text, TopSubtree, TopSubtreeBuilder, TreeFault, TreeId, TtElement, TtIter,
-    TtValues, UseImport,
+    TtValues, UseImport, sym,
 };
 
 // The session, and the ids that it gives out, with the locations that they stand for.
@@ -22,7 +22,7 @@ pub use def_ids::{
     StructLoc, TraitId, TraitLoc, TypeAliasId, TypeAliasLoc, UnionId, UnionLoc, UseId, UseLoc,
     VariantId,
 };
-pub use def_interner::{Interner, Location, LocationId, MacroDefId, MacroDefKind};
+pub use def_interner::{Interner, Location, LocationId, MacroDefId, MacroDefKind, Numbering};
 
 // Maps: what is seeded, what they hold, and what names and paths mean in them.
 pub use def_bindings::{
@@ -31,17 +31,23 @@ pub use def_bindings::{
 };
 pub use def_map::{
     BlockInfo, BuiltinShadowMode, DefMap, Item, ItemScope, MacroSubNs, PerNs, PrefixInfo,
-    ReachedFixedPoint, Resolutions, ResolveMode, ResolvePathResult, Table, UnnamedTraits,
+    ReachedFixedPoint, Resolutions, ResolveMode, ResolvePathResult, ResolvePaths, Table,
+    UnnamedTraits,
 };
 pub use def_modules::{
-    DeriveCall, DeriveHelper, DeriveKey, DeriveMacroInvocation, DeriveRecords, ExternPreludeEntry,
-    Invocation, LocalDefMap, ModuleData, ModuleOrigin, Position, RareParts, ScopeData,
-    UnstableFeatures,
+    DefMapCrateData, DeriveCall, DeriveHelper, DeriveKey, DeriveMacroInvocation, DeriveRecords,
+    ExternPreludeEntry, HelpersRange, Invocation, LocalDefMap, MapData, ModuleData, ModuleOrigin,
+    Position, RareParts, ScopeData, UnstableFeatures,
 };
+
+// Tables of bindings, and how names travel along the edges of globs.
+pub use def_parts::Globs;
+pub use def_tables::{Found, Kept, NumberedTable, ScopeTable, VisNumber};
 
 // The oracle: its trait, what it is asked and answers, and a database to fill.
 pub use def_database::{
-    AssocKey, Builtins, CallKey, Calls, CfgFlag, Crates, Database, DeriveCallKey, Files, Types,
+    AssocKey, Builtins, ByMacro, Calls, CfgFlag, Crates, Database, DeriveCallKey, DerivePlace,
+    Files, Types,
 };
 pub use def_map::{
     AssocItem, AssocItemKind, AssocItemsOwner, AssocList, AttrCallQuery, CallAnswer, CallQuery,
@@ -49,6 +55,13 @@ pub use def_map::{
     UnresolvedMacro,
 };
 pub use either::Either;
+
+// What is read of files and attributes: where the file of a module lies, and what a function of a
+// procedural macro declares.
+pub use def_parts::{
+    DirPath, ModDir, ProcMacroDef, ProcMacroKind, parse_macro_name_and_helper_attrs,
+    parse_proc_macro_decl, parse_proc_macro_derive,
+};
 
 // The collector, and what it answers.
 pub use def_collector::{Collected, collect_defs};
