@@ -12,7 +12,7 @@ use Rattle.def_modules.specs.MapState.{MapState}
 use Rattle.def_modules.specs.Scopes.{with_derive_impl}
 use Rattle.def_rules.specs.declared.deferred.DeferredDerive.{DeferredDerive}
 use Rattle.def_rules.specs.Locations.{AddsImpls}
-use Rattle.def_rules.specs.LocationsLaws.{only_refl, only_trans}
+use Rattle.def_laws.proofs.LocationsLaws.{only_refl, only_trans}
 use Rattle.def_rules.specs.Deferred.{AreGiven, AreImpls, giving_impls, last_of, naming_impl, with_impls}
 
 module _ (adt : Adt) (derive : DeferredDerive) where

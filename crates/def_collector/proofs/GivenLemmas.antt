@@ -14,7 +14,7 @@ use Rattle.def_rules.specs.Deferred.{AreGiven, GiveImpls, IsAdt, deferred_at, de
 use Rattle.def_rules.specs.Derives.{derives_kind}
 use Rattle.def_rules.specs.Items.{position_of}
 use Rattle.def_rules.specs.Locations.{AddsImpls, AddsOwn}
-use Rattle.def_rules.specs.LocationsLaws.{own_adt, own_impls, own_refl, own_trans}
+use Rattle.def_laws.proofs.LocationsLaws.{own_adt, own_impls, own_refl, own_trans}
 use Rattle.def_rules.specs.State.{Site, State}
 use Rattle.def_rules.specs.Waiting.{Deferrals}
 use Rattle.def_laws.specs.Performs.{GaveImpls}

@@ -32,7 +32,7 @@ use Rattle.def_rules.specs.Macros.{macros_brought}
 use Rattle.def_rules.specs.Modules.{add_module, fresh_module, module_item, next_module}
 use Rattle.def_rules.specs.ExternCrates.{crate_effect, crate_name, named_crate}
 use Rattle.def_rules.specs.Locations.{AddsOwn}
-use Rattle.def_rules.specs.LocationsLaws.{own_refl}
+use Rattle.def_laws.proofs.LocationsLaws.{own_refl}
 use Rattle.def_rules.specs.Rules.{Handles}
 use Rattle.def_parts.specs.Directories.{Directory}
 use Rattle.def_rules.specs.State.{State, Effect, ImportDirective, Rearranges, Site, Task, only, with_map, order, followed_by}

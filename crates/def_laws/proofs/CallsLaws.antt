@@ -7,7 +7,7 @@ use Rattle.item_tree.specs.declared.items.ModItemKind.TheVariants.{MacroCall}
 use Rattle.item_tree.specs.declared.mod_path.ModPath.{ModPath}
 use Rattle.def_oracle.specs.Oracle.{Oracle}
 use Rattle.def_rules.specs.Calls.{call_effect}
-use Rattle.def_rules.specs.LocationsLaws.{own_refl}
+use Rattle.def_laws.proofs.LocationsLaws.{own_refl}
 use Rattle.def_rules.specs.Rules.{Handles}
 use Rattle.def_rules.specs.State.{State, Effect, followed_by, Site, Task}
 use Rattle.def_laws.specs.Performs.{Handled, IsDone, Performs}

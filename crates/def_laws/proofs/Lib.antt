@@ -1,3 +1,4 @@
+pub mod LocationsLaws
 pub mod ChainsLaws
 pub mod SoundLaws
 pub mod BroughtLaws

@@ -23,7 +23,7 @@ use Rattle.def_readings.specs.ProcMacros.{MacroDecl, proc_macro_of}
 use Rattle.def_rules.specs.Items.{declared_effect, declared_entry, loc_of, written_vis}
 use Rattle.def_rules.specs.ProcMacros.{DeclaresFunction, binds_function, built_as, exported_effect, exported_macro, proc_loc, taken_out, takes_out}
 use Rattle.def_rules.specs.Locations.{AddsOwn}
-use Rattle.def_rules.specs.LocationsLaws.{own_trans}
+use Rattle.def_laws.proofs.LocationsLaws.{own_trans}
 use Rattle.def_rules.specs.Rules.{Handles}
 use Rattle.def_rules.specs.State.{State, Effect, Site, Task, root, with_content}
 use Rattle.def_rules.specs.Targets.{leaves_out}

@@ -12,7 +12,6 @@ pub mod Deferred
 pub mod Directives
 pub mod ExternCrates
 pub mod Locations
-pub mod LocationsLaws
 pub mod Rules
 pub mod Imports
 pub mod Recording

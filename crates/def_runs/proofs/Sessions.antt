@@ -9,7 +9,7 @@ use Rattle.def_interner.specs.Session.{FunctionItem, StructItem, UnionItem, Enum
 use Rattle.def_bindings.specs.DefLaws.{macro-eq}
 use Rattle.def_rules.specs.Items.{loc_of, position_of}
 use Rattle.def_rules.specs.Locations.{AddsOwn, DefinesMacro, IsOwnItem, IsOwnMacro, number_kind}
-use Rattle.def_rules.specs.LocationsLaws.{own_refl}
+use Rattle.def_laws.proofs.LocationsLaws.{own_refl}
 use Rattle.def_rules.specs.State.{Site}
 
 -- a session with nothing

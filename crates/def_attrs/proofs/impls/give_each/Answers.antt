@@ -3,7 +3,7 @@ use Rattle.std.proofs.lemmas.List.{take_all, take_more}
 use Rattle.def_interner.specs.Session.{session_of}
 use Rattle.def_interner.specs.SessionLaws.{adds_trans}
 use Rattle.def_modules.specs.Maps.{map_state, with_renamed_helpers}
-use Rattle.def_rules.specs.LocationsLaws.{own_derive_impl}
+use Rattle.def_laws.proofs.LocationsLaws.{own_derive_impl}
 use Rattle.def_attrs.proofs.ImplsLemmas.{GaveFor, gave_all, gave_more}
 use Rattle.def_attrs.proofs.impls.give_each.Goals as goal
 

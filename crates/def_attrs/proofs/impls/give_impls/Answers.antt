@@ -3,7 +3,7 @@ use Rattle.std.proofs.lemmas.List.{take_more}
 use Rattle.def_interner.specs.Session.{session_of}
 use Rattle.def_modules.specs.Maps.{map_state}
 use Rattle.def_rules.specs.Deferred.{AreGiven}
-use Rattle.def_rules.specs.LocationsLaws.{only_trans}
+use Rattle.def_laws.proofs.LocationsLaws.{only_trans}
 use Rattle.def_attrs.proofs.ImplsLemmas.{given_more}
 use Rattle.def_attrs.proofs.impls.give_impls.Goals as goal
 

@@ -6,7 +6,7 @@ use Rattle.def_modules.specs.Maps.{map_state}
 use Rattle.def_attrs.specs.Shown.{deferrals_of}
 use Rattle.def_collector.specs.Collector.{with_deferred}
 use Rattle.def_rules.specs.Deferred.{AreGiven, IsAdt, deferred_in, without_deferred}
-use Rattle.def_rules.specs.LocationsLaws.{only_refl}
+use Rattle.def_laws.proofs.LocationsLaws.{only_refl}
 use Rattle.def_rules.specs.State.{State}
 use Rattle.def_collector.proofs.GivenLemmas.{gave_impls}
 use Rattle.def_collector.proofs.VisitLemmas.{on_both}

@@ -3,7 +3,7 @@ use Rattle.def_interner.specs.Session.{in_module, session_of}
 use Rattle.def_items.specs.Parts.{with_session}
 use Rattle.def_parts.specs.Sites.{site_of}
 use Rattle.def_rules.specs.Locations.{number_kind}
-use Rattle.def_rules.specs.LocationsLaws.{own_impl}
+use Rattle.def_laws.proofs.LocationsLaws.{own_impl}
 use Rattle.def_items.proofs.ItemsLemmas.{handled_impl}
 use Rattle.def_items.proofs.impls.define_impl.Goals as goal
 use Rattle.def_rules.specs.State.{State, with_map}

@@ -6,7 +6,7 @@ use Rattle.def_interner.specs.Session.{in_container, session_of}
 use Rattle.def_parts.specs.Sites.{site_of}
 use Rattle.def_rules.specs.Deferred.{IsAdt}
 use Rattle.def_rules.specs.Locations.{number_kind}
-use Rattle.def_rules.specs.LocationsLaws.{own_enum, own_struct, own_union}
+use Rattle.def_laws.proofs.LocationsLaws.{own_enum, own_struct, own_union}
 use Rattle.def_items.proofs.numbered.number_adt.Goals as goal
 
 pub returns-in_ok-id-in-Struct : goal.returns-in_ok-id-in-Struct

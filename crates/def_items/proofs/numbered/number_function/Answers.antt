@@ -1,7 +1,7 @@
 use Rattle.std.proofs.Common.{Some, ap, ◌∙◌}
 use Rattle.def_interner.specs.Session.{in_container}
 use Rattle.def_parts.specs.Sites.{site_of}
-use Rattle.def_rules.specs.LocationsLaws.{own_function}
+use Rattle.def_laws.proofs.LocationsLaws.{own_function}
 use Rattle.def_items.proofs.numbered.number_function.Goals as goal
 
 pub returns-clause-numbered : goal.returns-clause-numbered

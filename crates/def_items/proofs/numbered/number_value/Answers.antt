@@ -7,7 +7,7 @@ use Rattle.def_interner.specs.Session.{ConstItem, StaticItem, in_container}
 use Rattle.def_items.specs.Numbered.{is_declaring}
 use Rattle.def_parts.specs.Sites.{site_of}
 use Rattle.def_rules.specs.Locations.{number_kind}
-use Rattle.def_rules.specs.LocationsLaws.{own_const, own_static}
+use Rattle.def_laws.proofs.LocationsLaws.{own_const, own_static}
 use Rattle.def_rules.specs.Rules.{rule_of}
 use Rattle.def_items.proofs.numbered.number_value.Goals as goal
 

@@ -1,6 +1,6 @@
 use Rattle.std.proofs.Common.{Some, ap, refl, ◌∙◌}
 use Rattle.def_parts.specs.Sites.{site_of}
-use Rattle.def_rules.specs.LocationsLaws.{own_macro2}
+use Rattle.def_laws.proofs.LocationsLaws.{own_macro2}
 use Rattle.def_macros.proofs.MacrosLemmas.{placed}
 use Rattle.def_macros.proofs.numbered.number_macro.Goals as goal
 

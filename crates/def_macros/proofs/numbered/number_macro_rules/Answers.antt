@@ -2,7 +2,7 @@ use Rattle.std.proofs.Common.{Some, ap, refl, subst, sym, ◌∙◌}
 use Rattle.item_tree.specs.Attrs.{attrs_of}
 use Rattle.def_parts.specs.Sites.{site_of}
 use Rattle.def_rules.specs.Macros.{IsBuiltinName}
-use Rattle.def_rules.specs.LocationsLaws.{own_macro_rules}
+use Rattle.def_laws.proofs.LocationsLaws.{own_macro_rules}
 use Rattle.def_macros.proofs.MacrosLemmas.{placed}
 use Rattle.def_macros.proofs.numbered.number_macro_rules.Goals as goal
 

@@ -1,6 +1,6 @@
 use Rattle.std.proofs.Common.{refl}
 use Rattle.def_parts.specs.Sites.{site_of}
-use Rattle.def_rules.specs.LocationsLaws.{own_proc_macro}
+use Rattle.def_laws.proofs.LocationsLaws.{own_proc_macro}
 use Rattle.def_macros.proofs.proc_macros.number_proc_macro.Goals as goal
 
 pub returns-clause-own : goal.returns-clause-own

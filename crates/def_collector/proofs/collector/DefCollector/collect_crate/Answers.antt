@@ -4,7 +4,7 @@ use Rattle.def_modules.specs.Maps.{map_state}
 use Rattle.def_parts.specs.Sites.{site_of}
 use Rattle.def_collector.specs.Collector.{state_of}
 use Rattle.def_rules.specs.Locations.{number_kind}
-use Rattle.def_rules.specs.LocationsLaws.{own_extern_crate}
+use Rattle.def_laws.proofs.LocationsLaws.{own_extern_crate}
 use Rattle.def_rules.specs.State.{State, with_map}
 use Rattle.def_laws.proofs.RecordLaws.{on_ok}
 use Rattle.def_items.proofs.ItemsLemmas.{handled_extern_crate}

@@ -3,7 +3,7 @@ use Rattle.def_interner.specs.Session.{in_module, session_of}
 use Rattle.def_parts.specs.Sites.{site_of}
 use Rattle.def_collector.specs.Collector.{state_of}
 use Rattle.def_rules.specs.Locations.{number_kind}
-use Rattle.def_rules.specs.LocationsLaws.{own_struct}
+use Rattle.def_laws.proofs.LocationsLaws.{own_struct}
 use Rattle.def_rules.specs.State.{State}
 use Rattle.def_laws.proofs.RecordLaws.{on_ok}
 use Rattle.def_items.proofs.ItemsLemmas.{handled_struct}
