@@ -4,26 +4,22 @@ ghost use Rattle.def_attrs.specs.ItemAttrs.{active_of, skipped_of};
 ghost use Rattle.def_attrs.specs.Shown.{attr_use_of};
 ghost use Rattle.def_calls.specs.Shown.{macro_directive_of, written_attr_of};
 ghost use Rattle.def_parts.specs.Sites.{site_of};
-ghost use Rattle.def_map.specs.Asking.{world_lent};
 ghost use Rattle.def_modules.specs.Maps.{helper_state, map_state};
-ghost use Rattle.def_sources.specs.Tables.{bound_by};
 ghost use Rattle.def_rules.specs.Attributes as rules;
 ghost use Rattle.def_rules.specs.Attributes.{with_active};
 ghost use Rattle.def_rules.specs.State.{State};
 
 use crate::item_attrs::ItemAttrs;
-use def_calls::{MacroDirective, PathResolver, WrittenAttr};
-use def_ids::{BuiltinAttr, CustomProcMacroExpander, ModuleId};
+use def_calls::{MacroDirective, WrittenAttr};
+use def_ids::{BuiltinAttr, CustomProcMacroExpander};
 use def_interner::{MacroDefId, MacroDefKind};
-use def_map::{
-    AttrCallQuery, DeriveHelper, MacroResolver, MacroSubNs, MapData, SourceDatabase, Table, World,
-};
+use def_map::{AttrCallQuery, DeriveHelper, MapData, SourceDatabase};
 use def_parts::Site;
 use def_rules::ExpandErrorKind;
 use item_tree::{
-    Attr, AttrId, AttrsAfter, Crate, FileAstId, InFile, ItemNode, MacroCallId, ModItemId, ModPath,
-    Name, PathKind,
+    Attr, AttrId, AttrsAfter, Crate, FileAstId, InFile, ItemNode, MacroCallId, ModItemId, Name,
 };
+use macro_calls::{expand_error, is_builtin_or_registered_attr};
 
 /// What the macro of an attribute does with the item.
 #[derive(Clone, Copy)]
@@ -81,31 +77,6 @@ fn first_unknown<'a, D: SourceDatabase>(
     None
 }
 
-/// Whether a path is that of a builtin attribute, or of one of these tools.
-pub fn is_builtin_or_registered_attr<D: SourceDatabase>(
-    db: &D,
-    tools: &[Name],
-    path: &ModPath,
-) -> bool
-    ensures { result ≡ rules.is_builtin_or_registered_attr (D.oracle db.now) tools.now path.now }
-{
-    match path.kind {
-        PathKind::Plain => are_known(db, tools, path.segments.as_slice()),
-        _ => false,
-    }
-}
-
-/// Whether segments name a builtin attribute, or one of these tools'.
-fn are_known<D: SourceDatabase>(db: &D, tools: &[Name], segments: &[Name]) -> bool
-    ensures { result ≡ rules.are_known (D.oracle db.now) tools.now segments.now }
-{
-    match segments {
-        [] => false,
-        [name] => tools.contains(name) || db.is_builtin_attr(*name),
-        [name, ..] => tools.contains(name),
-    }
-}
-
 /// Whether an attribute of the item at a position is a helper of one of its derives.
 pub fn is_helper(def_map: &MapData, position: InFile<FileAstId>, attr: &Attr) -> bool
     ensures { (s : State) → result ≡ rules.is_helper (record s { map = map_state def_map.now }) position attr.now }
@@ -129,27 +100,6 @@ fn helps(helpers: &[DeriveHelper], name: Name) -> bool
         }
     }
     false
-}
-
-/// The macro of an attribute, once imports are resolved.
-pub fn attr_macro<D: SourceDatabase>(
-    world: &World<'_, D, Table>,
-    module_id: ModuleId,
-    attr: &Attr,
-) -> Option<MacroDefId>
-    ensures { result ≡ rules.attr_macro (world_lent D.oracle bound_by world.now) module_id attr.now }
-{
-    let resolver = PathResolver {
-        world: *world,
-        module_id,
-        sub: MacroSubNs::Attr,
-    };
-    let found = resolver.resolve(&attr.path)?;
-    if found.is_attribute() {
-        Some(found)
-    } else {
-        None
-    }
 }
 
 /// What a macro does with the item of its attribute.
@@ -184,15 +134,9 @@ fn builtin_use<D: SourceDatabase>(db: &D, krate: Crate, builtin: BuiltinAttr) ->
 fn expander_use(expander: CustomProcMacroExpander) -> AttrUse
     ensures { attr_use_of result ≡ rules.expander_use expander }
 {
-    match expander {
-        CustomProcMacroExpander::Id(_) => AttrUse::ReplacesItem,
-        CustomProcMacroExpander::Missing => {
-            AttrUse::HasNoExpander(ExpandErrorKind::MissingProcMacroExpander)
-        }
-        CustomProcMacroExpander::Disabled => AttrUse::HasNoExpander(ExpandErrorKind::MacroDisabled),
-        CustomProcMacroExpander::DisabledAttr => {
-            AttrUse::HasNoExpander(ExpandErrorKind::ProcMacroAttrExpansionDisabled)
-        }
+    match expand_error(expander) {
+        None => AttrUse::ReplacesItem,
+        Some(err) => AttrUse::HasNoExpander(err),
     }
 }
 

@@ -4,20 +4,18 @@ ghost use Rattle.std.specs.Prelude.{◌≡◌, [], None, Ok, Err, map, unwrap_or
 ghost use Rattle.std.specs.Option.{option_copied};
 ghost use Rattle.def_attrs.specs.Shown.{derives_in};
 ghost use Rattle.def_calls.specs.Shown.{macro_directive_of, written_attr_of, written_derive_of};
-ghost use Rattle.def_map.specs.Asking.{world_lent};
 ghost use Rattle.def_map.specs.DefMaps.{view_of};
 ghost use Rattle.def_modules.specs.Maps.{helper_state, map_state};
-ghost use Rattle.def_sources.specs.Tables.{bound_by};
 ghost use Rattle.def_rules.specs.Calls.{each_helped, helped, with_helpers};
 ghost use Rattle.def_rules.specs.Derives as rules;
 ghost use Rattle.def_rules.specs.Items.{top_items};
 
-use def_calls::{MacroDirective, PathResolver, WrittenAttr, WrittenDerive};
-use def_ids::{MacroId, ModuleId};
+use def_calls::{MacroDirective, WrittenAttr, WrittenDerive};
+use def_ids::MacroId;
 use def_interner::MacroDefId;
 use def_map::{
-    DefMap, DeriveCall, DeriveCallQuery, DeriveHelper, DeriveMacroInvocation, MacroResolver,
-    MacroSubNs, MapData, Position, SourceDatabase, Table, World,
+    DefMap, DeriveCall, DeriveCallQuery, DeriveHelper, DeriveMacroInvocation, MapData, Position,
+    SourceDatabase,
 };
 use def_rules::DefDiagnosticKind;
 use either::Either;
@@ -116,23 +114,6 @@ fn no_calls(
         calls.push(None)?;
     }
     Ok(calls)
-}
-
-/// The macro of a derive, once imports are resolved.
-pub fn derive_macro<D: SourceDatabase>(
-    world: &World<'_, D, Table>,
-    module_id: ModuleId,
-    written: WrittenDerive<'_>,
-) -> Option<MacroDefId>
-    ensures { result ≡ rules.derive_macro (world_lent D.oracle bound_by world.now) module_id (written_derive_of written.entry) }
-{
-    let resolver = PathResolver {
-        world: *world,
-        module_id,
-        sub: MacroSubNs::Attr,
-    };
-    let found = resolver.resolve(written.path)?;
-    if found.is_derive() { Some(found) } else { None }
 }
 
 /// Calls the macro of a derive, and records the helpers that the macro's crate shows of it and the call

@@ -10,12 +10,9 @@ mod given;
 mod impls;
 mod item_attrs;
 
-pub use attrs::{
-    AttrUse, attr_call, attr_macro, attr_use, awaited_attr, is_builtin_or_registered_attr,
-    is_helper,
-};
+pub use attrs::{AttrUse, attr_call, attr_use, awaited_attr, is_helper};
 pub use deferred::{DeferredDerives, expand_deferred};
-pub use derives::{DeriveList, derive_macro, derive_paths, hand_on};
+pub use derives::{DeriveList, derive_paths, hand_on};
 pub use given::{
     FoundAttr, FoundDerive, call_list, call_tried, call_waiting, give_up, queue_derive,
     refuse_list, report_no_expander,

@@ -1,3 +1,2 @@
-pub mod CallsLemmas
 pub mod WaitingLemmas
 pub mod FallbackLemmas

@@ -1,15 +1,13 @@
 -- What waits for macros, in order.
 use Rattle.std.proofs.Common.{◌≡◌, ◌+◌, ◌<◌, ◌≤◌, ℕ, zero, suc, List, [], ◌∷◌, ◌++◌, length, map, take, get_or, append_assoc, slice_get, Some, refl, sym, ap, ◌∙◌}
 use Rattle.std.specs.Prelude.{Bool, true, false, cond, filter, IsSome, OnSome, Option, None}
-use Rattle.std.specs.List.{AllZip, remove}
-use Rattle.std.proofs.lemmas.List.Elements.{filter-append, same_from_all_zip}
+use Rattle.std.specs.List.{remove}
+use Rattle.std.proofs.lemmas.List.Elements.{filter-append}
 use Rattle.std.proofs.lemmas.List.{map-append, take_all, take_more}
 use Rattle.std.proofs.lemmas.Option.{slice_get-get_or}
 use Rattle.tree_ids.specs.declared.ids.FileAstId.{FileAstId}
 use Rattle.tree_ids.specs.declared.ids.InFile.{InFile}
 use Rattle.tree_ids.specs.declared.ids.MacroCallId.{MacroCallId}
-use Rattle.tree_ids.specs.declared.name.Name.{Name}
-use Rattle.item_tree.specs.declared.mod_path.ModPath.{ModPath}
 use Rattle.def_ids.specs.declared.ids.ModuleId.{ModuleId}
 use Rattle.def_calls.specs.declared.directives.MacroDirective.{MacroDirective}
 use Rattle.def_calls.specs.Shown.{IsLeft, macro_directive_of, macros_in}
@@ -41,12 +39,6 @@ filter_one test x passes = ap (λ b. cond b (x ∷ []) []) passes
 
 pub filter_none : {X : Type 0} (test : X → Bool) (x : X) → test x ≡ false → filter test (x ∷ []) ≡ []
 filter_none test x passes = ap (λ b. cond b (x ∷ []) []) passes
-
--- a path that was cloned is the same
-pub cloned_path : (old new : ModPath) → (new.kind ≡ old.kind) × AllZip (λ (x y : Name). y ≡ x) old.segments new.segments → new ≡ old
-cloned_path old new same =
-    let segments = same_from_all_zip (λ (x y : Name). y ≡ x) old.segments new.segments same.1 (λ x y is. is) in
-    λ i. record { kind = same.0 i; segments = segments i }
 
 -- one more waits
 pub macros_push : (ds : List MacroDirective) (d : MacroDirective) → macros_in (ds ++ d ∷ []) ≡ macros_in ds ++ macro_directive_of d ∷ []

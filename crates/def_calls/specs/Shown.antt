@@ -6,17 +6,13 @@ use Rattle.def_calls.specs.declared.directives.Expansion.{Expansion}
 use Rattle.def_calls.specs.declared.directives.MacroDirective.{MacroDirective}
 use Rattle.def_calls.specs.declared.directives.MacroDirectiveKind.{MacroDirectiveKind}
 use Rattle.def_calls.specs.declared.directives.MacroDirectiveKind.TheVariants.{FnLike, Attr, Derive}
-use Rattle.def_calls.specs.declared.directives.WrittenCall.{WrittenCall}
 use Rattle.def_modules.specs.declared.map.MapData.{MapData}
 use Rattle.def_modules.specs.Maps.{map_state}
 use Rattle.def_rules.specs.declared.inner_calls.InnerCall.{InnerCall}
 use Rattle.def_rules.specs.Directives.{Told, Turn, Stays, GivesCall, GivesDerive, Replaces, WalksItem, turn_effect}
 use Rattle.def_rules.specs.State as rules
 use Rattle.def_rules.specs.Waiting as waits
-
--- a call, with its path in the place of the reference
-abbrev pub written_of : WrittenCall → waits.WrittenCall
-written_of call = record { path = call.path.now; expand_to = call.expand_to; ctxt = call.ctxt }
+use Rattle.macro_calls.specs.Written.{written_of}
 
 -- an attribute, with itself in the place of the reference
 abbrev pub written_attr_of : WrittenAttr → waits.WrittenAttr

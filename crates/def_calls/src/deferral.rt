@@ -4,10 +4,10 @@ ghost use Rattle.def_calls.specs.Shown.{expansion_shown, macro_directive_of, wri
 ghost use Rattle.def_rules.specs.Deferred.{deferral, deferred_expansion};
 
 use crate::directives::{Expansion, MacroDirective, WrittenDerive};
-use crate::queries::deeper;
 use def_map::HelpersRange;
 use def_rules::DeferredDerive;
 use item_tree::MacroCallId;
+use macro_calls::deeper;
 
 impl<'a> MacroDirective<'a> {
     /// How a derive of the attribute that waited is deferred: one level deeper, with the helpers that it

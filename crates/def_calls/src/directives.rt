@@ -11,15 +11,15 @@ ghost use Rattle.def_rules.specs.Report.{answer_report, left_macro, unresolved_m
 ghost use Rattle.def_rules.specs.State.{State};
 ghost use Rattle.def_rules.specs.Waiting.{Derive, FnLike, WrittenCall as WrittenCallRule};
 
-use crate::queries::deeper;
 use def_ids::{ItemContainerId, ModuleId};
 use def_map::{CallAnswer, MapData, UnresolvedMacro};
 use def_parts::Site;
 use def_rules::{DefDiagnostic, DefDiagnosticKind, InnerCall, LeftMacro, LeftMacroKind};
 use item_tree::{
-    Attr, AttrId, ExpandTo, FileAstId, InFile, ItemNode, MacroCallId, ModItemId, ModPath,
-    SyntaxContext, TreeId,
+    Attr, AttrId, FileAstId, InFile, ItemNode, MacroCallId, ModItemId, ModPath, SyntaxContext,
+    TreeId,
 };
+use macro_calls::{WrittenCall, deeper};
 use std::alloc::{AllocError, Global};
 use std::collections::VecDeque;
 
@@ -41,15 +41,6 @@ pub struct WrittenDerive<'a> {
     pub path: &'a ModPath,
     pub ctxt: SyntaxContext,
     pub call: MacroCallId,
-}
-
-/// A macro call as it is written: its path with the context of that, and what its expansion is read
-/// as.
-#[derive(Clone, Copy)]
-pub struct WrittenCall<'a> {
-    pub path: &'a ModPath,
-    pub expand_to: ExpandTo,
-    pub ctxt: SyntaxContext,
 }
 
 /// What waits for a macro: a call, an item for the macro of one of its attributes, or a derive.

@@ -1,7 +1,8 @@
 //! Macro calls among items.
 ghost use Rattle.std.specs.Prelude.{◌≡◌, Ok, IfOk};
 ghost use Rattle.def_interner.specs.declared.interner.Interner.{Interner};
-ghost use Rattle.def_calls.specs.Shown.{expansion_shown, written_of};
+ghost use Rattle.def_calls.specs.Shown.{expansion_shown};
+ghost use Rattle.macro_calls.specs.Written.{written_of};
 ghost use Rattle.def_parts.specs.Sites.{site_of};
 ghost use Rattle.def_collector.specs.Collector.{state_of};
 ghost use Rattle.def_collector.specs.Walk.{AreKnown, inner_of};
@@ -11,15 +12,13 @@ ghost use Rattle.def_rules.specs.State.{followed_by};
 
 use crate::collector::DefCollector;
 use def_attrs::hand_on;
-use def_calls::{
-    Expansion, MacroDirectiveKind, WrittenCall, call_query, deeper, early_answer, expansion_dir,
-    is_too_deep, queue_macro, record_calls,
-};
+use def_calls::{Expansion, MacroDirectiveKind, expansion_dir, queue_macro, record_calls};
 use def_interner::Interner;
 use def_items::{ItemList, top_items};
 use def_map::{CallAnswer, SourceDatabase};
 use def_parts::Site;
 use item_tree::{HirFileId, ItemNode, TreeId};
+use macro_calls::{WrittenCall, call_query, deeper, early_answer, is_too_deep};
 use std::alloc::AllocError;
 
 /// Tries a macro call where it stands. Answers the list of its expansion's items, if they are to be

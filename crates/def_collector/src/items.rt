@@ -14,13 +14,13 @@ use crate::collector::{DefCollector, WrittenCrate, WrittenFunction, WrittenStruc
 use crate::macros::{WrittenMacro, collect_macro, collect_macro_rules};
 use crate::modules::{ModuleItem, collect_module, name_text};
 use def_attrs::{DeferredDerives, DerivedItem, give_impls};
-use def_calls::WrittenCall;
 use def_ids::{ExternBlockLoc, ItemContainerId};
 use def_interner::{Interner, Location};
 use def_items::{ItemList, define_impl, number_adt};
 use def_map::{MapData, SourceDatabase};
 use def_parts::Site;
 use item_tree::{ItemNode, ModItemId, ModItemKind, Seq};
+use macro_calls::WrittenCall;
 use std::alloc::AllocError;
 
 /// Lets the derives that are deferred for an item give their impls, if any are deferred for some item.

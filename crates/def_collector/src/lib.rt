@@ -25,4 +25,5 @@ pub use def_rules::{
     DefDiagnostic, DefDiagnosticKind, DefDiagnostics, Edge, ExpandErrorKind, LeftImport, LeftMacro,
     LeftMacroKind, Outcome,
 };
+pub use macro_calls::{AttrResolution, ResolvedAttr};
 pub use run::collect_defs;

@@ -2,7 +2,8 @@
 //! are given a call.
 ghost use Rattle.std.specs.Prelude.{◌≡◌, ◌<◌, ◌≤◌, ◌^◌, ◌∷◌, [], true, false, Some, length, slice_get, IfOk, OnOk};
 ghost use Rattle.def_attrs.specs.Shown.{derives_in};
-ghost use Rattle.def_calls.specs.Shown.{IsTurned, expansion_shown, kind_of, macro_directive_of, written_attr_of, written_derive_of, written_of};
+ghost use Rattle.def_calls.specs.Shown.{IsTurned, expansion_shown, kind_of, macro_directive_of, written_attr_of, written_derive_of};
+ghost use Rattle.macro_calls.specs.Written.{written_of};
 ghost use Rattle.def_interner.specs.declared.interner.Interner.{Interner};
 ghost use Rattle.def_interner.specs.Session.{AddsLocations, session_of};
 ghost use Rattle.def_collector.specs.Collector.{state_of};
@@ -24,18 +25,19 @@ use crate::calls::open_expansion;
 use crate::collector::DefCollector;
 use crate::stack::{item_in, walk, walk_item};
 use def_attrs::{
-    AttrUse, DeriveList, FoundAttr, FoundDerive, attr_call, attr_macro, attr_use, call_list,
-    call_tried, call_waiting, derive_macro, derive_paths, expand_deferred, is_helper, queue_derive,
-    refuse_list, report_no_expander,
+    AttrUse, DeriveList, FoundAttr, FoundDerive, attr_call, attr_use, call_list, call_tried,
+    call_waiting, derive_paths, expand_deferred, is_helper, queue_derive, refuse_list,
+    report_no_expander,
 };
 use def_calls::{
-    Expansion, MacroDirective, MacroDirectiveKind, WrittenAttr, WrittenCall, WrittenDerive,
-    call_answer, give_call, leave, put_asked_first, record_inner, settle_call, stay, stored_dir,
+    Expansion, MacroDirective, MacroDirectiveKind, WrittenAttr, WrittenDerive, give_call, leave,
+    put_asked_first, record_inner, settle_call, stay, stored_dir, waiting_answer,
 };
 use def_interner::{Interner, MacroDefId};
 use def_items::ItemList;
 use def_map::SourceDatabase;
 use def_parts::Site;
+use macro_calls::{WrittenCall, attr_macro, derive_macro};
 use std::alloc::AllocError;
 
 /// Lets each macro that waits have its turn, in order, records the calls that were made for their
@@ -150,7 +152,7 @@ fn ask_call<'a, D: SourceDatabase>(
         collector.new.unresolved_macros.items ≡ collector.old.unresolved_macros.items) }
 {
     let world = collector.world(db, session);
-    let answer = call_answer(
+    let answer = waiting_answer(
         collector.alloc,
         &world,
         &collector.def_map,
@@ -184,7 +186,7 @@ fn ask_derive<'a, D: SourceDatabase>(
         collector.new.unresolved_macros.items ≡ collector.old.unresolved_macros.items) }
 {
     let world = collector.world(db, session);
-    let Some(macro_def) = derive_macro(&world, directive.module_id, written) else {
+    let Some(macro_def) = derive_macro(&world, directive.module_id, written.path) else {
         return Ok(false);
     };
     let found = FoundDerive { written, macro_def };
@@ -414,7 +416,7 @@ fn try_derive<'a, D: SourceDatabase>(
     ensures depth { directive.entry.depth < 2 ^ 32 }
 {
     let world = collector.world(db, session);
-    let Some(macro_def) = derive_macro(&world, directive.module_id, written) else {
+    let Some(macro_def) = derive_macro(&world, directive.module_id, written.path) else {
         return queue_derive(&mut collector.unresolved_macros, &directive, written);
     };
     let found = FoundDerive { written, macro_def };

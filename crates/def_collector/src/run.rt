@@ -30,7 +30,7 @@ use crate::passes::Run;
 use crate::seeding::seed;
 use crate::stack::walk;
 use def_attrs::{DeferredDerives, ItemAttrs};
-use def_calls::{MacroDirectiveKind, call_answer, report_left_call, report_left_derive};
+use def_calls::{MacroDirectiveKind, report_left_call, report_left_derive, waiting_answer};
 use def_crates::{MissingCrates, deps_by_name, is_proc_macro_crate, top_attrs};
 use def_ids::{ItemContainerId, MapId, ModuleId};
 use def_imports::Room;
@@ -275,7 +275,7 @@ fn report_macro<'a, D: SourceDatabase>(
     match directive.kind {
         MacroDirectiveKind::FnLike(written) => {
             let world = collector.world(db, session);
-            let answer = call_answer(
+            let answer = waiting_answer(
                 collector.alloc,
                 &world,
                 &collector.def_map,

@@ -12,7 +12,8 @@ use Rattle.tree_ids.specs.declared.ids.TreeId.{TreeId}
 use Rattle.tree_ids.specs.declared.name.Name.{Name}
 use Rattle.def_ids.specs.Ids.{is_same_block}
 use Rattle.def_bindings.specs.Content.{is_name}
-use Rattle.def_map.specs.DefMaps.{view_of}
+use Rattle.def_map.specs.DefMaps.{state_of, view_of}
+use Rattle.def_map.specs.MapStates.{MapStates}
 use Rattle.def_modules.specs.Equality.{file_eq, position_eq}
 use Rattle.def_modules.specs.Locals.{local_view}
 use Rattle.def_map.specs.Oracle.{Oracle}
@@ -112,6 +113,10 @@ answers_of s =
       builtin_derive_fast_path = s.builtins.derive_fast_path;
       expand_proc_attr_macros = s.calls.expand_proc_attr_macros;
     }
+
+-- what its finished maps show beside what paths read
+abbrev pub states_of : Database → MapStates
+states_of s = record { of_crate = λ krate. option_map state_of (get crate_eq s.crates.maps krate); of_block = λ block. option_map state_of (get block_eq s.crates.outer_maps block) }
 
 -- the answers of a database that knows nothing: a macro call that finds its macro gives nothing
 abbrev pub nothing_known : Oracle

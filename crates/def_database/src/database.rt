@@ -1,7 +1,7 @@
 //! A database whose answers are data.
 ghost use Rattle.std.proofs.Common.{rules};
 ghost use Rattle.std.specs.Prelude.{◌≡◌, IfOk};
-ghost use Rattle.def_database.specs.Database.{answers_of, assoc_key, is_read_attr, nothing_known};
+ghost use Rattle.def_database.specs.Database.{answers_of, assoc_key, is_read_attr, nothing_known, states_of};
 
 use crate::by_macro::{ByMacro, answer_at};
 use def_ids::{BuiltinAttr, EnumLoc, ImplId, MacroId, TraitId};
@@ -266,6 +266,8 @@ fn copy_of(answer: &CallAnswer) -> Result<CallAnswer, AllocError>
 
 impl SourceDatabase for Database {
     ghost oracle = { answers_of };
+
+    ghost states = { states_of };
 
     fn item_tree(&self, id: TreeId) -> Option<&ItemTree> {
         self.files.trees.get(&id)

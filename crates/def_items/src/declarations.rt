@@ -1,15 +1,18 @@
 //! Names that items declare: each definition is recorded in its module, and put there.
-ghost use Rattle.std.specs.Prelude.{◌≡◌, ◌∷◌, [], Some, OnOk};
+ghost use Rattle.std.specs.Prelude.{◌≡◌, ◌∷◌, [], cond, Some, OnOk};
+ghost use Rattle.def_bindings.specs.Content.{without_binding};
+ghost use Rattle.def_bindings.specs.declared.bindings.Namespace.TheVariants.{Values};
 ghost use Rattle.def_map.specs.Oracle.{Oracle};
 ghost use Rattle.def_items.specs.Parts.{with_parts};
 ghost use Rattle.def_laws.specs.Performs.{Performs, Updated};
 ghost use Rattle.def_rules.specs.Items.{declared_effect, declared_entry, struct_effect};
+ghost use Rattle.def_rules.specs.ProcMacros.{binds_function, is_function};
 ghost use Rattle.def_rules.specs.State.{State};
 ghost use Rattle.def_sources.specs.Tables.{bound_by};
 
-use def_bindings::{Entry, Namespace, Visibility, lesser_or_import};
+use def_bindings::{BindingTable, Entry, Namespace, Visibility, lesser_or_import};
 use def_globs::Globs;
-use def_ids::{Def, ModuleId};
+use def_ids::{Def, FunctionId, ModuleId};
 use def_map::{MapData, Table};
 use item_tree::Name;
 use std::alloc::AllocError;
@@ -50,6 +53,36 @@ pub fn put(
 {
     table.update(&def_map.tree, module_id, list)?;
     Ok(())
+}
+
+/// Takes a function out of the values of a module, where the module binds it.
+pub fn take_out(table: &mut Globs<Table>, module_id: ModuleId, name: Name, function: FunctionId)
+    ensures { bound_by table.new ≡ cond (binds_function (bound_by table.old) module_id name function)
+        (without_binding (bound_by table.old) module_id name Values) (bound_by table.old) }
+{
+    if binds_function(table.table(), module_id, name, function) {
+        table.remove(module_id, name, Namespace::Values);
+    }
+}
+
+/// Whether a module binds a function to a name in values.
+fn binds_function(table: &Table, module_id: ModuleId, name: Name, function: FunctionId) -> bool
+    ensures { result ≡ binds_function (bound_by table.now) module_id name function }
+{
+    match table.binding(module_id, name, Namespace::Values) {
+        Some(held) => is_function(held.def, function),
+        None => false,
+    }
+}
+
+/// Whether a definition is this function.
+fn is_function(def: Def, function: FunctionId) -> bool
+    ensures { result ≡ is_function function def }
+{
+    match def {
+        Def::Function(found) => function.0 == found.0,
+        _ => false,
+    }
 }
 
 /// Says how many names a module without names may get.

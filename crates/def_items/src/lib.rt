@@ -12,7 +12,7 @@ mod numbered;
 mod reports;
 mod visibility;
 
-pub use declarations::{Definition, define, define_struct, expect_names, put};
+pub use declarations::{Definition, define, define_struct, expect_names, put, take_out};
 pub use extern_crates::name_crate;
 pub use impls::define_impl;
 pub use item_order::is_crate_root;

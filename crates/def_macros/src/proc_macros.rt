@@ -1,12 +1,10 @@
 //! Procedural macros: what functions in the root of their crate declare, and what they export.
-ghost use Rattle.std.specs.Prelude.{◌≡◌, cond, option_map, true, IfOk, IfSome, OnOk, Some};
+ghost use Rattle.std.specs.Prelude.{◌≡◌, option_map, true, IfOk, IfSome, OnOk, Some};
 ghost use Rattle.item_tree.specs.Attrs.{attrs_of};
 ghost use Rattle.item_tree.specs.declared.items.ModItemKind.TheVariants as kinds;
 ghost use Rattle.item_tree.specs.declared.items.RawVisibility.{RawVisibility as WrittenVis};
 ghost use Rattle.def_ids.specs.declared.ids.MacroId.TheVariants as macro_of;
 ghost use Rattle.def_interner.specs.Session.{AddsLocations, session_of};
-ghost use Rattle.def_bindings.specs.declared.bindings.Namespace.TheVariants.{Values};
-ghost use Rattle.def_bindings.specs.Content.{without_binding};
 ghost use Rattle.def_items.specs.Parts.{with_parts};
 ghost use Rattle.def_laws.specs.Performs.{Performs};
 ghost use Rattle.def_macros.specs.ProcMacros.{IsNumbered};
@@ -19,16 +17,15 @@ ghost use Rattle.def_rules.specs.Locations.{AddsOwn};
 ghost use Rattle.def_rules.specs.ProcMacros as rules;
 ghost use Rattle.def_rules.specs.State.{State, with_map};
 ghost use Rattle.def_rules.specs.Targets.{leaves_out};
-ghost use Rattle.def_sources.specs.Tables.{bound_by};
 
-use def_bindings::{BindingTable, Namespace, Visibility};
+use def_bindings::{Namespace, Visibility};
 use def_globs::Globs;
 use def_ids::{
     CustomProcMacroExpander, Def, FunctionId, MacroId, ModuleId, ProcMacroId, ProcMacroLoc,
     ProcMacroUse,
 };
 use def_interner::{Interner, Location};
-use def_items::{Definition, put};
+use def_items::{Definition, put, take_out};
 use def_map::{MapData, SourceDatabase, Table};
 use def_parts::{ProcMacroDef, ProcMacroKind, Site, parse_proc_macro_decl};
 use item_tree::{Crate, ItemNode, Name, Seq};
@@ -254,34 +251,4 @@ fn pair(
     }
     def_map.set_macro_at(site.position(node), MacroId::ProcMacro(id))?;
     Ok(())
-}
-
-/// Takes a function out of the values of a module, where the module binds it.
-fn take_out(table: &mut Globs<Table>, module_id: ModuleId, name: Name, function: FunctionId)
-    ensures { bound_by table.new ≡ cond (rules.binds_function (bound_by table.old) module_id name function)
-        (without_binding (bound_by table.old) module_id name Values) (bound_by table.old) }
-{
-    if binds_function(table.table(), module_id, name, function) {
-        table.remove(module_id, name, Namespace::Values);
-    }
-}
-
-/// Whether a module binds a function to a name in values.
-fn binds_function(table: &Table, module_id: ModuleId, name: Name, function: FunctionId) -> bool
-    ensures { result ≡ rules.binds_function (bound_by table.now) module_id name function }
-{
-    match table.binding(module_id, name, Namespace::Values) {
-        Some(held) => is_function(held.def, function),
-        None => false,
-    }
-}
-
-/// Whether a definition is this function.
-fn is_function(def: Def, function: FunctionId) -> bool
-    ensures { result ≡ rules.is_function function def }
-{
-    match def {
-        Def::Function(found) => function.0 == found.0,
-        _ => false,
-    }
 }

@@ -1,5 +1,6 @@
 pub mod DefMaps
 pub mod ItemScopes
+pub mod MapStates
 pub use Rattle.def_modules.specs.MapView
 pub use Rattle.def_modules.specs.MapState
 pub use Rattle.def_modules.specs.Updates

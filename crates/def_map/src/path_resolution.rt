@@ -1,8 +1,10 @@
 //! What paths mean, in finished maps and in the map that is being made.
 ghost use Rattle.std.specs.Prelude.{IfSome, ◌≡◌, None, false, option_map};
 ghost use Rattle.def_interner.specs.Session.{session_of};
-ghost use Rattle.def_map.specs.DefMaps.{view_of};
+ghost use Rattle.def_map.specs.DefMaps.{state_of, view_of};
+ghost use Rattle.def_map.specs.MapStates.{finished_state};
 ghost use Rattle.def_modules.specs.Locals.{local_view};
+ghost use Rattle.def_modules.specs.Maps.{map_state};
 ghost use Rattle.def_sources.specs.declared.asked.ResolveMode.TheVariants.{Other};
 ghost use Rattle.def_sources.specs.Asking.{map_with, world_lent};
 ghost use Rattle.def_sources.specs.Modes.{asked_by};
@@ -10,6 +12,7 @@ ghost use Rattle.def_paths.specs.Answers.{reached};
 ghost use Rattle.def_sources.specs.PerNs.{per_namespace};
 ghost use Rattle.def_paths.specs.Paths.{for_module, module_found, resolve, resolve_visibility as visibility_of};
 ghost use Rattle.def_sources.specs.Sources.{world_of, finished_map as finished_map_of};
+ghost use Rattle.def_sources.specs.Tables.{bound_by};
 
 use crate::def_map::DefMap;
 use crate::source_database::SourceDatabase;
@@ -26,7 +29,8 @@ use item_tree::{ModPath, Name, RawVisibility};
 
 /// The finished map of a block or a crate.
 pub fn finished_map<D: SourceDatabase>(db: &D, id: MapId) -> Option<&DefMap>
-    ensures { option_map (λ m. view_of m.now) result ≡ finished_map_of (D.oracle db.now) id }
+    ensures view { option_map (λ m. view_of m.now) result ≡ finished_map_of (D.oracle db.now) id }
+    ensures state { option_map (λ m. state_of m.now) result ≡ finished_state (D.states db.now) id }
 {
     match id.block {
         Some(block) => db.outer_map(block),
@@ -286,6 +290,26 @@ impl ResolvePaths for MapData {
 }
 
 impl DefMap {
+    /// The map with all that its paths are read against, for questions that ask several.
+    pub fn world<'a, D: SourceDatabase>(
+        &'a self,
+        local_def_map: &'a LocalDefMap,
+        db: &'a D,
+        session: &'a Interner,
+    ) -> World<'a, D, Table>
+        ensures world { world_lent D.oracle bound_by result
+            ≡ world_of (D.oracle db.now) (session_of session.now) (view_of self.now) (local_view local_def_map.now) }
+        ensures state { map_state result.map.now ≡ state_of self.now }
+    {
+        World {
+            map: &self.data,
+            table: &self.table,
+            local: local_def_map,
+            db,
+            session,
+        }
+    }
+
     /// What a path means, asked from a module of this map. Of a name that stands alone, `shadow`
     /// says whether a builtin type goes before a module, and only the macros of
     /// `expected_macro_subns` count, if that is given.

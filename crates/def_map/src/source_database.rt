@@ -23,13 +23,17 @@ use std::alloc::{AllocError, Global};
 /// follows from what the resolver finds for them: resolvers of equal meaning get equal answers.
 pub trait SourceDatabase {
     ghost use Rattle.def_interner.specs.Session.{in_module};
-    ghost use Rattle.def_map.specs.DefMaps.{view_of};
+    ghost use Rattle.def_map.specs.DefMaps.{state_of, view_of};
+    ghost use Rattle.def_map.specs.MapStates.{MapStates};
     ghost use Rattle.def_modules.specs.Locals.{local_view};
     ghost use Rattle.def_oracle.specs.Oracle.{Oracle};
     ghost use Rattle.def_oracle.specs.Queries.{plain_call, plain_attr_call};
 
     /// All answers.
     ghost oracle: { Self → Oracle };
+
+    /// What finished maps show beside what paths read of them, as how deep their expansions may nest.
+    ghost states: { Self → MapStates };
 
     /// The items of a file or a block. None counts as an empty tree.
     fn item_tree(&self, id: TreeId) -> Option<&ItemTree>
@@ -40,11 +44,13 @@ pub trait SourceDatabase {
 
     /// The finished map of a crate.
     fn crate_def_map(&self, krate: Crate) -> Option<&DefMap>
-        ensures { option_map (λ m. view_of m.now) result ≡ (oracle self.now).crate_def_map krate };
+        ensures view { option_map (λ m. view_of m.now) result ≡ (oracle self.now).crate_def_map krate }
+        ensures state { option_map (λ m. state_of m.now) result ≡ (states self.now).of_crate krate };
 
     /// The finished map of a block.
     fn outer_map(&self, block: BlockId) -> Option<&DefMap>
-        ensures { option_map (λ m. view_of m.now) result ≡ (oracle self.now).outer_map block };
+        ensures view { option_map (λ m. view_of m.now) result ≡ (oracle self.now).outer_map block }
+        ensures state { option_map (λ m. state_of m.now) result ≡ (states self.now).of_block block };
 
     /// The finished local map of a crate.
     fn local_def_map(&self, krate: Crate) -> Option<&LocalDefMap>

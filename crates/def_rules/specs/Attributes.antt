@@ -110,12 +110,21 @@ builtin_use oracle krate TestCase = cond (oracle.cfg_flag krate test_name) Passe
 builtin_use oracle krate Derive = ReadsDerives
 builtin_use oracle krate (Other n) = ReplacesItem
 
+-- why a procedural macro gives nothing, by what would expand it
+abbrev pub expand_error : CustomProcMacroExpander → Option ExpandErrorKind
+expand_error (Id n) = None
+expand_error Missing = Some MissingProcMacroExpander
+expand_error Disabled = Some MacroDisabled
+expand_error DisabledAttr = Some ProcMacroAttrExpansionDisabled
+
+-- what a procedural macro does, unless it gives nothing
+abbrev pub use_unless : Option ExpandErrorKind → AttrUse
+use_unless None = ReplacesItem
+use_unless (Some error) = HasNoExpander error
+
 -- what a procedural macro does, by what expands it
 abbrev pub expander_use : CustomProcMacroExpander → AttrUse
-expander_use (Id n) = ReplacesItem
-expander_use Missing = HasNoExpander MissingProcMacroExpander
-expander_use Disabled = HasNoExpander MacroDisabled
-expander_use DisabledAttr = HasNoExpander ProcMacroAttrExpansionDisabled
+expander_use expander = use_unless (expand_error expander)
 
 -- what a macro of a kind does
 abbrev pub attr_use : Oracle → Crate → MacroDefKind → AttrUse

@@ -1,6 +1,6 @@
 use Rattle.std.proofs.Common.{◌++◌, ◌∷◌, [], ap, ◌∙◌}
 use Rattle.item_tree.specs.declared.mod_path.ModPath.{ModPath}
-use Rattle.def_calls.proofs.WaitingLemmas.{cloned_path}
+use Rattle.macro_calls.proofs.PathLemmas.{cloned_path}
 use Rattle.def_rules.specs.declared.diagnostics.DefDiagnostic.{DefDiagnostic}
 use Rattle.def_rules.specs.declared.diagnostics.DefDiagnosticKind.TheVariants.{MacroError}
 use Rattle.def_attrs.proofs.given.report_no_expander.Goals as goal

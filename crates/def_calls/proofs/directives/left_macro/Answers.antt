@@ -1,7 +1,7 @@
 use Rattle.std.proofs.Common.{◌≡◌, ap, sym, ◌∙◌}
 use Rattle.item_tree.specs.declared.mod_path.ModPath.{ModPath}
 use Rattle.def_calls.specs.Shown.{kind_of}
-use Rattle.def_calls.proofs.WaitingLemmas.{cloned_path}
+use Rattle.macro_calls.proofs.PathLemmas.{cloned_path}
 use Rattle.def_rules.specs.declared.outcome.LeftMacro.{LeftMacro}
 use Rattle.def_rules.specs.declared.outcome.LeftMacroKind.{LeftMacroKind}
 use Rattle.def_rules.specs.declared.outcome.LeftMacroKind.TheVariants.{Attr, Derive, Fn}

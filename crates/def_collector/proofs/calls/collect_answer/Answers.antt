@@ -1,5 +1,5 @@
 use Rattle.std.proofs.Common.{◌≡◌, None, ap, sym, ◌∙◌}
-use Rattle.def_calls.specs.Shown.{written_of}
+use Rattle.macro_calls.specs.Written.{written_of}
 use Rattle.def_collector.specs.Collector.{state_of}
 use Rattle.def_collector.specs.Walk.{inner_of}
 use Rattle.def_laws.proofs.ResultLaws.{if_ok}

@@ -1,4 +1,5 @@
-use Rattle.def_calls.specs.Shown.{macro_directive_of, written_of}
+use Rattle.def_calls.specs.Shown.{macro_directive_of}
+use Rattle.macro_calls.specs.Written.{written_of}
 use Rattle.def_collector.specs.Collector.{state_of}
 use Rattle.def_map.specs.Asking.{world_lent}
 use Rattle.def_sources.specs.Tables.{bound_by}

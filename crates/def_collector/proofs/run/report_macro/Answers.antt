@@ -1,5 +1,6 @@
 use Rattle.std.proofs.Common.{◌++◌, append-nil, ap, refl, sym, slice_get, ◌∙◌}
-use Rattle.def_calls.specs.Shown.{kind_of, macro_directive_of, written_of}
+use Rattle.def_calls.specs.Shown.{kind_of, macro_directive_of}
+use Rattle.macro_calls.specs.Written.{written_of}
 use Rattle.def_collector.specs.Collector.{state_of}
 use Rattle.def_laws.proofs.RecordLaws.{on_ok}
 use Rattle.def_map.specs.Asking.{world_lent}

@@ -18,4 +18,4 @@ returns g c =
     let w : World = world_lent g.D.SourceDatabase.oracle bound_by c.args.world.now in
     if_ok c.entries-2.result c.entries-2.ensures (λ entries are.
     entries_elsewhere w c.args.glob c.args.source entries.items c.is_own_crate-own.result (bound_by c.table.result.now) c.is_own_crate-own.ensures are
-    (view_of c.in-Some.map.now) (sym c.eq.ensures ∙ c.if-eq.false) c.in-Some.ensures c.table.ensures)
+    (view_of c.in-Some.map.now) (sym c.eq.ensures ∙ c.if-eq.false) c.in-Some.ensures.view c.table.ensures)

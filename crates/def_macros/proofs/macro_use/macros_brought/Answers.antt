@@ -10,4 +10,4 @@ pub returns : goal.returns
 returns g c =
     let w : World = world_lent g.D.SourceDatabase.oracle bound_by c.args.world.now in
     if_ok c.taken_in-2.result c.taken_in-2.ensures (λ taken are. are ∙ taken_elsewhere w c.args.root _ c.attrs_of-attrs.result.now (bound_by c.table.result.now) (view_of c.in-Some.map.now) c.attrs_of-attrs.ensures
-    (sym c.eq.ensures ∙ c.if-eq.false) c.in-Some.ensures c.table.ensures)
+    (sym c.eq.ensures ∙ c.if-eq.false) c.in-Some.ensures.view c.table.ensures)

@@ -1,0 +1,2 @@
+pub mod ResolverLemmas
+pub mod PathLemmas
