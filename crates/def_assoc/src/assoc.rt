@@ -1,11 +1,21 @@
 //! The items of a trait or an impl.
 ghost use Rattle.std.specs.Prelude.{◌≡◌, IfOk, Some};
+ghost use Rattle.def_ids.specs.declared.ids.ItemContainerId.TheVariants as contained_in;
+ghost use Rattle.def_interner.specs.Session.{AddsLocations, ImplItem, TraitItem, session_of};
+ghost use Rattle.def_oracle.specs.declared.source_database.AssocItemsOwner.TheVariants as owned_by;
 ghost use Rattle.def_assoc.specs.AssocItems.{first_named, function_in, type_alias_in, type_aliases};
+ghost use Rattle.def_assoc.specs.Owners.{IsAnswer, owner_lists};
 
+use crate::collector::Found;
 use crate::iter::{AssocTypes, MacroCalls};
-use def_ids::{ConstId, FunctionId, TypeAliasId};
+use crate::numbered::number_items;
+use crate::owners::{collect_impl, collect_trait};
+use def_ids::{ConstId, FunctionId, ImplId, ItemContainerId, TraitId, TypeAliasId};
+use def_interner::Interner;
+use def_map::SourceDatabase;
+use def_rules::DefDiagnostics;
 use item_tree::{FileAstId, InFile, MacroCallId, Name};
-use std::alloc::AllocError;
+use std::alloc::{AllocError, Global};
 
 /// A named item of a trait or an impl.
 #[derive(Clone, Copy, PartialEq, Eq, Debug)]
@@ -24,6 +34,28 @@ pub struct TraitItems {
 }
 
 impl TraitItems {
+    /// The items of a trait and what is reported of them: an alias of traits has none, nor has a trait
+    /// that the session does not know. On an error some of its items may have got numbers.
+    pub fn query_with_diagnostics<D: SourceDatabase>(
+        alloc: Global,
+        db: &D,
+        session: &mut Interner,
+        tr: TraitId,
+    ) -> Result<(TraitItems, DefDiagnostics), AllocError>
+        ensures answer { let known = session_of session.old in
+            let lists = owner_lists (D.oracle db.now) (D.states db.now) known (owned_by.Trait tr) (known.item TraitItem tr.0) in
+            IfOk result (λ answer. IsAnswer lists (contained_in.Trait tr) known (session_of session.new) answer.0.items.items answer.0.macro_calls.items answer.1) }
+        ensures session { AddsLocations (session_of session.old) (session_of session.new) }
+    {
+        let Found {
+            named,
+            macro_calls,
+            diagnostics,
+        } = collect_trait(alloc, db, session, tr)?;
+        let items = number_items(alloc, session, ItemContainerId::Trait(tr), named.as_slice())?;
+        Ok((TraitItems { items, macro_calls }, diagnostics))
+    }
+
     /// The type aliases, in order.
     pub fn associated_types(&self) -> AssocTypes<'_>
         ensures { result ≡ type_aliases self.now.items.items }
@@ -97,6 +129,28 @@ pub struct ImplItems {
 }
 
 impl ImplItems {
+    /// The items of an impl and what is reported of them. One that the session does not know has none.
+    /// On an error some of its items may have got numbers.
+    pub fn of<D: SourceDatabase>(
+        alloc: Global,
+        db: &D,
+        session: &mut Interner,
+        id: ImplId,
+    ) -> Result<(ImplItems, DefDiagnostics), AllocError>
+        ensures answer { let known = session_of session.old in
+            let lists = owner_lists (D.oracle db.now) (D.states db.now) known (owned_by.Impl id) (known.item ImplItem id.0) in
+            IfOk result (λ answer. IsAnswer lists (contained_in.Impl id) known (session_of session.new) answer.0.items.items answer.0.macro_calls.items answer.1) }
+        ensures session { AddsLocations (session_of session.old) (session_of session.new) }
+    {
+        let Found {
+            named,
+            macro_calls,
+            diagnostics,
+        } = collect_impl(alloc, db, session, id)?;
+        let items = number_items(alloc, session, ItemContainerId::Impl(id), named.as_slice())?;
+        Ok((ImplItems { items, macro_calls }, diagnostics))
+    }
+
     /// The macro calls, in order.
     pub fn macro_calls(&self) -> MacroCalls<'_>
         ensures { result ≡ self.now.macro_calls.items }

@@ -3,7 +3,10 @@
 #![tactic(auto)]
 
 mod assoc;
+mod collector;
 mod iter;
+mod numbered;
+mod owners;
 
 pub use assoc::{AssocItemId, ImplItems, TraitItems};
 pub use iter::{AssocTypes, MacroCalls};

@@ -1,0 +1,5 @@
+mod NumberedLemmas
+mod OwnersLemmas
+mod TreesLemmas
+mod WalkLemmas
+mod WorkLemmas
