@@ -10,7 +10,7 @@ use Rattle.def_ids.specs.declared.locs.ConstLoc.{ConstLoc}
 use Rattle.def_ids.specs.declared.locs.FunctionLoc.{FunctionLoc}
 use Rattle.def_ids.specs.declared.locs.TypeAliasLoc.{TypeAliasLoc}
 use Rattle.def_interner.specs.Session.{Session, AddsLocations, ItemKind, ItemLoc, in_container, session_of, shown_item, shown_macro, FunctionItem, ConstItem, TypeAliasItem}
-use Rattle.def_interner.specs.SessionLaws.{adds_refl, adds_trans}
+use Rattle.def_interner.specs.SessionLaws.{adds_trans}
 use Rattle.def_interner.specs.declared.interner.Interner.{Interner}
 use Rattle.def_assoc.specs.declared.assoc.AssocItemId.{AssocItemId}
 use Rattle.def_assoc.specs.declared.assoc.AssocItemId.TheVariants as id
@@ -93,10 +93,6 @@ module _ (container : ItemContainerId) (item : NamedItem) (s t : Interner) where
 -- Many locations
 
 module _ (container : ItemContainerId) (named : List NamedItem) where
-  -- to a session that stays none is added
-  pub named_refl : (s : Session) → AddsNamed container named s s
-  named_refl s = record { adds = adds_refl s; items = λ kind n loc at. inl at; macros = λ id loc at. inl at; impls = λ n loc at. inl at }
-
   -- after locations of these items, that of one more of them
   pub named_more : (a b c : Session) (item : NamedItem) → Contains named item → AddsNamed container named a b → AddsOne container item b c → AddsNamed container named a c
   named_more a b c item among first second = record {

@@ -1,43 +1,29 @@
--- The lists of a trait or an impl, by what is known of its location and its module.
+-- The lists of a trait or an impl, by what is known of its module.
 use Rattle.std.proofs.Common.{◌≡◌, ℕ, List, Option, None, Some, ap, ◌∙◌}
-use Rattle.tree_ids.specs.declared.ids.FileAstId.{FileAstId}
 use Rattle.tree_ids.specs.declared.ids.HirFileId.{HirFileId}
-use Rattle.tree_ids.specs.declared.ids.InFile.{InFile}
-use Rattle.def_ids.specs.declared.ids.ItemContainerId.TheVariants.{Module}
 use Rattle.def_ids.specs.declared.ids.ModuleId.{ModuleId}
-use Rattle.def_interner.specs.Session.{Session, ItemLoc, in_module}
-use Rattle.def_map.specs.MapStates.{MapStates}
+use Rattle.def_interner.specs.Session.{Session}
 use Rattle.def_modules.specs.MapState.{MapState}
 use Rattle.def_modules.specs.MapView.{LocalView, MapView}
 use Rattle.def_oracle.specs.declared.source_database.AssocItem.{AssocItem}
 use Rattle.def_oracle.specs.declared.source_database.AssocItemsOwner.{AssocItemsOwner}
 use Rattle.def_oracle.specs.Oracle.{Oracle}
 use Rattle.def_assoc.specs.ExpansionTrees.{Lists, Reading, items_of, lists_of, no_lists, nodes_in, tree}
-use Rattle.def_assoc.specs.Owners.{lists_by, lists_in, owner_lists, reading_at}
+use Rattle.def_assoc.specs.Owners.{lists_by, reading_at}
 
-module _ (oracle : Oracle) (session : Session) (owner : AssocItemsOwner) (lists : Lists) where
-  -- at a location that is known they are those of the module
-  pub at_location : (states : MapStates) (loc : Option ItemLoc) (at : ModuleId) (position : InFile FileAstId) → Some (in_module at position) ≡ loc → lists ≡ lists_in oracle states session position.file owner (Module at)
-      → lists ≡ owner_lists oracle states session owner loc
-  at_location states loc at position is here = here ∙ ap (owner_lists oracle states session owner) is
+module _ (oracle : Oracle) (session : Session) (owner : AssocItemsOwner) (lists : Lists) (at : ModuleId) (file : HirFileId) (found : Option MapView) (shown : Option MapState) (known : Option LocalView) where
+  -- without a map there are none,
+  pub without_map : None ≡ found → lists ≡ no_lists → lists ≡ lists_by oracle session at file owner found shown known
+  without_map is here = here ∙ ap (λ f. lists_by oracle session at file owner f shown known) is
 
-  -- without one there are none
-  pub at_none : (states : MapStates) (loc : Option ItemLoc) → None ≡ loc → lists ≡ no_lists → lists ≡ owner_lists oracle states session owner loc
-  at_none states loc is here = here ∙ ap (owner_lists oracle states session owner) is
+  -- nor without a local map
+  pub without_local : (map : MapView) (state : MapState) → Some map ≡ found → Some state ≡ shown → None ≡ known → lists ≡ no_lists → lists ≡ lists_by oracle session at file owner found shown known
+  without_local map state is too none here = here ∙ (λ i. lists_by oracle session at file owner (is i) (too i) (none i))
 
-  module _ (at : ModuleId) (file : HirFileId) (found : Option MapView) (shown : Option MapState) (known : Option LocalView) where
-    -- without a map there are none,
-    pub without_map : None ≡ found → lists ≡ no_lists → lists ≡ lists_by oracle session at file owner found shown known
-    without_map is here = here ∙ ap (λ f. lists_by oracle session at file owner f shown known) is
-
-    -- nor without a local map
-    pub without_local : (map : MapView) (state : MapState) → Some map ≡ found → Some state ≡ shown → None ≡ known → lists ≡ no_lists → lists ≡ lists_by oracle session at file owner found shown known
-    without_local map state is too none here = here ∙ (λ i. lists_by oracle session at file owner (is i) (too i) (none i))
-
-    -- with both they are what is collected
-    pub with_both : (map : MapView) (state : MapState) (local : LocalView) (r : Reading) (depth : ℕ) (items : List AssocItem) → Some map ≡ found → Some state ≡ shown → Some local ≡ known → r ≡ reading_at oracle session at map state local
-        → depth ≡ oracle.expansion_depth file → items ≡ items_of oracle owner → lists ≡ lists_of r (tree r (nodes_in file depth items)) → lists ≡ lists_by oracle session at file owner found shown known
-    with_both map state local r depth items is too there same deep all collected =
-        collected
-        ∙ (λ i. lists_of (same i) (tree (same i) (nodes_in file (deep i) (all i))))
-        ∙ (λ i. lists_by oracle session at file owner (is i) (too i) (there i))
+  -- with both they are what is collected
+  pub with_both : (map : MapView) (state : MapState) (local : LocalView) (r : Reading) (depth : ℕ) (items : List AssocItem) → Some map ≡ found → Some state ≡ shown → Some local ≡ known → r ≡ reading_at oracle session at map state local
+      → depth ≡ oracle.expansion_depth file → items ≡ items_of oracle owner → lists ≡ lists_of r (tree r (nodes_in file depth items)) → lists ≡ lists_by oracle session at file owner found shown known
+  with_both map state local r depth items is too there same deep all collected =
+      collected
+      ∙ (λ i. lists_of (same i) (tree (same i) (nodes_in file (deep i) (all i))))
+      ∙ (λ i. lists_by oracle session at file owner (is i) (too i) (there i))

@@ -10,7 +10,7 @@ use Rattle.def_oracle.specs.declared.source_database.AssocItemsOwner.TheVariants
 use Rattle.def_modules.specs.Maps.{limit_of}
 use Rattle.def_rules.specs.Calls.{deeper, is_too_deep}
 use Rattle.def_assoc.specs.declared.collector.ItemList.{ItemList}
-use Rattle.def_assoc.specs.ExpansionTrees.{Lists, Node, Reading, children, expansion_of, gives, items_of, joined, levels_from, lists_in, lists_of, no_lists, nodes_in, subtree, tree, whole_subtree}
+use Rattle.def_assoc.specs.ExpansionTrees.{Lists, Node, Reading, children, expansion_of, gives, items_of, joined, levels_from, lists_in, lists_of, nodes_in, subtree, tree, whole_subtree}
 use Rattle.def_assoc.specs.Shown.{nodes_of, unread}
 use Rattle.def_assoc.proofs.WorkLemmas.{level_below, not_deepest}
 
@@ -29,9 +29,6 @@ joined_assoc a b c i = record {
   calls = append_assoc a.calls b.calls c.calls i;
   diagnostics = append_assoc a.diagnostics b.diagnostics c.diagnostics i;
 }
-
-pub joined_none : (a : Lists) → joined a no_lists ≡ a
-joined_none a i = record { named = append-nil a.named i; calls = append-nil a.calls i; diagnostics = append-nil a.diagnostics i }
 
 -- Trees
 
@@ -88,11 +85,3 @@ found_more r all found more old new rest below node fits is before recorded open
     ∙ ap (λ x. joined found (lists_of r x)) (sym (tree_cons r node rest fits))
     ∙ ap (λ x. joined found (lists_of r (tree r x))) (sym before)
     ∙ is
-
--- where none is left, all is found
-pub found_all : (r : Reading) (all found : Lists) (nodes : List Node) → IsFound r all found nodes → nodes ≡ [] → found ≡ all
-found_all r all found nodes is none = sym (joined_none found) ∙ ap (λ x. joined found (lists_of r (tree r x))) (sym none) ∙ is
-
--- and before the walk nothing is
-pub found_none : (r : Reading) (found : Lists) (nodes : List Node) → found ≡ no_lists → IsFound r (lists_of r (tree r nodes)) found nodes
-found_none r found nodes none = ap (λ x. joined x (lists_of r (tree r nodes))) none

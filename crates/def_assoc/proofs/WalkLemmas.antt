@@ -15,17 +15,13 @@ use Rattle.def_rules.specs.declared.diagnostics.DefDiagnosticKind.TheVariants.{U
 use Rattle.def_rules.specs.declared.outcome.LeftMacroKind.TheVariants.{Fn}
 use Rattle.def_rules.specs.Calls.{deeper, is_too_deep}
 use Rattle.def_assoc.specs.declared.collector.ItemList.{ItemList}
-use Rattle.def_assoc.specs.ExpansionTrees.{Gives, Lists, Node, Reading, answered, expansion_of, items_of, joined, levels_from, lists_in, lists_of, no_lists, nodes_in, reported_of, tree}
+use Rattle.def_assoc.specs.ExpansionTrees.{Gives, Lists, Node, Reading, answered, expansion_of, items_of, joined, levels_from, lists_in, nodes_in, reported_of}
 use Rattle.def_assoc.specs.Shown.{nodes_of, unread}
 use Rattle.def_assoc.specs.Work.{weight, work}
-use Rattle.def_assoc.proofs.TreesLemmas.{IsFound, unread_pushed}
+use Rattle.def_assoc.proofs.TreesLemmas.{unread_pushed}
 use Rattle.def_assoc.proofs.WorkLemmas.{none_below, not_deepest, work_below}
 
 -- Stacks
-
--- a walk begins with one list, and nothing is found
-pub begins : (r : Reading) (found : Lists) (lists : List ItemList) (first : ItemList) → found ≡ no_lists → lists ≡ first ∷ [] → IsFound r (lists_of r (tree r (nodes_of first))) found (unread lists)
-begins r found lists first none is = ap (λ x. joined x (lists_of r (tree r (unread lists)))) none ∙ ap (λ l. joined no_lists (lists_of r (tree r (unread l)))) is
 
 -- the items of a list that is put on the stack are read first
 pub pushed : (old new : List ItemList) (list : ItemList) (nodes : List Node) → new ≡ old ++ list ∷ [] → nodes ≡ nodes_of list → unread new ≡ nodes ++ unread old

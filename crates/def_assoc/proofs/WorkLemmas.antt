@@ -1,12 +1,12 @@
 -- What lies below an item is less work than the item.
-use Rattle.std.proofs.Common.{◌≡◌, ◌<◌, ◌≤◌, ◌+◌, ◌*◌, ◌^◌, ℕ, suc, Bool, true, false, cond, ◌||◌, nat_eq, nat_lt, List, [], ◌∷◌, ◌++◌, length, ap, ◌∙◌, arith, inl, inr}
+use Rattle.std.proofs.Common.{◌≡◌, ◌<◌, ◌≤◌, ◌*◌, ◌^◌, ℕ, suc, Bool, true, false, cond, ◌||◌, nat_eq, nat_lt, List, [], ◌∷◌, length, ap, ◌∙◌, arith, inl, inr}
 use Rattle.std.proofs.Math.Nat.{mul-le-mul_right, one-le-pow, pow-succ'}
 use Rattle.std.proofs.lemmas.Bool.{cases_lt, eqb-false, lt-ltb}
-use Rattle.std.proofs.lemmas.List.Sums.{sum_by-append, sum_by-cons}
+use Rattle.std.proofs.lemmas.List.Sums.{sum_by-cons}
 use Rattle.tree_ids.specs.declared.ids.HirFileId.{HirFileId}
 use Rattle.def_oracle.specs.declared.source_database.AssocItem.{AssocItem}
 use Rattle.def_rules.specs.Calls.{deeper, deepest}
-use Rattle.def_assoc.specs.ExpansionTrees.{Node, levels_from, nodes_in}
+use Rattle.def_assoc.specs.ExpansionTrees.{levels_from, nodes_in}
 use Rattle.def_assoc.specs.Work.{node_work, weight, work}
 
 -- Depths
@@ -59,10 +59,3 @@ work_below file depth items less few =
 -- no item weighs less than an item
 pub none_below : (depth : ℕ) → work [] < weight (levels_from depth)
 none_below depth = let one = one_weight (levels_from depth) in omega (arith, one)
-
--- the items below one that was read, in its place, are less work
-pub work_falls : (old new rest below : List Node) (node : Node) → old ≡ node ∷ rest → new ≡ below ++ rest → work below < weight (levels_from node.depth) → work new < work old
-work_falls old new rest below node before after less =
-    let first : work old ≡ weight (levels_from node.depth) + work rest = ap work before ∙ sum_by-cons node_work node rest in
-    let then : work new ≡ work below + work rest = ap work after ∙ sum_by-append node_work below rest in
-    omega (arith, first, then, less)

@@ -19,7 +19,7 @@ use Rattle.def_sources.specs.Sources.{finished_map, world_of}
 use Rattle.def_rules.specs.declared.diagnostics.DefDiagnostic.{DefDiagnostic}
 use Rattle.def_assoc.specs.declared.assoc.AssocItemId.{AssocItemId}
 use Rattle.def_assoc.specs.ExpansionTrees.{Lists, Reading, items_of, lists_of, no_lists, nodes_in, tree}
-use Rattle.def_assoc.specs.Numbered.{AddsNamed, IsNumbered}
+use Rattle.def_assoc.specs.Numbered.{IsNumbered}
 
 -- what items of a module are read against, by its finished map, what that shows beside its bindings, and its crate's local map
 abbrev pub reading_at : Oracle → Session → ModuleId → MapView → MapState → LocalView → Reading
@@ -46,9 +46,8 @@ abbrev pub owner_lists : Oracle → MapStates → Session → AssocItemsOwner �
 owner_lists oracle states session owner None = no_lists
 owner_lists oracle states session owner (Some loc) = lists_in oracle states session loc.position.file owner loc.container
 
--- what is answered of these lists: each item with its number, where numbers of these items alone are given
-pub record IsAnswer (lists : Lists) (container : ItemContainerId) (old new : Session) (items : List (Name × AssocItemId)) (calls : List (InFile FileAstId × MacroCallId)) (diagnostics : List DefDiagnostic) : Type 0 where
-  pub numbered : AllZip (IsNumbered new container) lists.named items
+-- what is answered of these lists: each item with its number in the session that is left
+pub record IsAnswer (lists : Lists) (container : ItemContainerId) (session : Session) (items : List (Name × AssocItemId)) (calls : List (InFile FileAstId × MacroCallId)) (diagnostics : List DefDiagnostic) : Type 0 where
+  pub numbered : AllZip (IsNumbered session container) lists.named items
   pub called : calls ≡ lists.calls
   pub reported : diagnostics ≡ lists.diagnostics
-  pub adds : AddsNamed container lists.named old new

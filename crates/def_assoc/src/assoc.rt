@@ -1,9 +1,10 @@
 //! The items of a trait or an impl.
 ghost use Rattle.std.specs.Prelude.{◌≡◌, IfOk, Some};
 ghost use Rattle.def_ids.specs.declared.ids.ItemContainerId.TheVariants as contained_in;
-ghost use Rattle.def_interner.specs.Session.{AddsLocations, ImplItem, TraitItem, session_of};
+ghost use Rattle.def_interner.specs.Session.{ImplItem, TraitItem, session_of};
 ghost use Rattle.def_oracle.specs.declared.source_database.AssocItemsOwner.TheVariants as owned_by;
 ghost use Rattle.def_assoc.specs.AssocItems.{first_named, function_in, type_alias_in, type_aliases};
+ghost use Rattle.def_assoc.specs.Numbered.{AddsNamed};
 ghost use Rattle.def_assoc.specs.Owners.{IsAnswer, owner_lists};
 
 use crate::collector::Found;
@@ -44,8 +45,10 @@ impl TraitItems {
     ) -> Result<(TraitItems, DefDiagnostics), AllocError>
         ensures answer { let known = session_of session.old in
             let lists = owner_lists (D.oracle db.now) (D.states db.now) known (owned_by.Trait tr) (known.item TraitItem tr.0) in
-            IfOk result (λ answer. IsAnswer lists (contained_in.Trait tr) known (session_of session.new) answer.0.items.items answer.0.macro_calls.items answer.1) }
-        ensures session { AddsLocations (session_of session.old) (session_of session.new) }
+            IfOk result (λ answer. IsAnswer lists (contained_in.Trait tr) (session_of session.new) answer.0.items.items answer.0.macro_calls.items answer.1) }
+        ensures adds { let known = session_of session.old in
+            let lists = owner_lists (D.oracle db.now) (D.states db.now) known (owned_by.Trait tr) (known.item TraitItem tr.0) in
+            AddsNamed (contained_in.Trait tr) lists.named known (session_of session.new) }
     {
         let Found {
             named,
@@ -139,8 +142,10 @@ impl ImplItems {
     ) -> Result<(ImplItems, DefDiagnostics), AllocError>
         ensures answer { let known = session_of session.old in
             let lists = owner_lists (D.oracle db.now) (D.states db.now) known (owned_by.Impl id) (known.item ImplItem id.0) in
-            IfOk result (λ answer. IsAnswer lists (contained_in.Impl id) known (session_of session.new) answer.0.items.items answer.0.macro_calls.items answer.1) }
-        ensures session { AddsLocations (session_of session.old) (session_of session.new) }
+            IfOk result (λ answer. IsAnswer lists (contained_in.Impl id) (session_of session.new) answer.0.items.items answer.0.macro_calls.items answer.1) }
+        ensures adds { let known = session_of session.old in
+            let lists = owner_lists (D.oracle db.now) (D.states db.now) known (owned_by.Impl id) (known.item ImplItem id.0) in
+            AddsNamed (contained_in.Impl id) lists.named known (session_of session.new) }
     {
         let Found {
             named,
