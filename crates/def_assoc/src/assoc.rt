@@ -35,8 +35,10 @@ pub struct TraitItems {
 }
 
 impl TraitItems {
-    /// The items of a trait and what is reported of them: an alias of traits has none, nor has a trait
-    /// that the session does not know. On an error some of its items may have got numbers.
+    /// The items of a trait, those of expansions among them too, and what is reported of them. They are
+    /// read against the finished map of the trait's module. An alias of traits has none, nor has a
+    /// trait that the session does not know, nor one whose map is not there. On an error some items may
+    /// have got numbers.
     pub fn query_with_diagnostics<D: SourceDatabase>(
         alloc: Global,
         db: &D,
@@ -132,8 +134,9 @@ pub struct ImplItems {
 }
 
 impl ImplItems {
-    /// The items of an impl and what is reported of them. One that the session does not know has none.
-    /// On an error some of its items may have got numbers.
+    /// The items of an impl, those of expansions among them too, and what is reported of them. They are
+    /// read against the finished map of the impl's module. An impl that the session does not know has
+    /// none, nor has one whose map is not there. On an error some items may have got numbers.
     pub fn of<D: SourceDatabase>(
         alloc: Global,
         db: &D,
