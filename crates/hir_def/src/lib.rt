@@ -64,8 +64,11 @@ pub use def_parts::{
 };
 
 // The collector, and what it answers.
-pub use def_collector::{Collected, collect_defs};
+pub use def_collector::{AttrResolution, Collected, ResolvedAttr, collect_defs};
 pub use def_rules::{
     DefDiagnostic, DefDiagnosticKind, DefDiagnostics, Edge, ExpandErrorKind, LeftImport, LeftMacro,
     LeftMacroKind, Outcome,
 };
+
+// The items of traits and impls.
+pub use def_assoc::{AssocItemId, AssocTypes, ImplItems, MacroCalls, TraitItems};
