@@ -1,6 +1,6 @@
 //! A database that answers from fields, so that no time goes into its answers.
 ghost use Rattle.std.specs.Prelude.{◌≡◌};
-ghost use Rattle.defmap_bench.specs.Database.{answers_of, number_at};
+ghost use Rattle.defmap_bench.specs.Database.{answers_of, number_at, states_of};
 
 use bitflags::Flags;
 use def_ids::{BuiltinAttr, EnumLoc};
@@ -15,7 +15,7 @@ use item_tree::{
 };
 use std::alloc::{AllocError, Global};
 
-/// One crate in one file. Each question about a file or a crate is about these. The number of a
+/// One crate in one file, which may have one trait. Each question about a file or a crate is about these. The number of a
 /// call or of a derive in the file is that of its item, and in what another call gives it is the
 /// next one after that call's: so no more than one call or derive may stand there, and not two calls
 /// may have one number. Each builtin attribute macro reads derives.
@@ -25,6 +25,18 @@ pub struct OneFile {
     pub krate: CrateData,
     /// What calls give, by their numbers.
     pub expansions: Vec<ItemTree>,
+    /// The trait, once the crate is collected.
+    pub one_trait: Option<OneTrait>,
+}
+
+/// The maps of a crate that is collected, the items of its one trait, and what each call among these
+/// gives.
+#[derive(Drop)]
+pub struct OneTrait {
+    pub def_map: DefMap,
+    pub local_def_map: LocalDefMap,
+    pub written: AssocList,
+    pub given: AssocList,
 }
 
 impl OneFile {
@@ -39,6 +51,7 @@ impl OneFile {
                 deps: Seq::from_vec(Vec::new(alloc)),
             },
             expansions: Vec::new(alloc),
+            one_trait: None,
         }
     }
 }
@@ -56,6 +69,8 @@ fn number_of(position: InFile<FileAstId>) -> usize
 impl SourceDatabase for OneFile {
     ghost oracle = { answers_of };
 
+    ghost states = { states_of };
+
     fn item_tree(&self, id: TreeId) -> Option<&ItemTree> {
         match id.file {
             HirFileId::File(_) => Some(&self.tree),
@@ -68,7 +83,10 @@ impl SourceDatabase for OneFile {
     }
 
     fn crate_def_map(&self, _krate: Crate) -> Option<&DefMap> {
-        None
+        match &self.one_trait {
+            Some(one) => Some(&one.def_map),
+            None => None,
+        }
     }
 
     fn outer_map(&self, _block: BlockId) -> Option<&DefMap> {
@@ -76,7 +94,10 @@ impl SourceDatabase for OneFile {
     }
 
     fn local_def_map(&self, _krate: Crate) -> Option<&LocalDefMap> {
-        None
+        match &self.one_trait {
+            Some(one) => Some(&one.local_def_map),
+            None => None,
+        }
     }
 
     fn resolve_path(&self, _anchor: FileId, _path: &str) -> Option<FileId> {
@@ -125,8 +146,12 @@ impl SourceDatabase for OneFile {
         None
     }
 
-    fn assoc_items(&self, _owner: AssocItemsOwner) -> Option<&AssocList> {
-        None
+    fn assoc_items(&self, owner: AssocItemsOwner) -> Option<&AssocList> {
+        match (&self.one_trait, owner) {
+            (Some(one), AssocItemsOwner::Trait(_)) => Some(&one.written),
+            (Some(one), AssocItemsOwner::Expansion(_)) => Some(&one.given),
+            _ => None,
+        }
     }
 
     fn rule_styles(&self, _position: InFile<FileAstId>, _krate: Crate) -> MacroCallStyles {

@@ -2,6 +2,7 @@
 //! crates take for large inputs, and prints a table or lines for each.
 #![tactic(auto)]
 
+mod assoc;
 mod cells;
 mod database;
 mod figures;

@@ -1,5 +1,6 @@
 //! Measures how long the definitions of a synthetic crate take to be collected.
 
+use crate::assoc;
 use crate::database::OneFile;
 use crate::figures::{Figures, lesser, print_head, print_line};
 use crate::places::{Place, places_of, time_places};
@@ -45,7 +46,11 @@ struct Run {
 }
 
 /// Collects the definitions of a crate.
-fn collect(alloc: Global, one: &OneFile, session: &mut Interner) -> Result<Collected, AllocError> {
+pub fn collect(
+    alloc: Global,
+    one: &OneFile,
+    session: &mut Interner,
+) -> Result<Collected, AllocError> {
     let seeded = DefMap::seed(alloc, Crate(0), Edition::Edition2021, None)?;
     collect_defs(alloc, one, session, seeded, ROOT, None)
 }
@@ -129,6 +134,9 @@ fn measure_once<C: Clock>(
     counted: &str,
     text: &str,
 ) -> io::Result<Figures> {
+    if counted == "items" {
+        return assoc::measure(alloc, clock, text);
+    }
     let run = run_once(alloc, clock, text)?;
     let (counted, places_time) = match counted {
         "rounds" => (run.given, None),

@@ -10,7 +10,7 @@ use std::io;
 /// The tree of a text, under names of a session.
 pub fn read_tree(alloc: Global, session: &mut Interner, text: &str) -> io::Result<ItemTree> {
     match read(alloc, session, text) {
-        Ok(ReadFile { tree, enums: _ }) => Ok(tree),
+        Ok(ReadFile { tree, .. }) => Ok(tree),
         Err(ReadFault::Memory) => Err(io::Error::other("memory was refused")),
         Err(ReadFault::Byte(_)) => Err(io::Error::other("the crate cannot be read")),
     }
