@@ -4,14 +4,14 @@ use Rattle.def_ids.specs.declared.ids.Def.TheVariants.{Builtin}
 use Rattle.def_ids.specs.declared.ids.ModuleId.{ModuleId}
 use Rattle.def_ids.specs.declared.edition.Edition.TheVariants.{Edition2015}
 use Rattle.def_bindings.specs.Content.{Content, empty, with_binding, with_unnamed}
-use Rattle.def_bindings.specs.declared.bindings.Namespace.TheVariants.{Types, Values}
+use Rattle.def_bindings.specs.declared.bindings.Namespace.TheVariants.{Macros, Types, Values}
 use Rattle.def_bindings.specs.declared.visibility.Visibility.{Visibility}
 use Rattle.def_bindings.specs.declared.visibility.Visibility.TheVariants.{Public, PubCrate}
 use Rattle.def_map.specs.declared.block.BlockInfo.{BlockInfo}
 use Rattle.def_map.specs.DefMaps.{seeded}
 use Rattle.def_modules.specs.Fresh.{known_tools}
 use Rattle.def_sources.specs.Items.{public_item}
-use Rattle.def_map.specs.ItemScopes.{resolutions_from, unnamed_from}
+use Rattle.def_map.specs.ItemScopes.{bound_from, entries_at, names_of, resolutions_from, unnamed_from}
 use Rattle.def_sources.specs.PerNs.{Item, in_types}
 
 -- a crate's map stands in no module, and knows the tools that need no declaration
@@ -54,3 +54,24 @@ later_traits = refl
 
 no_more_traits : unnamed_from 2 listed root ≡ []
 no_more_traits = refl
+
+-- bindings by namespace, in the order of the names
+in_types_alone : bound_from 0 Types listed root ≡ (record { 0 = 5 }, a_type 1) ∷ (record { 0 = 6 }, a_type 2) ∷ []
+in_types_alone = refl
+
+in_values_alone : bound_from 0 Values listed root ≡ (record { 0 = 6 }, a_type 3) ∷ []
+in_values_alone = refl
+
+no_macros : bound_from 0 Macros listed root ≡ []
+no_macros = refl
+
+-- each binding by itself, a name's types before its values
+all_entries : entries_at listed root ≡ record { name = record { 0 = 5 }; ns = Types; item = a_type 1 } ∷ record { name = record { 0 = 6 }; ns = Types; item = a_type 2 } ∷ record { name = record { 0 = 6 }; ns = Values; item = a_type 3 } ∷ []
+all_entries = refl
+
+-- a definition by its names
+one_name : names_of (Builtin 3) (entries_at listed root) ≡ (record { 0 = 6 }, Values) ∷ []
+one_name = refl
+
+no_name : names_of (Builtin 4) (entries_at listed root) ≡ []
+no_name = refl

@@ -1,6 +1,7 @@
 pub mod DefMaps
 pub mod ItemScopes
 pub mod MapStates
+pub mod Positions
 pub use Rattle.def_modules.specs.MapView
 pub use Rattle.def_modules.specs.MapState
 pub use Rattle.def_modules.specs.Updates

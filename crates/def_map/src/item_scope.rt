@@ -2,11 +2,14 @@
 ghost use Rattle.std.specs.Prelude.{◌≡◌, reverse, option_copied};
 ghost use Rattle.std.specs.Option.{option_map_or};
 ghost use Rattle.indexmap.specs.IndexMap.{get};
+ghost use Rattle.def_bindings.specs.declared.bindings.Namespace.TheVariants.{Types, Values, Macros};
 ghost use Rattle.def_map.specs.ItemScopes.{place_of, scope_content, scope_state, invoked_in, derives_in, meaning, resolutions_from, unnamed_from};
+ghost use Rattle.def_map.specs.ItemScopes.{bound_from, entries_at, names_of};
 ghost use Rattle.def_modules.specs.RareParts.{rare_state, no_rare, rare_in};
 ghost use Rattle.def_modules.specs.ScopeMaps.{textual_of};
 
-use def_bindings::{BindingTable, Visibility};
+use crate::scope_bindings::{BoundNames, Entries, NamesOf};
+use def_bindings::{BindingTable, Namespace, Visibility};
 use def_ids::{
     BuiltinDeriveImplId, ConstId, Def, ExternBlockId, ExternCrateId, ImplId, MacroId, ModuleId,
     TraitId,
@@ -41,6 +44,43 @@ impl<'a> ItemScope<'a> {
             scope: *self,
             next: 0,
         }
+    }
+
+    /// The names that are bound in types, in the order in which they were first bound in any
+    /// namespace, each with what it stands for there.
+    pub fn types(&self) -> BoundNames<'a>
+        ensures { result ≡ bound_from 0 Types (scope_content self.now) (place_of self.now) }
+    {
+        BoundNames::of(*self, Namespace::Types)
+    }
+
+    /// So in values.
+    pub fn values(&self) -> BoundNames<'a>
+        ensures { result ≡ bound_from 0 Values (scope_content self.now) (place_of self.now) }
+    {
+        BoundNames::of(*self, Namespace::Values)
+    }
+
+    /// So in macros. Textual macros are none of them (`legacy_macros`).
+    pub fn macros(&self) -> BoundNames<'a>
+        ensures { result ≡ bound_from 0 Macros (scope_content self.now) (place_of self.now) }
+    {
+        BoundNames::of(*self, Namespace::Macros)
+    }
+
+    /// The bindings, each by itself: names in the order in which they were first bound, and of each name
+    /// what it stands for in types, then in values, then in macros.
+    pub fn entries(&self) -> Entries<'a>
+        ensures { result ≡ entries_at (scope_content self.now) (place_of self.now) }
+    {
+        Entries::of(self.resolutions())
+    }
+
+    /// The names under which a definition is bound, each with its namespace, in the order of `entries`.
+    pub fn names_of(&self, def: Def) -> NamesOf<'a>
+        ensures { result ≡ names_of def (entries_at (scope_content self.now) (place_of self.now)) }
+    {
+        NamesOf::among(self.entries(), def)
     }
 
     /// The traits that are in scope without a name.

@@ -7,6 +7,8 @@ mod def_map_reads;
 mod item_scope;
 mod macro_resolver;
 mod path_resolution;
+mod positions;
+mod scope_bindings;
 mod source_database;
 
 pub use block::BlockInfo;
@@ -22,6 +24,7 @@ pub use path_resolution::{
     ResolvePaths, finished_map, resolve_module, resolve_path_fp_with_macro, resolve_path_scope,
     resolve_visibility,
 };
+pub use scope_bindings::{BoundNames, Entries, NamesOf, ScopeEntry};
 pub use source_database::SourceDatabase;
 
 // What a database is asked and answers, and what paths mean.
