@@ -1,0 +1,4 @@
+pub mod ListsLemmas
+pub mod PathsLemmas
+pub mod NamesLemmas
+pub mod VisibleLemmas

@@ -1,0 +1,15 @@
+use Rattle.std.proofs.Common.{[], ◌∙◌}
+use Rattle.def_modules.specs.Locals.{local_view}
+use Rattle.visible_names.proofs.NamesLemmas.{lists_textual, lists_no_textual}
+use Rattle.visible_names.proofs.seen.Seen.textual_names.Goals as goal
+
+pub returns-in-Some : goal.returns-in-Some
+returns-in-Some g c =
+    let self = c.args.self.now in
+    lists_textual (g.D.SourceDatabase.oracle self.db.now) (local_view self.local.now) self.map.now self.place c.requires
+    c.legacy_macros.result.now c.as_slice.result.now c.in-Some.scope (c.as_slice.ensures ∙ c.keys.ensures.rest) c.legacy_macros.ensures c.in-Some.ensures
+
+pub returns-in-None : goal.returns-in-None
+returns-in-None g c =
+    let self = c.args.self.now in
+    lists_no_textual (g.D.SourceDatabase.oracle self.db.now) (local_view self.local.now) self.map.now self.place c.requires [] c.in-None.ensures
