@@ -2,3 +2,4 @@ pub mod ListsLemmas
 pub mod PathsLemmas
 pub mod NamesLemmas
 pub mod VisibleLemmas
+mod VisibleFacts
