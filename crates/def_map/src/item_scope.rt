@@ -54,14 +54,15 @@ impl<'a> ItemScope<'a> {
         BoundNames::of(*self, Namespace::Types)
     }
 
-    /// So in values.
+    /// The names that are bound in values, in that order, each with what it stands for there.
     pub fn values(&self) -> BoundNames<'a>
         ensures { result ≡ bound_from 0 Values (scope_content self.now) (place_of self.now) }
     {
         BoundNames::of(*self, Namespace::Values)
     }
 
-    /// So in macros. Textual macros are none of them (`legacy_macros`).
+    /// The names that are bound in macros, in that order, each with what it stands for there. Textual
+    /// macros are bound in no namespace: see `legacy_macros`.
     pub fn macros(&self) -> BoundNames<'a>
         ensures { result ≡ bound_from 0 Macros (scope_content self.now) (place_of self.now) }
     {

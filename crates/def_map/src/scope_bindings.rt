@@ -79,7 +79,7 @@ pub struct ScopeEntry {
 pub struct Entries<'a> {
     /// What the name that was read last stands for in values, if that is still to come.
     values: Option<(Name, Item)>,
-    /// So in macros.
+    /// What it stands for in macros, likewise.
     macros: Option<(Name, Item)>,
     later: Resolutions<'a>,
 }
