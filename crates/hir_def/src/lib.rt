@@ -30,9 +30,9 @@ pub use def_bindings::{
     Slot, VisOrder, Visibility,
 };
 pub use def_map::{
-    BlockInfo, BuiltinShadowMode, DefMap, Item, ItemScope, MacroSubNs, PerNs, PrefixInfo,
-    ReachedFixedPoint, Resolutions, ResolveMode, ResolvePathResult, ResolvePaths, Table,
-    UnnamedTraits,
+    BlockInfo, BoundNames, BuiltinShadowMode, DefMap, Entries, Item, ItemScope, MacroSubNs,
+    NamesOf, PerNs, PrefixInfo, ReachedFixedPoint, Resolutions, ResolveMode, ResolvePathResult,
+    ResolvePaths, ScopeEntry, Table, UnnamedTraits,
 };
 pub use def_modules::{
     DefMapCrateData, DeriveCall, DeriveHelper, DeriveKey, DeriveMacroInvocation, DeriveRecords,
@@ -69,6 +69,12 @@ pub use def_rules::{
     DefDiagnostic, DefDiagnosticKind, DefDiagnostics, Edge, ExpandErrorKind, LeftImport, LeftMacro,
     LeftMacroKind, Outcome,
 };
+
+// What a module sees, with what brings each name; and all of this as text.
+pub use def_display::{
+    ShownDef, ShownDiagnostic, ShownModule, ShownName, ShownPath, ShownVisibility,
+};
+pub use visible_names::{BroughtBy, VisibleName, visible_names};
 
 // The items of traits and impls.
 pub use def_assoc::{AssocItemId, AssocTypes, ImplItems, MacroCalls, TraitItems};
