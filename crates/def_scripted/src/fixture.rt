@@ -1,6 +1,6 @@
 //! What is read of a row: a scripted workspace, and the lines that are wanted of it.
 
-use def_ids::{BuiltinAttr, Edition, MacroId, MacroRulesId};
+use def_ids::{BuiltinAttr, Edition, ImplId, MacroId, MacroRulesId, TraitId};
 use def_oracle::LangCrate;
 use item_tree::{FileId, HirFileId, MacroCallStyles};
 use std::alloc::{AllocError, Global};
@@ -181,6 +181,27 @@ pub enum Unknown {
     Crates,
     Variants,
     Maps,
+    /// The maps that are collected, where associated items are asked for.
+    FinishedMaps,
+    /// What paths may begin with in each crate, where associated items are asked for.
+    LocalMaps,
+    /// The items of traits, impls and expansions.
+    Items,
+}
+
+/// What is asked for its associated items.
+#[derive(Clone, Copy)]
+pub enum Asked {
+    Trait(TraitId),
+    Impl(ImplId),
+}
+
+/// A question about the associated items of a trait or an impl: what these are, or what some names
+/// mean among those of a trait.
+#[derive(Drop)]
+pub struct AskText<'t> {
+    pub of: Asked,
+    pub names: Vec<&'t str>,
 }
 
 /// A block of the crate that is shown.
@@ -219,6 +240,8 @@ pub struct Fixture<'t> {
     pub files: Vec<FileText<'t>>,
     /// The paths that lead from every file to one, by its number.
     pub paths: Vec<(&'t str, usize)>,
+    /// How deep files lie in expansions of macros.
+    pub depths: Vec<(HirFileId, u32)>,
     pub crates: Vec<CrateText<'t>>,
     pub builtin_types: Vec<BuiltinText<'t>>,
     pub builtin_attrs: Vec<BuiltinAttrText<'t>>,
@@ -239,6 +262,10 @@ pub struct Fixture<'t> {
     pub styles: Vec<StyleText>,
     /// The block that is shown in the place of its crate, if one is.
     pub block: Option<BlockText<'t>>,
+    /// What is asked about associated items beside those of the crate that is shown.
+    pub asks: Vec<AskText<'t>>,
+    /// The lines that are wanted of associated items, if any are.
+    pub items: Option<&'t str>,
     /// The lines that are wanted of what is recorded, if any are.
     pub records: Option<&'t str>,
     /// The lines that are wanted of what is kept in an order, if any are.
@@ -256,6 +283,7 @@ impl<'t> Fixture<'t> {
             unknown: Vec::new(alloc),
             files: Vec::new(alloc),
             paths: Vec::new(alloc),
+            depths: Vec::new(alloc),
             crates: Vec::new(alloc),
             builtin_types: Vec::new(alloc),
             builtin_attrs: Vec::new(alloc),
@@ -269,6 +297,8 @@ impl<'t> Fixture<'t> {
             chain: None,
             styles: Vec::new(alloc),
             block: None,
+            asks: Vec::new(alloc),
+            items: None,
             records: None,
             orders: None,
             shows: "",

@@ -1,10 +1,12 @@
 //! The items of a file so far.
 
+use crate::assoc::ReadAssoc;
 use crate::attributes::Written;
 use crate::fault::Stop;
 use crate::variants::ReadVariant;
 use item_tree::{
-    FileAstId, ItemNode, ItemTree, ModContents, ModItemId, ModItemKind, RawVisibility, Seq,
+    AttrsOrCfg, FileAstId, ItemNode, ItemTree, ModContents, ModItemId, ModItemKind, RawVisibility,
+    Seq,
 };
 use std::alloc::{AllocError, Global};
 use std::mem;
@@ -16,22 +18,27 @@ pub struct ReadEnum {
     pub variants: Seq<ReadVariant>,
 }
 
-/// What a file or a block holds: the tree of its items, and the variants of its enums.
+/// What a file or a block holds: the tree of its items, the variants of its enums, and the items of
+/// its traits and impls.
 #[derive(Drop)]
 pub struct ReadFile {
     pub tree: ItemTree,
     pub enums: Seq<ReadEnum>,
+    pub assoc: Seq<ReadAssoc>,
 }
 
 /// The items of a file so far, in the order of the text, and what stands before the next one.
 #[derive(Drop)]
 pub struct Items {
     alloc: Global,
+    /// How many items there are, with those in traits and impls, which are no items of the tree.
+    count: usize,
     pub nodes: Vec<ItemNode>,
     top: Vec<ModItemId>,
     /// The items whose braces are not closed, the outermost first.
     pub open: Vec<usize>,
     pub enums: Seq<ReadEnum>,
+    pub assoc: Seq<ReadAssoc>,
     /// The attributes of the file.
     pub file: Written,
     /// The attributes of the next item, and its visibility: they wait here, since to hold them
@@ -69,14 +76,33 @@ impl Items {
     pub fn new(alloc: Global) -> Self {
         Items {
             alloc,
+            count: 0,
             nodes: Vec::new(alloc),
             top: Vec::new(alloc),
             open: Vec::new(alloc),
             enums: Seq::from_vec(Vec::new(alloc)),
+            assoc: Seq::from_vec(Vec::new(alloc)),
             file: Written::new(alloc),
             attrs: Written::new(alloc),
             visibility: RawVisibility::PubSelf,
         }
+    }
+
+    /// The number of the next item.
+    pub fn next_number(&self) -> FileAstId {
+        FileAstId(self.count)
+    }
+
+    /// The number of the next item, which is given away.
+    pub fn take_number(&mut self) -> FileAstId {
+        let number = self.next_number();
+        self.count = self.count.saturating_add(1);
+        number
+    }
+
+    /// The attributes of the next item, which are taken away.
+    pub fn take_attrs(&mut self) -> Option<AttrsOrCfg> {
+        mem::replace(&mut self.attrs, Written::new(self.alloc)).of_item()
     }
 
     /// The visibility of the next item, which is taken away.
@@ -101,10 +127,11 @@ impl Items {
     pub fn push(&mut self, kind: ModItemKind) -> Result<(), AllocError> {
         let number = self.nodes.len();
         let is_open = holds_items(&kind);
-        let attrs = mem::replace(&mut self.attrs, Written::new(self.alloc));
+        let ast_id = self.take_number();
+        let attrs = self.take_attrs();
         self.nodes.push(ItemNode {
-            ast_id: FileAstId(number),
-            attrs: attrs.of_item(),
+            ast_id,
+            attrs,
             kind,
         })?;
         self.place(ModItemId(number))?;
@@ -120,11 +147,12 @@ impl Items {
             nodes,
             top,
             enums,
+            assoc,
             file,
             ..
         } = self;
         match ItemTree::new(nodes, top, file.into_attrs()) {
-            Ok(tree) => Ok(ReadFile { tree, enums }),
+            Ok(tree) => Ok(ReadFile { tree, enums, assoc }),
             Err(_) => Err(Stop::Here),
         }
     }

@@ -1,9 +1,10 @@
 //! What items are.
 
+use crate::assoc::add_assoc;
 use crate::imports::imports;
 use crate::items::Items;
-use crate::paths::{alias, path, visibility};
-use crate::pieces::{End, skip_piece};
+use crate::paths::{alias, begins_path, name_or_none, path, visibility};
+use crate::pieces::{End, skip_arguments, skip_piece};
 use crate::reader::Reader;
 use crate::tokens::{Keyword, Token};
 use crate::variants::add_enum;
@@ -94,8 +95,8 @@ fn extern_item(reader: &mut Reader, items: &mut Items) {
     }
 }
 
-/// An impl, of a trait where the word `for` stands before its braces.
-fn impl_item(reader: &mut Reader, items: &mut Items) {
+/// Takes what stands before the braces of an impl. Answers whether the word `for` is there.
+fn skip_impl_head(reader: &mut Reader) -> bool {
     let mut is_trait_impl = false;
     for _ in 0..reader.left() {
         match reader.peek(0) {
@@ -105,8 +106,36 @@ fn impl_item(reader: &mut Reader, items: &mut Items) {
         }
         reader.skip(1);
     }
-    skip_piece(reader, End::Bracket);
+    is_trait_impl
+}
+
+/// An impl, of a trait where the word `for` stands before its braces.
+fn impl_item(reader: &mut Reader, items: &mut Items) {
+    let is_trait_impl = skip_impl_head(reader);
+    let item = items.next_number();
     add(reader, items, ModItemKind::Impl { is_trait_impl });
+    add_assoc(reader, items, item, false);
+}
+
+/// Takes what stands between the name of a trait and its braces, or its semicolon.
+fn skip_trait_head(reader: &mut Reader) {
+    for _ in 0..reader.left() {
+        if matches!(reader.peek(0), Token::Mark('{' | ';')) {
+            break;
+        }
+        reader.skip(1);
+    }
+}
+
+/// A trait, which is an alias where `=` stands behind its name.
+fn trait_item(reader: &mut Reader, items: &mut Items) {
+    let name = reader.name();
+    let is_alias = reader.peek(0) == Token::Mark('=');
+    skip_trait_head(reader);
+    let item = items.next_number();
+    let visibility = items.take_visibility();
+    add(reader, items, ModItemKind::Trait { name, visibility });
+    add_assoc(reader, items, item, is_alias);
 }
 
 /// A macro by rules, from behind its first word on.
@@ -115,18 +144,6 @@ fn macro_rules(reader: &mut Reader, items: &mut Items) {
     let name = reader.name();
     skip_piece(reader, End::SemicolonOrBody);
     add(reader, items, ModItemKind::MacroRules { name });
-}
-
-/// Takes the arguments of a macro call. Those in braces end it; behind others comes a semicolon.
-fn skip_arguments(reader: &mut Reader) {
-    match reader.peek(0) {
-        Token::Mark('{') => skip_piece(reader, End::Bracket),
-        Token::Mark('(' | '[') => {
-            skip_piece(reader, End::Bracket);
-            reader.expect(';');
-        }
-        _ => reader.stop(),
-    }
 }
 
 /// A macro call.
@@ -217,17 +234,8 @@ fn struct_item(reader: &mut Reader, items: &mut Items) {
     );
 }
 
-/// The name of a constant; one without a name is `const _`.
-fn const_name(reader: &mut Reader) -> Option<Name> {
-    if reader.takes(Token::Word(Keyword::Underscore)) {
-        None
-    } else {
-        Some(reader.name())
-    }
-}
-
 fn const_item(reader: &mut Reader, items: &mut Items) {
-    let name = const_name(reader);
+    let name = name_or_none(reader);
     skip_piece(reader, End::Semicolon);
     let visibility = items.take_visibility();
     add(reader, items, ModItemKind::Const { name, visibility });
@@ -241,7 +249,6 @@ fn plain_kind(keyword: Keyword, name: Name, visibility: RawVisibility) -> Option
         Keyword::Fn => Some(ModItemKind::Function { name, visibility }),
         Keyword::Macro => Some(ModItemKind::Macro2 { name, visibility }),
         Keyword::Static => Some(ModItemKind::Static { name, visibility }),
-        Keyword::Trait => Some(ModItemKind::Trait { name, visibility }),
         Keyword::Type => Some(ModItemKind::TypeAlias { name, visibility }),
         _ => None,
     }
@@ -275,6 +282,7 @@ fn item_of(reader: &mut Reader, keyword: Keyword, items: &mut Items) {
         Keyword::Use => use_item(reader, items),
         Keyword::Extern => extern_item(reader, items),
         Keyword::Impl => impl_item(reader, items),
+        Keyword::Trait => trait_item(reader, items),
         Keyword::MacroRules => macro_rules(reader, items),
         Keyword::Struct => struct_item(reader, items),
         Keyword::Const => const_item(reader, items),
@@ -285,12 +293,7 @@ fn item_of(reader: &mut Reader, keyword: Keyword, items: &mut Items) {
 /// Adds the item behind a visibility. What begins a path is a macro call.
 pub fn add_kind(reader: &mut Reader, items: &mut Items) {
     match reader.peek(0) {
-        Token::Colons
-        | Token::Mark('$')
-        | Token::Name(_)
-        | Token::Word(Keyword::Crate | Keyword::SelfWord | Keyword::Super) => {
-            macro_call(reader, items);
-        }
+        token if begins_path(token) => macro_call(reader, items),
         Token::Word(keyword) => {
             reader.skip(1);
             item_of(reader, keyword, items);

@@ -3,8 +3,10 @@
 //! its files and calls, beside the lines that are shown of it; and the workspaces that have a name.
 #![tactic(auto)]
 
+mod assoc;
 mod attributes;
 mod calls;
+mod copies;
 mod fault;
 mod fixture;
 mod imports;
@@ -23,11 +25,13 @@ mod trees;
 mod variants;
 mod words;
 
+pub use assoc::ReadAssoc;
+pub use copies::{copy_of, list_of};
 pub use fault::{FixtureFault, ReadFault};
 pub use fixture::{
-    BlockText, BuiltText, BuiltinAttrText, BuiltinDeriveText, BuiltinMacroText, BuiltinText,
-    CallText, CalledBy, ChainText, CrateText, DependencyText, FileText, Fixture, InnerText,
-    ProgramText, StyleText, Unknown,
+    AskText, Asked, BlockText, BuiltText, BuiltinAttrText, BuiltinDeriveText, BuiltinMacroText,
+    BuiltinText, CallText, CalledBy, ChainText, CrateText, DependencyText, FileText, Fixture,
+    InnerText, ProgramText, StyleText, Unknown,
 };
 pub use items::{ReadEnum, ReadFile};
 pub use named::{find, vectors};

@@ -31,6 +31,17 @@ fn root_of(reader: &mut Reader) -> PathKind {
     }
 }
 
+/// Whether a path begins with a token.
+pub fn begins_path(token: Token) -> bool {
+    matches!(
+        token,
+        Token::Colons
+            | Token::Mark('$')
+            | Token::Name(_)
+            | Token::Word(Keyword::Crate | Keyword::SelfWord | Keyword::Super)
+    )
+}
+
 /// Where a path begins. `$1` is `$crate` in a macro of crate 1.
 fn path_kind(reader: &mut Reader) -> PathKind {
     match reader.peek(0) {
@@ -65,6 +76,15 @@ pub fn add_segments(reader: &mut Reader, segments: &mut Seq<Name>) {
     let name = reader.name();
     reader.keep(segments.push(name));
     more_segments(reader, segments);
+}
+
+/// The name that has to come, or `_`, which stands for none.
+pub fn name_or_none(reader: &mut Reader) -> Option<Name> {
+    if reader.takes(Token::Word(Keyword::Underscore)) {
+        None
+    } else {
+        Some(reader.name())
+    }
 }
 
 /// The path of no segments.

@@ -48,3 +48,15 @@ pub fn skip_piece(reader: &mut Reader, end: End) {
     }
     reader.stop();
 }
+
+/// Takes the arguments of a macro call. Those in braces end it; behind others comes a semicolon.
+pub fn skip_arguments(reader: &mut Reader) {
+    match reader.peek(0) {
+        Token::Mark('{') => skip_piece(reader, End::Bracket),
+        Token::Mark('(' | '[') => {
+            skip_piece(reader, End::Bracket);
+            reader.expect(';');
+        }
+        _ => reader.stop(),
+    }
+}

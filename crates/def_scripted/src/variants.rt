@@ -37,7 +37,7 @@ fn add_variants(reader: &mut Reader, variants: &mut Seq<ReadVariant>) {
 
 /// Adds the variants of the enum that is the next item, from behind its opening brace on.
 pub fn add_enum(reader: &mut Reader, items: &mut Items) {
-    let item = FileAstId(items.nodes.len());
+    let item = items.next_number();
     let mut variants = Seq::from_vec(Vec::new(reader.alloc));
     add_variants(reader, &mut variants);
     reader.keep(items.enums.push(ReadEnum { item, variants }));

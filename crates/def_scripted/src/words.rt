@@ -1,10 +1,12 @@
 //! What single words stand for. Places and macros are written as in the lines that are shown.
 
 use crate::fault::{Stop, push};
-use crate::fixture::{CalledBy, Unknown};
+use crate::fixture::{Asked, CalledBy, Unknown};
 use crate::parts::Words;
 use bitflags::Flags;
-use def_ids::{BuiltinAttr, Edition, Macro2Id, MacroId, MacroRulesId, ProcMacroId};
+use def_ids::{
+    BuiltinAttr, Edition, ImplId, Macro2Id, MacroId, MacroRulesId, ProcMacroId, TraitId,
+};
 use def_oracle::LangCrate;
 use item_tree::{FileId, HirFileId, MacroCallId, MacroCallStyles};
 
@@ -29,6 +31,26 @@ pub fn numbers(list: &mut Vec<u32>, words: &mut Words<'_>) -> Result<(), Stop> {
     Ok(())
 }
 
+/// Adds the words that are left.
+pub fn names<'t>(list: &mut Vec<&'t str>, words: &mut Words<'t>) -> Result<(), Stop> {
+    for _ in 0..words.left.len() {
+        match words.next() {
+            "" => break,
+            word => push(list, Some(word))?,
+        }
+    }
+    Ok(())
+}
+
+/// A trait or an impl, by its number.
+pub fn asked(words: &mut Words<'_>) -> Option<Asked> {
+    match words.next() {
+        "trait" => Some(Asked::Trait(TraitId(number(words.next())?))),
+        "impl" => Some(Asked::Impl(ImplId(number(words.next())?))),
+        _ => None,
+    }
+}
+
 /// The crate of the language that has this name.
 pub fn lang(word: &str) -> Option<LangCrate> {
     match word {
@@ -45,6 +67,9 @@ pub fn unknown(word: &str) -> Option<Unknown> {
         "crates" => Some(Unknown::Crates),
         "variants" => Some(Unknown::Variants),
         "maps" => Some(Unknown::Maps),
+        "finished-maps" => Some(Unknown::FinishedMaps),
+        "local-maps" => Some(Unknown::LocalMaps),
+        "items" => Some(Unknown::Items),
         _ => None,
     }
 }
@@ -60,25 +85,24 @@ pub fn edition(word: &str) -> Option<Edition> {
     }
 }
 
+/// A file: its number, or the number of the macro call that it is the expansion of behind an `m`.
+pub fn file_of(word: &str) -> Option<HirFileId> {
+    match word.strip_prefix('m') {
+        Some(call) => Some(HirFileId::Macro(MacroCallId(number(call)?))),
+        None => Some(HirFileId::File(FileId(number(word)?))),
+    }
+}
+
+/// Where an item stands: its file and its number, as `0:1` or `m0:1`.
+pub fn place(word: &str) -> Option<(HirFileId, usize)> {
+    let (file, item) = word.split_once(':')?;
+    Some((file_of(file)?, number(item)?))
+}
+
 /// Two numbers with a mark between them.
 fn pair(word: &str, mark: char) -> Option<(usize, usize)> {
     let (first, second) = word.split_once(mark)?;
     Some((number(first)?, number(second)?))
-}
-
-/// Where an item stands: its file and its number, as `0:1`, or the number of the macro call that it
-/// comes from behind an `m`, as `m0:1`.
-pub fn place(word: &str) -> Option<(HirFileId, usize)> {
-    match word.strip_prefix('m') {
-        Some(numbers) => {
-            let (call, item) = pair(numbers, ':')?;
-            Some((HirFileId::Macro(MacroCallId(call)), item))
-        }
-        None => {
-            let (file, item) = pair(word, ':')?;
-            Some((HirFileId::File(FileId(file)), item))
-        }
-    }
 }
 
 /// A macro: its kind and its number, as `macro:0`.

@@ -15,7 +15,7 @@ const BLOCK: TreeId = TreeId {
     block: Some(BlockId(0)),
 };
 
-/// Forgets what the oracle of a row does not know.
+/// Forgets what the oracle of a row does not know as the last crate is collected.
 fn forget(workspace: &mut Workspace, unknown: &Unknown) {
     let db = &mut workspace.db;
     match unknown {
@@ -23,6 +23,7 @@ fn forget(workspace: &mut Workspace, unknown: &Unknown) {
         Unknown::Crates => db.crates.known.clear(),
         Unknown::Variants => db.types.variants.clear(),
         Unknown::Maps => db.crates.maps.clear(),
+        Unknown::FinishedMaps | Unknown::LocalMaps | Unknown::Items => {}
     }
 }
 
@@ -51,7 +52,12 @@ fn collect_in(
     krate: &CrateText<'_>,
     info: BlockInfo,
 ) -> Result<Option<Collected>, AllocError> {
-    let Workspace { alloc, session, db } = workspace;
+    let Workspace {
+        alloc,
+        session,
+        db,
+        ..
+    } = workspace;
     let number = Crate(krate.krate);
     let seeded = DefMap::seed(*alloc, number, krate.edition, Some(info))?;
     match db.crates.local_maps.get(&number) {

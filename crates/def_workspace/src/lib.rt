@@ -2,6 +2,7 @@
 //! is printed, and the commands of the program that prints them.
 #![tactic(auto)]
 
+mod assoc;
 mod collecting;
 mod command;
 mod fault;
@@ -10,6 +11,7 @@ mod page;
 mod words;
 mod workspace;
 
+pub use assoc::print_items;
 pub use collecting::collect;
 pub use command::{run, run_args};
 pub use def_collector::Collected;

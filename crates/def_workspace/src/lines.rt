@@ -223,18 +223,16 @@ fn kind_words(kind: &DefDiagnosticKind, number: usize) -> (&'static str, Word) {
     }
 }
 
-/// Adds the diagnostic of a number: its kind, the module and the item that it speaks of, and what
-/// it says.
-fn add_diagnostic(page: &mut Page<'_>, number: usize, diagnostic: &DefDiagnostic) {
+/// Goes on with the diagnostic of a number: its kind, the module and the item that it speaks of, and
+/// what it says. Ends the line.
+pub fn say_diagnostic(page: &mut Page<'_>, number: usize, diagnostic: &DefDiagnostic) {
     let (kind, detail) = kind_words(&diagnostic.kind, number);
-    let words = [
-        Word::Bare("diag"),
+    page.say(&[
         Word::Text(kind),
         Word::Number("", diagnostic.module.index),
         item_word(diagnostic.ast_id.file, diagnostic.ast_id.value.0),
         detail,
-    ];
-    page.begin((DIAGNOSTIC, number, "", 0), &words);
+    ]);
     match &diagnostic.kind {
         DefDiagnosticKind::UnresolvedMacroCall { path, .. } => add_path(page, path),
         DefDiagnosticKind::MacroError { path, err } => {
@@ -249,7 +247,8 @@ fn add_diagnostic(page: &mut Page<'_>, number: usize, diagnostic: &DefDiagnostic
 /// Adds the diagnostics of a run.
 fn add_diagnostics(page: &mut Page<'_>, diagnostics: &[DefDiagnostic]) {
     for (number, diagnostic) in diagnostics.iter().enumerate() {
-        add_diagnostic(page, number, diagnostic);
+        page.begin((DIAGNOSTIC, number, "", 0), &[Word::Bare("diag")]);
+        say_diagnostic(page, number, diagnostic);
     }
 }
 

@@ -29,6 +29,11 @@ impl<'a> Page<'a> {
         }
     }
 
+    /// Whether there is no line.
+    pub fn is_empty(&self) -> bool {
+        self.lines.is_empty()
+    }
+
     /// Begins a line with some words.
     pub fn begin(&mut self, key: Key<'a>, words: &[Word]) {
         if self.lines.push((key, self.words.len())).is_err() {

@@ -12,20 +12,33 @@ use def_collector::{Collected, collect_defs};
 use def_database::{Database, DeriveCallKey};
 use def_ids::VariantId;
 use def_interner::Interner;
-use def_map::{CallAnswer, CrateData, DefMap, Dependency, EnumVariant};
+use def_map::{AssocItemsOwner, AssocList, CallAnswer, CrateData, DefMap, Dependency, EnumVariant};
 use def_scripted::{
     BuiltText, BuiltinDeriveText, BuiltinMacroText, CallText, CalledBy, ChainText, CrateText,
-    DependencyText, FileText, Fixture, InnerText, ReadEnum, ReadFault, ReadFile, read,
+    DependencyText, FileText, Fixture, InnerText, ReadAssoc, ReadEnum, ReadFault, ReadFile,
+    list_of, read,
 };
 use either::Either;
-use item_tree::{AttrId, Crate, FileAstId, FileId, HirFileId, InFile, MacroCallId, Seq, TreeId};
+use item_tree::{
+    AttrId, Crate, FileAstId, FileId, HirFileId, InFile, ItemTree, MacroCallId, Seq, TreeId,
+};
 use std::alloc::{AllocError, Global};
+
+/// The items of the trait or the impl that is this item of a file or a block.
+#[derive(Drop)]
+pub struct AssocText {
+    pub tree: TreeId,
+    pub item: FileAstId,
+    pub list: AssocList,
+}
 
 /// A session, and a database whose answers are in its names.
 pub struct Workspace {
     pub alloc: Global,
     pub session: Interner,
     pub db: Database,
+    /// The items of the traits and impls of all texts, which have ids only once these are collected.
+    pub assoc: Vec<AssocText>,
 }
 
 impl Drop for Workspace {
@@ -34,6 +47,7 @@ impl Drop for Workspace {
             alloc: _,
             session: _,
             db: _,
+            assoc: _,
         } = self;
     }
 }
@@ -45,6 +59,7 @@ impl Workspace {
             alloc,
             session: Interner::new(alloc)?,
             db: Database::new(alloc),
+            assoc: Vec::new(alloc),
         })
     }
 
@@ -58,11 +73,15 @@ impl Workspace {
         Ok(())
     }
 
-    /// Adds the files of a row, and the paths that lead from each to others.
+    /// Adds the files of a row, the paths that lead from each to others, and how deep files lie in
+    /// expansions.
     fn add_files(&mut self, row: &Fixture<'_>) -> Result<(), Fault> {
         for (number, file) in row.files.iter().enumerate() {
             self.add_file(tree_id(FileId(number)), file)?;
             self.add_paths(FileId(number), row.paths.as_slice())?;
+        }
+        for (file, depth) in &row.depths {
+            self.db.add_depth(*file, *depth)?;
         }
         Ok(())
     }
@@ -181,10 +200,33 @@ impl Workspace {
 
     /// Adds what was read of a file or a block.
     fn add_read(&mut self, id: TreeId, read: ReadFile) -> Result<(), AllocError> {
-        let ReadFile { tree, enums } = read;
+        let ReadFile { tree, enums, assoc } = read;
+        self.add_expansion(id, &tree)?;
         self.db.add_tree(id, tree)?;
         for read in &enums {
             self.add_variants(id.file, read)?;
+        }
+        self.add_assoc(id, assoc)
+    }
+
+    /// Adds the items of an expansion as associated ones, which they are where the call stands among
+    /// such.
+    fn add_expansion(&mut self, id: TreeId, tree: &ItemTree) -> Result<(), AllocError> {
+        match id.file {
+            HirFileId::Macro(call) => {
+                let list = list_of(self.alloc, tree)?;
+                self.db
+                    .add_assoc_items(AssocItemsOwner::Expansion(call), list)
+            }
+            HirFileId::File(_) => Ok(()),
+        }
+    }
+
+    /// Adds the items of the traits and impls of a file or a block.
+    fn add_assoc(&mut self, tree: TreeId, lists: Seq<ReadAssoc>) -> Result<(), AllocError> {
+        for read in lists.into_vec() {
+            let ReadAssoc { item, list } = read;
+            self.assoc.push(AssocText { tree, item, list })?;
         }
         Ok(())
     }
