@@ -4,8 +4,8 @@ use crate::orders::write_orders;
 use crate::program::write_run;
 use crate::records::write_records;
 use def_workspace::{
-    Collected, Fault, Fixture, FixtureFault, Part, Workspace, collect, find, print, read_row,
-    rows_in,
+    Collected, Fault, Fixture, FixtureFault, Part, Workspace, collect, find, print, print_items,
+    read_row, rows_in,
 };
 use std::alloc::Global;
 use std::io::{self, Write};
@@ -37,6 +37,22 @@ fn write_collected(
     Ok(())
 }
 
+/// Writes the lines of associated items, where a row asks for them.
+fn write_items(
+    row: &Fixture<'_>,
+    asked: &Fixture<'_>,
+    workspace: &mut Workspace,
+    collected: Collected,
+    lines: &mut Vec<u8>,
+) -> Result<(), Fault> {
+    if asked.items.is_none() {
+        return Ok(());
+    }
+    writeln!(lines, "items:")?;
+    let (unknown, asks) = (row.unknown.as_slice(), asked.asks.as_slice());
+    print_items(workspace, collected, unknown, asks, lines)
+}
+
 /// Collects the crates of a workspace, and writes the lines of the last one, with those that another
 /// row may ask for.
 fn write_workspace(
@@ -47,7 +63,10 @@ fn write_workspace(
 ) -> Result<(), Fault> {
     let mut workspace = Workspace::new(alloc, row)?;
     match collect(&mut workspace, row)? {
-        Some(collected) => write_collected(asked, &workspace, &collected, lines),
+        Some(collected) => {
+            write_collected(asked, &workspace, &collected, lines)?;
+            write_items(row, asked, &mut workspace, collected, lines)
+        }
         None => Ok(writeln!(lines, "no block")?),
     }
 }
@@ -107,6 +126,10 @@ fn write_wanted(row: &Fixture<'_>, lines: &mut Vec<u8>) -> io::Result<()> {
     if let Some(orders) = row.orders {
         writeln!(lines, "in order:")?;
         write_ended(orders, lines)?;
+    }
+    if let Some(items) = row.items {
+        writeln!(lines, "items:")?;
+        write_ended(items, lines)?;
     }
     Ok(())
 }

@@ -1,16 +1,20 @@
 //! The examples of the library's use, at work.
 
+mod attributes;
 mod blocks;
+mod calls;
 mod collecting;
 mod dependencies;
+mod derives;
 mod items;
+mod macros;
 mod oracle;
 mod reading;
 mod two_files;
 
 use hir_def::{Collected, Def, Interner, Name, StructId};
 use oracle::database;
-use reading::{first_left_over, type_at_path, type_in_scope};
+use reading::{derive_at, first_left_over, is_recorded, type_at_path, type_in_scope};
 use std::alloc::{AllocError, Global};
 use std::test::Fail;
 
@@ -59,11 +63,58 @@ fn sees_around(alloc: Global) -> Result<bool, AllocError> {
     Ok(is_struct(&collected, 1, name))
 }
 
+/// Whether a call's expansion stands where the call does.
+fn expands_a_call(alloc: Global) -> Result<bool, AllocError> {
+    let mut session = Interner::new(alloc)?;
+    let collected = calls::collect(alloc, &mut session)?;
+    let name = session.intern_name("S")?;
+    Ok(
+        is_struct(&collected, 1, name)
+            && is_recorded(&collected, calls::position(), calls::CALL)
+            && collected.outcome.macros.is_empty(),
+    )
+}
+
+/// Whether an attribute's expansion stands in the place of its item.
+fn replaces_an_item(alloc: Global) -> Result<bool, AllocError> {
+    let mut session = Interner::new(alloc)?;
+    let collected = attributes::collect(alloc, &mut session)?;
+    let name = session.intern_name("S")?;
+    let replaced = session.intern_name("T")?;
+    Ok(
+        is_struct(&collected, 1, name)
+            && type_in_scope(&collected, 0, replaced).is_none()
+            && is_recorded(&collected, attributes::position(), attributes::CALL),
+    )
+}
+
+/// Whether a derive's expansion stands beside its item.
+fn derives_beside_an_item(alloc: Global) -> Result<bool, AllocError> {
+    let mut session = Interner::new(alloc)?;
+    let collected = derives::collect(alloc, &mut session)?;
+    let name = session.intern_name("S")?;
+    let item = session.intern_name("T")?;
+    Ok(
+        type_in_scope(&collected, 0, name).is_some()
+            && type_in_scope(&collected, 0, item).is_some()
+            && derive_at(&collected, derives::place()) == Some(derives::CALL),
+    )
+}
+
 #[test]
 fn examples_find_what_they_name(rt: HostRuntime) -> Result<(), Fail> {
     let alloc = rt.alloc();
     assert!(rt; finds_second_file(alloc)?);
     assert!(rt; takes_of_another(alloc)?);
     assert!(rt; sees_around(alloc)?);
+    Ok(())
+}
+
+#[test]
+fn macros_give_what_is_written_down(rt: HostRuntime) -> Result<(), Fail> {
+    let alloc = rt.alloc();
+    assert!(rt; expands_a_call(alloc)?);
+    assert!(rt; replaces_an_item(alloc)?);
+    assert!(rt; derives_beside_an_item(alloc)?);
     Ok(())
 }

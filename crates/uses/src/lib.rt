@@ -1,7 +1,7 @@
 //! How the library is used, by examples that are tests: a database is filled, a crate of two files is
-//! collected, a dependency and then its user, and a block; and what was collected is read. Beside them
-//! stand tests of what no contract says and no row can: token trees, item trees, tables, globs and
-//! maps at work.
+//! collected, a dependency and then its user, a block, and crates whose macros are called by an item,
+//! an attribute and a derive; and what was collected is read. Beside them stand tests of what no
+//! contract says and no row can: token trees, item trees, tables, globs and maps at work.
 #![tactic(auto)]
 
 #[cfg(test)]

@@ -1,9 +1,9 @@
 //! Items, and the trees of files that hold them side by side.
 
 use hir_def::{
-    Attrs, AttrsOrCfg, CrateData, CtorVisibility, Database, Dependency, FileAstId, FileId,
+    Attr, Attrs, AttrsOrCfg, CrateData, CtorVisibility, Database, Dependency, FileAstId, FileId,
     ImportAlias, ImportKind, Interner, ItemNode, ItemTree, ModContents, ModItemId, ModItemKind,
-    ModPath, PathKind, RawVisibility, Seq, TreeFault, TreeId, UseImport,
+    ModPath, PathKind, RawVisibility, Seq, SyntaxContext, TreeFault, TreeId, UseImport,
 };
 use std::alloc::{AllocError, Global};
 
@@ -80,45 +80,69 @@ pub fn module_of(session: &mut Interner, name: &str) -> Result<ModItemKind, Allo
     })
 }
 
-/// An item that has no attributes.
-fn node(number: usize, kind: ModItemKind) -> ItemNode {
-    ItemNode {
-        ast_id: FileAstId(number),
-        attrs: None,
-        kind,
+/// An item as it is written: its attribute, if it has one, and what it is.
+#[derive(Drop)]
+pub struct WrittenItem {
+    pub attr: Option<Attr>,
+    pub kind: ModItemKind,
+}
+
+/// An item without an attribute.
+pub fn plain(kind: ModItemKind) -> WrittenItem {
+    WrittenItem { attr: None, kind }
+}
+
+/// `#[a]`, without arguments.
+pub fn attr_of(alloc: Global, session: &mut Interner, name: &str) -> Result<Attr, AllocError> {
+    Ok(Attr {
+        path: path_of(alloc, session, &[name])?,
+        input: None,
+        ctxt: SyntaxContext(0),
+        paths: None,
+    })
+}
+
+/// Attributes: this one, or none.
+fn attrs_of(alloc: Global, attr: Option<Attr>) -> Result<Attrs, AllocError> {
+    let mut list = Vec::new(alloc);
+    if let Some(attr) = attr {
+        list.push(attr)?;
     }
+    Ok(Attrs {
+        list: Seq::from_vec(list),
+    })
 }
 
 /// Appends an item that stands in no other, with the next number of the text.
 fn push_item(
+    alloc: Global,
     items: &mut Vec<ItemNode>,
     top: &mut Vec<ModItemId>,
-    kind: ModItemKind,
+    item: WrittenItem,
 ) -> Result<(), AllocError> {
+    let WrittenItem { attr, kind } = item;
     let number = items.len();
-    items.push(node(number, kind))?;
+    items.push(ItemNode {
+        ast_id: FileAstId(number),
+        attrs: Some(AttrsOrCfg::Enabled(attrs_of(alloc, attr)?)),
+        kind,
+    })?;
     top.push(ModItemId(number))?;
     Ok(())
-}
-
-/// The attributes of a file that has none.
-fn no_attrs(alloc: Global) -> AttrsOrCfg {
-    AttrsOrCfg::Enabled(Attrs {
-        list: Seq::from_vec(Vec::new(alloc)),
-    })
 }
 
 /// The tree of a file or a block that holds these items, in the order of the text.
 fn tree_of(
     alloc: Global,
-    kinds: Vec<ModItemKind>,
+    written: Vec<WrittenItem>,
 ) -> Result<Result<ItemTree, TreeFault>, AllocError> {
     let mut items = Vec::new(alloc);
     let mut top = Vec::new(alloc);
-    for kind in kinds {
-        push_item(&mut items, &mut top, kind)?;
+    for item in written {
+        push_item(alloc, &mut items, &mut top, item)?;
     }
-    Ok(ItemTree::new(items, top, no_attrs(alloc)))
+    let no_attrs = AttrsOrCfg::Enabled(attrs_of(alloc, None)?);
+    Ok(ItemTree::new(items, top, no_attrs))
 }
 
 /// Writes down which items a file or a block holds. None of them holds others, so they are a tree.
@@ -126,9 +150,9 @@ pub fn add_items(
     alloc: Global,
     db: &mut Database,
     id: TreeId,
-    kinds: Vec<ModItemKind>,
+    items: Vec<WrittenItem>,
 ) -> Result<(), AllocError> {
-    match tree_of(alloc, kinds)? {
+    match tree_of(alloc, items)? {
         Ok(tree) => db.add_tree(id, tree),
         Err(_) => Ok(()),
     }
@@ -141,7 +165,7 @@ pub fn add_item(
     id: TreeId,
     kind: ModItemKind,
 ) -> Result<(), AllocError> {
-    add_items(alloc, db, id, vec![in alloc; kind]?)
+    add_items(alloc, db, id, vec![in alloc; plain(kind)]?)
 }
 
 /// What is known of a crate: its root file, and the crates that it depends on.

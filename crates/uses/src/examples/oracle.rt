@@ -5,8 +5,10 @@ ghost use Rattle.std.specs.Prelude.{◌≡◌, Some, IfOk, codes};
 ghost use Rattle.def_database.specs.Database.{answers_of};
 
 use crate::examples::collecting::tree_of_file;
-use crate::examples::items::{add_item, add_items, crate_data, import_of, module_of, struct_of};
-use hir_def::{Crate, Database, FileId, Interner, ModItemKind, Seq};
+use crate::examples::items::{
+    WrittenItem, add_item, add_items, crate_data, import_of, module_of, plain, struct_of,
+};
+use hir_def::{Crate, Database, FileId, Interner, Seq};
 use std::alloc::{AllocError, Global};
 
 pub const CRATE: Crate = Crate(0);
@@ -16,11 +18,11 @@ pub const ROOT_FILE: FileId = FileId(0);
 const FILE_OF_A: FileId = FileId(1);
 
 /// The items of the root file. Their names are numbers of the session.
-fn root_items(alloc: Global, session: &mut Interner) -> Result<Vec<ModItemKind>, AllocError> {
+fn root_items(alloc: Global, session: &mut Interner) -> Result<Vec<WrittenItem>, AllocError> {
     let mut items = Vec::new(alloc);
-    items.push(module_of(session, "a")?)?;
+    items.push(plain(module_of(session, "a")?))?;
     for name in &["S", "T"] {
-        items.push(import_of(alloc, session, &["a", name])?)?;
+        items.push(plain(import_of(alloc, session, &["a", name])?))?;
     }
     Ok(items)
 }

@@ -1,7 +1,11 @@
-//! Reading what was collected: the scope of a module, what a path means, and what is left over.
+//! Reading what was collected: the scope of a module, what a path means, which macro calls are recorded,
+//! and what is left over.
 
 use crate::examples::items::path_of;
-use hir_def::{BuiltinShadowMode, Collected, Def, Interner, ModuleId, Name, SourceDatabase};
+use hir_def::{
+    BuiltinShadowMode, Collected, Def, DeriveKey, DerivePlace, Either, FileAstId, InFile, Interner,
+    Invocation, MacroCallId, ModuleId, Name, SourceDatabase,
+};
 use std::alloc::{AllocError, Global};
 
 /// The type or module of a name in the scope of a module, by its index. The root has the index 0.
@@ -36,6 +40,31 @@ pub fn type_at_path<D: SourceDatabase>(
     match meaning.types {
         Some(binding) => Ok(Some(binding.def)),
         None => Ok(None),
+    }
+}
+
+/// Whether a call is recorded in the root, with the item that it stands at: the call of an item, or
+/// that of an attribute on it.
+pub fn is_recorded(collected: &Collected, position: InFile<FileAstId>, call: MacroCallId) -> bool {
+    let Some(scope) = collected.def_map.scope(0) else {
+        return false;
+    };
+    match scope.invocations() {
+        Some(calls) => calls.contains(&Invocation { position, call }),
+        None => false,
+    }
+}
+
+/// The call of the derive at a place of an attribute's list, if it gave one in the root.
+pub fn derive_at(collected: &Collected, place: DerivePlace) -> Option<MacroCallId> {
+    let derives = collected.def_map.scope(0)?.derives()?;
+    let records = derives.get(&DeriveKey {
+        position: place.position,
+        attr: place.attr_id,
+    })?;
+    match records.first.calls.get(place.pos)? {
+        Some(Either::Left(call)) => Some(*call),
+        _ => None,
     }
 }
 

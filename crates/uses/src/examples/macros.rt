@@ -1,0 +1,58 @@
+//! Macros, and what they give: the items that define and call them, and the trees of expansions.
+
+use crate::examples::items::{add_item, path_of};
+use hir_def::{
+    Database, ExpandTo, FileAstId, FileId, HirFileId, InFile, Interner, MacroCallId, ModItemKind,
+    RawVisibility, SyntaxContext, TreeId,
+};
+use std::alloc::{AllocError, Global};
+
+/// `macro_rules! m { .. }`. Its rules are the database's: here the item is its name alone.
+pub fn macro_rules_of(session: &mut Interner, name: &str) -> Result<ModItemKind, AllocError> {
+    Ok(ModItemKind::MacroRules {
+        name: session.intern_name(name)?,
+    })
+}
+
+/// `pub macro m { .. }`
+pub fn macro_of(session: &mut Interner, name: &str) -> Result<ModItemKind, AllocError> {
+    Ok(ModItemKind::Macro2 {
+        name: session.intern_name(name)?,
+        visibility: RawVisibility::Public,
+    })
+}
+
+/// `m!(..);`
+pub fn call_of(
+    alloc: Global,
+    session: &mut Interner,
+    name: &str,
+) -> Result<ModItemKind, AllocError> {
+    Ok(ModItemKind::MacroCall {
+        path: path_of(alloc, session, &[name])?,
+        expand_to: ExpandTo::Items,
+        ctxt: SyntaxContext(0),
+    })
+}
+
+/// Where an item of a file stands, by its number in the order of the text.
+pub fn position_in(file: FileId, number: usize) -> InFile<FileAstId> {
+    InFile {
+        file: HirFileId::File(file),
+        value: FileAstId(number),
+    }
+}
+
+/// Writes down what a call gives: an expansion that holds this item alone.
+pub fn add_expansion(
+    alloc: Global,
+    db: &mut Database,
+    call: MacroCallId,
+    kind: ModItemKind,
+) -> Result<(), AllocError> {
+    let expansion = TreeId {
+        file: HirFileId::Macro(call),
+        block: None,
+    };
+    add_item(alloc, db, expansion, kind)
+}
