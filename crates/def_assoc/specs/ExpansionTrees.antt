@@ -1,5 +1,5 @@
 -- The associated items of a trait or an impl and those of the expansions among them, as trees.
-use Rattle.std.specs.Prelude.{ℕ, zero, suc, ◌-◌, ◌^◌, Bool, false, cond, List, [], ◌∷◌, ◌++◌, map, Option, None, Some, Result, Ok, Err}
+use Rattle.std.specs.Prelude.{ℕ, zero, suc, ◌-◌, ◌^◌, Bool, true, false, cond, List, [], ◌∷◌, ◌++◌, map, Option, None, Some, Result, Ok, Err}
 use Rattle.std.specs.List.{flat_map}
 use Rattle.tree_ids.specs.declared.ids.AttrId.{AttrId}
 use Rattle.tree_ids.specs.declared.ids.CfgExpr.{CfgExpr}
@@ -179,9 +179,14 @@ abbrev pub gives_if : Reading → Node → Option CfgExpr → Gives
 gives_if r node (Some cfg) = record nothing { diagnostics = reported_of r node (UnconfiguredCode cfg) ∷ [] }
 gives_if r node None = compiled_gives r node (attrs_read r node (numbered_at 0 (attrs_of node.item.attrs)))
 
--- what an item gives
+-- whether an item is of a kind that no associated item is of
+abbrev pub is_other : AssocItemKind → Bool
+is_other kind.Other = true
+is_other _ = false
+
+-- what an item gives: one of such a kind nothing, whatever its attributes are
 abbrev pub gives : Reading → Node → Gives
-gives r node = gives_if r node (disabled_by node.item.attrs)
+gives r node = cond (is_other node.item.kind) nothing (gives_if r node (disabled_by node.item.attrs))
 
 -- The tree
 

@@ -178,6 +178,9 @@ fn collect_item<D: SourceDatabase>(
         IfOk result (λ expands. (expands ≡ given.expands)
         × (found_of found.new ≡ trees.joined (found_of found.old) (trees.lists_in given))) }
 {
+    if is_other(&node.item.kind) {
+        return Ok(None);
+    }
     let Some(written) = &node.item.attrs else {
         return record_item(alloc, world, module_id, node, found);
     };
@@ -197,6 +200,13 @@ fn collect_item<D: SourceDatabase>(
         }
         None => record_item(alloc, world, module_id, node, found),
     }
+}
+
+/// Whether an item is of a kind that no associated item is of. Not even its attributes are read then.
+fn is_other(kind: &AssocItemKind) -> bool
+    ensures { result ≡ trees.is_other kind.now }
+{
+    matches!(kind, AssocItemKind::Other)
 }
 
 /// Reads the attributes of an item, up to one whose macro takes the item's place: its call. On `Err`
