@@ -18,7 +18,8 @@ use std::time::Instant;
 /// The one trait of the crate.
 const TRAIT: TraitId = TraitId(0);
 
-/// Collects the items of the trait.
+/// Collects the items of the trait. It is a call of its own, so that what it takes can be counted.
+#[inline(never)]
 fn query(alloc: Global, one: &OneFile, session: &mut Interner) -> Result<TraitItems, AllocError> {
     let (items, _) = TraitItems::query_with_diagnostics(alloc, one, session, TRAIT)?;
     Ok(items)
