@@ -1,5 +1,5 @@
 -- What was found so far, as the first sources of a list.
-use Rattle.std.proofs.Common.{◌≡◌, ◌∙◌, ap, sym, refl, Bool, true, false, List, [], ◌∷◌, ◌++◌, append_assoc, Option, Some, None}
+use Rattle.std.proofs.Common.{◌≡◌, ◌∙◌, ap, sym, refl, Bool, true, false, List, [], ◌∷◌, ◌++◌, append_assoc, Option, Some, None, is_some}
 use Rattle.std.specs.Option.{option_or}
 use Rattle.tree_ids.specs.declared.name.Name.{Name}
 use Rattle.def_ids.specs.declared.ids.ModuleId.{ModuleId}
@@ -75,3 +75,35 @@ pub with_three : (keep : Item → Bool) (xs : List Source) (s t u : Source) (nam
 with_three keep xs s t u name found a b result e p q r =
     with_source-last keep (xs ++ s ∷ t ∷ []) u name b result r (with_two keep xs s t name found a b e p q)
     ∙ ap (λ l. per_namespace (first_found keep l name)) (append_assoc xs (s ∷ t ∷ []) (u ∷ []))
+
+-- what has nothing leaves all to the rest
+later : (found first rest : Option Item) → found ≡ first → is_some found ≡ false → rest ≡ option_or first rest
+later found first rest e none = is_left found none ∙ ap (λ o. option_or o rest) e
+  where
+    is_left : (o : Option Item) → is_some o ≡ false → rest ≡ option_or o rest
+    is_left None none = refl
+    is_left (Some x) none = cc
+
+-- what a first source and then a list give: the list, where the source has nothing
+pub found-next : (keep : Item → Bool) (xs ys : List Source) (name : Name) (ns : Namespace) (none first found : Option Item)
+    → none ≡ first → is_some none ≡ false → found ≡ first_found keep xs name ns → is_some found ≡ true
+    → found ≡ option_or first (first_found keep (xs ++ ys) name ns)
+found-next keep xs ys name ns none first found e is_none there has =
+    is_first found (first_found keep ys name ns) has
+    ∙ ap (λ o. option_or o (first_found keep ys name ns)) there
+    ∙ sym (first_found-append keep xs ys name ns)
+    ∙ later none first (first_found keep (xs ++ ys) name ns) e is_none
+  where
+    is_first : (o rest : Option Item) → is_some o ≡ true → o ≡ option_or o rest
+    is_first None rest has = cc
+    is_first (Some x) rest has = refl
+
+-- and the rest of the list, where its beginning has nothing either
+pub found-last : (keep : Item → Bool) (xs ys : List Source) (name : Name) (ns : Namespace) (none first nor found : Option Item)
+    → none ≡ first → is_some none ≡ false → nor ≡ first_found keep xs name ns → is_some nor ≡ false → found ≡ first_found keep ys name ns
+    → found ≡ option_or first (first_found keep (xs ++ ys) name ns)
+found-last keep xs ys name ns none first nor found e is_none there is_nor has =
+    has
+    ∙ later nor (first_found keep xs name ns) (first_found keep ys name ns) there is_nor
+    ∙ sym (first_found-append keep xs ys name ns)
+    ∙ later none first (first_found keep (xs ++ ys) name ns) e is_none

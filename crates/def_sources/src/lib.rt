@@ -2,6 +2,7 @@
 #![tactic(auto)]
 
 mod asked;
+mod lone_macros;
 mod path_database;
 mod per_ns;
 mod prefixes;
@@ -10,6 +11,7 @@ mod table;
 mod world;
 
 pub use asked::{Asked, BuiltinShadowMode, ResolveMode};
+pub use lone_macros::{relative_macro, scope_macro};
 pub use path_database::PathDatabase;
 pub use per_ns::{Item, MacroSubNs, PerNs, public_item};
 pub use prefixes::{absolute_type, relative_type};

@@ -129,7 +129,11 @@ pub fn public_item(def: Def) -> Item
 }
 
 /// The item, if it is no macro or one that is asked for.
-fn fitting(item: Option<Item>, session: &Interner, sub: Option<MacroSubNs>) -> Option<Item>
+pub(crate) fn fitting(
+    item: Option<Item>,
+    session: &Interner,
+    sub: Option<MacroSubNs>,
+) -> Option<Item>
     ensures { result ≡ kept (is_fitting (macro_kind (session_of session.now)) sub) item }
 {
     match (item, sub) {

@@ -141,7 +141,7 @@ pub fn extern_type<D: PathDatabase, T>(asking: &Asking<'_, D, T>, name: Name) ->
 }
 
 /// A module's last textual macro of a name, also in another map.
-fn textual_macro<D: PathDatabase, T: BindingTable<Vis = Visibility>>(
+pub(crate) fn textual_macro<D: PathDatabase, T: BindingTable<Vis = Visibility>>(
     asking: &Asking<'_, D, T>,
     place: ModuleId,
     name: Name,
