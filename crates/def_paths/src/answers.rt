@@ -374,7 +374,7 @@ fn plain_path<D: PathDatabase, T: BindingTable<Vis = Visibility>>(
 }
 
 /// What a path means in the map that is asked.
-fn answer_in<D: PathDatabase, T: BindingTable<Vis = Visibility>>(
+pub(crate) fn answer_in<D: PathDatabase, T: BindingTable<Vis = Visibility>>(
     asking: &Asking<'_, D, T>,
     place: ModuleId,
     path: &ModPath,

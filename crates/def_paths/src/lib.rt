@@ -2,6 +2,7 @@
 #![tactic(auto)]
 
 mod answers;
+mod macro_resolution;
 mod path_resolution;
 mod path_result;
 mod short;
@@ -12,6 +13,7 @@ pub use def_sources::{
     World, bound, public_item,
 };
 pub use path_resolution::{
-    resolve_module, resolve_path_fp_with_macro, resolve_path_scope, resolve_visibility,
+    resolve_module, resolve_path_fp_with_macro, resolve_path_macro, resolve_path_scope,
+    resolve_visibility,
 };
 pub use path_result::{PathAnswer, PrefixInfo, ReachedFixedPoint, ResolvePathResult};

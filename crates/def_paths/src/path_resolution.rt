@@ -5,12 +5,14 @@ ghost use Rattle.def_paths.specs.Paths.{resolve as meaning_of, resolve_visibilit
 ghost use Rattle.def_paths.specs.Answers.{reached};
 ghost use Rattle.def_sources.specs.PerNs.{per_namespace};
 ghost use Rattle.def_paths.specs.Paths.{for_module, module_found, module_reached as module_reached_by};
+ghost use Rattle.def_paths.specs.Paths.{macro_named};
 
 use crate::answers::resolve;
+use crate::macro_resolution::resolve_macro;
 use crate::path_result::ResolvePathResult;
 use crate::short::own_scope_of;
 use def_bindings::{BindingTable, Visibility};
-use def_ids::{Def, ModuleId};
+use def_ids::{Def, MacroId, ModuleId};
 use def_sources::{Asked, Asking, PathDatabase, PerNs, World};
 use item_tree::{ModPath, Name, RawVisibility};
 
@@ -46,6 +48,26 @@ pub fn resolve_path_scope<D: PathDatabase, T: BindingTable<Vis = Visibility>>(
         asked,
     };
     own_scope_of(&asking, original_module, path)
+}
+
+/// The macro that a path means, asked from a module: what `resolve_path_fp_with_macro` has of it in
+/// macros, found without the other namespaces.
+pub fn resolve_path_macro<D: PathDatabase, T: BindingTable<Vis = Visibility>>(
+    world: &World<'_, D, T>,
+    asked: Asked,
+    original_module: ModuleId,
+    path: &ModPath,
+) -> Option<MacroId>
+    ensures { result ≡ macro_named (meaning_of (world_lent D.oracle T.content world.now) asked original_module path.now).resolved_def }
+{
+    let asking = Asking {
+        world: *world,
+        asked,
+    };
+    match resolve_macro(&asking, original_module, path)?.def {
+        Def::Macro(id) => Some(id),
+        _ => None,
+    }
 }
 
 /// The module that a path gives, with no segment left.

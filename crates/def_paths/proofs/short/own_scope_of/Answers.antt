@@ -1,7 +1,5 @@
-use Rattle.std.proofs.Common.{◌≡◌, ◌∙◌, None, false, sym}
-use Rattle.def_paths.specs.Answers.{reached}
+use Rattle.std.proofs.Common.{◌∙◌, sym}
 use Rattle.def_sources.specs.Asking.{question_in, map_in}
-use Rattle.def_sources.specs.PerNs.{per_namespace}
 use Rattle.def_paths.proofs.AnswersLemmas.{own-answer, was-not}
 use Rattle.def_paths.proofs.short.own_scope_of.Goals as goal
 

@@ -1,4 +1,4 @@
-use Rattle.std.proofs.Common.{◌≡◌, ◌∙◌, ◌+◌, ◌-◌, ◌<◌, None, ap, arith, drop, false, get_or, length, sym, ℕ}
+use Rattle.std.proofs.Common.{◌≡◌, ◌∙◌, ◌-◌, ◌<◌, None, ap, arith, false, get_or, length, sym, ℕ}
 use Rattle.tree_ids.specs.declared.name.Name.{Name}
 use Rattle.def_ids.specs.declared.ids.Def.TheVariants.{Module}
 use Rattle.def_paths.specs.Answers.{is_elsewhere, reached, walk}
