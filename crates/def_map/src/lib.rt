@@ -21,8 +21,8 @@ pub use def_modules::{
 pub use item_scope::{ItemScope, Resolutions, UnnamedTraits};
 pub use macro_resolver::MacroResolver;
 pub use path_resolution::{
-    ResolvePaths, finished_map, resolve_module, resolve_path_fp_with_macro, resolve_path_scope,
-    resolve_visibility,
+    ResolvePaths, finished_map, resolve_module, resolve_path_fp_with_macro, resolve_path_macro,
+    resolve_path_scope, resolve_visibility,
 };
 pub use scope_bindings::{BoundNames, Entries, NamesOf, ScopeEntry};
 pub use source_database::SourceDatabase;

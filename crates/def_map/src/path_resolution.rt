@@ -10,14 +10,14 @@ ghost use Rattle.def_sources.specs.Asking.{map_with, world_lent};
 ghost use Rattle.def_sources.specs.Modes.{asked_by};
 ghost use Rattle.def_paths.specs.Answers.{reached};
 ghost use Rattle.def_sources.specs.PerNs.{per_namespace};
-ghost use Rattle.def_paths.specs.Paths.{for_module, module_found, resolve, resolve_visibility as visibility_of};
+ghost use Rattle.def_paths.specs.Paths.{for_module, macro_named, module_found, resolve, resolve_visibility as visibility_of};
 ghost use Rattle.def_sources.specs.Sources.{world_of, finished_map as finished_map_of};
 ghost use Rattle.def_sources.specs.Tables.{bound_by};
 
 use crate::def_map::DefMap;
 use crate::source_database::SourceDatabase;
 use def_bindings::{BindingTable, Visibility};
-use def_ids::{EnumLoc, MapId, ModuleId};
+use def_ids::{EnumLoc, MacroId, MapId, ModuleId};
 use def_interner::Interner;
 use def_modules::{LocalDefMap, MapData};
 use def_oracle::EnumVariant;
@@ -109,6 +109,27 @@ pub fn resolve_path_scope<D: SourceDatabase, T: BindingTable<Vis = Visibility>>(
         session: world.session,
     };
     def_paths::resolve_path_scope(&world, asked, original_module, path)
+}
+
+/// The macro that a path means, asked from a module: what `resolve_path_fp_with_macro` has of it in
+/// macros, found without the other namespaces.
+pub fn resolve_path_macro<D: SourceDatabase, T: BindingTable<Vis = Visibility>>(
+    world: &World<'_, D, T>,
+    asked: Asked,
+    original_module: ModuleId,
+    path: &ModPath,
+) -> Option<MacroId>
+    ensures { result ≡ macro_named (resolve (world_lent D.oracle T.content world.now) asked original_module path.now).resolved_def }
+{
+    let db = AskedByPaths { db: world.db };
+    let world = World {
+        map: world.map,
+        table: world.table,
+        local: world.local,
+        db: &db,
+        session: world.session,
+    };
+    def_paths::resolve_path_macro(&world, asked, original_module, path)
 }
 
 /// The module that a path gives, with no segment left.
