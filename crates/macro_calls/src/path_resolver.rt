@@ -3,11 +3,11 @@ ghost use Rattle.def_map.specs.Asking.{world_lent};
 ghost use Rattle.def_sources.specs.Tables.{bound_by};
 ghost use Rattle.def_map.specs.Paths.{resolver};
 
-use def_ids::{Def, ModuleId};
+use def_ids::ModuleId;
 use def_interner::MacroDefId;
 use def_map::{
     Asked, BuiltinShadowMode, MacroResolver, MacroSubNs, ResolveMode, SourceDatabase, Table, World,
-    resolve_path_fp_with_macro,
+    resolve_path_macro,
 };
 use item_tree::ModPath;
 
@@ -41,10 +41,7 @@ impl<'a, D: SourceDatabase> MacroResolver for PathResolver<'a, D> {
             shadow: self.shadow,
             sub: Some(self.sub),
         };
-        let found = resolve_path_fp_with_macro(&self.world, asked, self.module_id, path);
-        match found.resolved_def.macros?.def {
-            Def::Macro(id) => self.world.session.macro_def(id),
-            _ => None,
-        }
+        let id = resolve_path_macro(&self.world, asked, self.module_id, path)?;
+        self.world.session.macro_def(id)
     }
 }

@@ -1,4 +1,4 @@
-use Rattle.std.proofs.Common.{◌≡◌, Err, ap, sym, ◌∙◌}
+use Rattle.std.proofs.Common.{Err, ap, sym, ◌∙◌}
 use Rattle.macro_calls.specs.AttrResolution as resolution
 use Rattle.macro_calls.proofs.PathLemmas.{cloned_path}
 use Rattle.macro_calls.proofs.attr_resolution.DefMapAttrResolution.resolve_attr_macro.Goals as goal
