@@ -4,6 +4,7 @@ pub mod BoundNameLemmas
 pub mod ByModuleLemmas
 pub mod ResultLemmas
 pub mod LinkLemmas
+pub mod NamesLemmas
 pub mod ListsLemmas
 pub mod NumbersLemmas
 pub mod NumberedTableLemmas

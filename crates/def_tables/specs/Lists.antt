@@ -1,5 +1,5 @@
 -- What lists by module are.
-use Rattle.std.specs.Prelude.{List, Option, None, slice_get, cond, Vec}
+use Rattle.std.specs.Prelude.{◌≡◌, false, List, Option, None, slice_get, cond, Vec, AllPairs}
 use Rattle.std.specs.Global.{Global}
 use Rattle.std.specs.Option.{option_map, option_map_or, option_and_then}
 use Rattle.indexmap.specs.IndexMap.{IndexMap, get}
@@ -7,7 +7,8 @@ use Rattle.def_ids.specs.declared.ids.MapId.{MapId}
 use Rattle.def_ids.specs.declared.ids.ModuleId.{ModuleId}
 use Rattle.def_ids.specs.Ids.{is_same_map, is_same_module}
 use Rattle.def_tables.specs.declared.lists.Lists.{Lists}
-use Rattle.def_bindings.specs.Content.{lists_by}
+use Rattle.tree_ids.specs.declared.name.Name.{Name}
+use Rattle.def_bindings.specs.Content.{is_name, lists_by}
 
 -- the list of a row, if it has one
 abbrev pub row_items : {K : Type 0} → Option (Vec K Global) → Option (List K)
@@ -31,3 +32,11 @@ with_row rows others m = option_map_or (λ xs. xs) (rows m) (others m)
 
 abbrev pub lists_of : {K : Type 0} → Lists K → ModuleId → List K
 lists_of l = with_row (rows_of l) (lists_in l.others)
+
+-- no name stands twice
+abbrev pub AreDistinct : List Name → Type 0
+AreDistinct names = AllPairs (λ (a b : Name). is_name a b ≡ false) names
+
+-- no module has a name twice
+abbrev pub HaveOnce : (ModuleId → List Name) → Type 0
+HaveOnce lists = (m : ModuleId) → AreDistinct (lists m)

@@ -1,4 +1,4 @@
--- The law of a numbered table: where its edges are.
+-- The laws of a numbered table: where its edges are, that a name is listed exactly where it is bound, and that it is listed once.
 use Rattle.std.specs.Prelude.{◌<◌, List, [], ◌∷◌, map, Contains}
 use Rattle.std.proofs.Common.{arith, sym, subst, inl, inr}
 use Rattle.std.proofs.lemmas.List.Elements.{Contains-append_left, Contains-append_right, Contains-push}
@@ -11,7 +11,7 @@ use Rattle.def_tables.specs.declared.numbered_table.NumberedTable.{NumberedTable
 use Rattle.def_bindings.specs.IdLaws.{cases_module}
 use Rattle.def_bindings.specs.Content.{AreSources, AreTied}
 use Rattle.def_tables.specs.Link.{edge_of}
-use Rattle.def_tables.specs.Lists.{lists_of}
+use Rattle.def_tables.specs.Lists.{HaveOnce, lists_of}
 use Rattle.def_tables.specs.Numbers.{own_entries}
 use Rattle.def_tables.specs.NumberedTable.{content_of, other_rows, own_rows}
 use Rattle.def_tables.specs.BoundNameLaws.{listed-tied}
@@ -37,3 +37,8 @@ are_sources meaning t m e h = among t.edges.entries.entries m e h
 pub are_tied : {V K : Type 0} (meaning : MapId → K → V) (t : NumberedTable V K) → AreTied (content_of meaning t).binding (content_of meaning t).names
 unfolding content_of
 are_tied meaning t = listed-tied meaning t.map (own_rows t) (other_rows t) (lists_of t.names) t.listed
+
+-- no module lists a name twice
+pub are_once : {V K : Type 0} (meaning : MapId → K → V) (t : NumberedTable V K) → HaveOnce (content_of meaning t).names
+unfolding content_of
+are_once meaning t = t.once

@@ -1,10 +1,10 @@
 //! Lists by module.
-ghost use Rattle.std.specs.Prelude.{◌≡◌, ◌∷◌, [], ◌++◌, ◌+◌, ◌<◌, ◌≤◌, ◌^◌, None, Some, length, slice_get, option_map, IfOk, OnOk, OnErr, IsTrue, cond, true};
+ghost use Rattle.std.specs.Prelude.{◌≡◌, ◌∷◌, [], ◌++◌, ◌+◌, ◌<◌, ◌≤◌, ◌^◌, None, Some, length, slice_get, option_map, IfOk, IfSome, OnOk, OnErr, IsTrue, cond, true};
 ghost use Rattle.indexmap.specs.IndexMap.{get};
 ghost use Rattle.def_ids.specs.declared.ids.ModuleId.{ModuleId};
 ghost use Rattle.def_ids.specs.Ids.{is_same_module, is_same_map};
 ghost use Rattle.def_bindings.specs.Content.{listed_as, without_name};
-ghost use Rattle.def_tables.specs.Lists.{lists_in, lists_of, row_in, row_items, rows_of, with_row};
+ghost use Rattle.def_tables.specs.Lists.{AreDistinct, lists_in, lists_of, row_in, row_items, rows_of, with_row};
 
 use def_ids::{MapId, ModuleId};
 use indexmap::IndexMap;
@@ -215,15 +215,19 @@ impl<K: Copy> Lists<K> {
     }
 }
 
-/// Takes a name out.
+/// Takes a name out of names that stand there once. One that goes was mostly among the last to come.
 fn take_out(names: &mut Vec<Name>, name: Name)
+    requires { AreDistinct names.old.items }
     ensures { names.new.items ≡ without_name names.old.items name }
 {
-    names.retain(|other| name.0 != other.0);
+    if let Some(place) = names.iter().rposition(|other| name.0 == other.0) {
+        let _ = names.remove(place);
+    }
 }
 
 /// Takes a name out of a row's list.
 fn take_out_of_row(row: &mut Option<Vec<Name>>, name: Name)
+    requires { IfSome (row_items row.old) AreDistinct }
     ensures { row_items row.new ≡ option_map (λ xs. without_name xs name) (row_items row.old) }
 {
     match row {
@@ -233,8 +237,9 @@ fn take_out_of_row(row: &mut Option<Vec<Name>>, name: Name)
 }
 
 impl Lists<Name> {
-    /// Takes a name out of a module's list.
+    /// Takes a name out of a module's list, where it stands once.
     pub fn remove(&mut self, module: ModuleId, name: Name)
+        requires { AreDistinct (lists_of self.old «module») }
         ensures { lists_of self.new
             ≡ listed_as (lists_of self.old) «module» (without_name (lists_of self.old «module») name) }
     {

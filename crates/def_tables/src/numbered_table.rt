@@ -3,7 +3,7 @@
 
 ghost use Rattle.std.specs.Prelude.{◌≡◌, ◌↔◌, IsTrue, IsFalse, Some, true, false, is_none, OnOk, OnErr, IfOk, IfSome, option_copied};
 ghost use Rattle.std.specs.List.{zip};
-ghost use Rattle.def_tables.specs.Lists.{lists_of};
+ghost use Rattle.def_tables.specs.Lists.{HaveOnce, lists_of};
 ghost use Rattle.def_tables.specs.Places.{AreListed, AreStrangers, is_own_place, name_of};
 ghost use Rattle.def_bindings.specs.Puts.{if_vacant};
 
@@ -36,6 +36,7 @@ pub struct NumberedTable<V, K = V> {
     edges: Keyed<ModuleId, Link<V>>,
     ghost apart: { AreStrangers map (zip others.keys.keys others.values.items) },
     ghost listed: { AreListed (name_of map (zip own.keys.keys own.values.items) (zip others.keys.keys others.values.items)) (lists_of names) },
+    ghost once: { HaveOnce (lists_of names) },
 }
 
 impl<V: Drop, K: Drop> Drop for NumberedTable<V, K> {

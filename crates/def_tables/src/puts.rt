@@ -5,7 +5,7 @@ ghost use Rattle.def_tables.specs.IndexedVec.{get};
 ghost use Rattle.def_bindings.specs.Content.{listed_as, without_name};
 ghost use Rattle.def_bindings.specs.Puts.{if_vacant};
 ghost use Rattle.def_tables.specs.BoundName.{meaning_of, stands_for, with_namespace, written_in};
-ghost use Rattle.def_tables.specs.Lists.{lists_of};
+ghost use Rattle.def_tables.specs.Lists.{AreDistinct, lists_of};
 
 use crate::bound_name::BoundName;
 use crate::indexed_vec::IndexedVec;
@@ -140,6 +140,7 @@ pub fn remove_at<P: Copy + Eq + Hash, V: Copy, K: Kept<V>>(
     name: Name,
     ns: Namespace,
 )
+    requires { AreDistinct (lists_of names.old «module») }
     ensures left { meaning_of K.meaning map (get P.eq (zip bound.new.keys.keys bound.new.values.items) key)
         ≡ with_namespace (meaning_of K.meaning map (get P.eq (zip bound.old.keys.keys bound.old.values.items) key)) ns None }
     ensures names { lists_of names.new ≡ cond (is_some (get P.eq (zip bound.new.keys.keys bound.new.values.items) key)) (lists_of names.old)

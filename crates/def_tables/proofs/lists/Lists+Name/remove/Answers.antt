@@ -1,10 +1,13 @@
-use Rattle.std.proofs.Common.{◌∙◌, None, ap, arith, option_map, sym}
+use Rattle.std.proofs.Common.{◌∙◌, None, Option, List, ap, arith, option_map, subst, sym}
+use Rattle.std.specs.Prelude.{IfSome}
 use Rattle.indexmap.specs.IndexMap.{get}
+use Rattle.tree_ids.specs.declared.name.Name.{Name}
 use Rattle.def_ids.specs.Ids.{is_same_module}
 use Rattle.def_bindings.specs.Content.{listed_as, without_name}
-use Rattle.def_tables.specs.Lists.{lists_in, lists_of, row_items, rows_of, with_row}
+use Rattle.def_tables.specs.Lists.{AreDistinct, lists_in, lists_of, row_items, rows_of, with_row}
 use Rattle.def_tables.proofs.ByModuleLemmas.{lists-changed, listed_as-same}
 use Rattle.def_tables.proofs.ListsLemmas.{held, is-row, no-list, row-changed, other-changed}
+use Rattle.def_tables.proofs.NamesLemmas.{row-once}
 use Rattle.def_tables.proofs.ResultLemmas.{some_there, none_there}
 use Rattle.def_tables.proofs.lists.Lists+Name.remove.Goals as goal
 
@@ -38,3 +41,11 @@ pub index_mut-requires : goal.index_mut-requires
 index_mut-requires c =
     let l = c.args.self.now in
     omega (arith, l.rows.ok, (held l.map l.rows.items c.args.module (is-row _ c.row.result (rows_of l c.args.module) _ c.row.ensures c.if-is_some.ensures) None).1)
+
+pub take_out_of_row-requires : goal.take_out_of_row-requires
+take_out_of_row-requires c =
+    let l = c.args.self.now in
+    let there = is-row _ c.row.result (rows_of l c.args.module) _ c.row.ensures c.if-is_some.ensures in
+    subst (λ (o : Option (List Name)). IfSome o AreDistinct)
+    ((held l.map l.rows.items c.args.module there c.index_mut.result.now).2 ∙ ap row_items (sym c.index_mut.ensures.value))
+    (row-once (rows_of l c.args.module) (lists_in l.others c.args.module) c.requires)
