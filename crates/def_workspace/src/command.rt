@@ -9,7 +9,7 @@ use crate::lines::print;
 use crate::workspace::Workspace;
 use def_scripted::{Part, find, read_row, vectors};
 use std::alloc::{AllocError, Global};
-use std::io;
+use std::{fmt, io};
 
 /// Prints the names of the vectors.
 fn list<W: io::Write>(out: &mut W) -> Result<(), Fault> {
@@ -59,6 +59,35 @@ fn status<E: io::Write>(ended: Result<(), Fault>, err: &mut E) -> u8
         Err(Fault::Text { tree: _, byte }) => unreadable(err, "byte", byte),
         Err(Fault::Row(line)) => unreadable(err, "line", line),
     }
+}
+
+/// A word as one line: what ends a line is written as in a literal, as every control character.
+#[derive(Clone, Copy)]
+struct OneLine<'t> {
+    word: &'t str,
+}
+
+impl<'t> fmt::Display for OneLine<'t> {
+    fn fmt<W: fmt::Write>(&self, f: &mut fmt::Formatter<W>) -> fmt::Result {
+        for letter in self.word.chars() {
+            match letter {
+                '\0'..='\u{1f}' | '\u{7f}'..='\u{9f}' | '\u{2028}' | '\u{2029}' => {
+                    write!(f, "{}", letter.escape_default())?
+                }
+                _ => f.write_char(letter)?,
+            }
+        }
+        Ok(())
+    }
+}
+
+/// Says that there is no vector of this name, and answers the status.
+fn unknown<E: io::Write>(err: &mut E, name: &str) -> u8
+    ensures { result ≡ 2 }
+{
+    let name = OneLine { word: name };
+    let _ = writeln!(err, "unknown vector: {name}");
+    2
 }
 
 /// Says how the program is called, and answers the status. The program itself runs `rows`.
@@ -116,10 +145,7 @@ fn run_words<O: io::Write, E: io::Write>(
     }
     match find(name) {
         Some(text) => status(show(alloc, text, out), err),
-        None => {
-            let _ = writeln!(err, "unknown vector: {name}");
-            2
-        }
+        None => unknown(err, name),
     }
 }
 

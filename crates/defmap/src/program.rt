@@ -25,7 +25,8 @@ impl io::Write for Narrow {
     }
 }
 
-/// The arguments of a run, the program's own name first.
+/// The arguments of a run, the program's own name first. In a word of a row `\n` stands for the end of
+/// a line.
 fn args(alloc: Global, program: &ProgramText<'_>) -> io::Result<Vec<String>> {
     if program.is_no_text {
         return Err(io::Error::from(io::ErrorKind::InvalidData));
@@ -33,7 +34,7 @@ fn args(alloc: Global, program: &ProgramText<'_>) -> io::Result<Vec<String>> {
     let mut args = Vec::new(alloc);
     args.push(String::from_str(alloc, "defmap")?)?;
     for word in &program.words {
-        args.push(String::from_str(alloc, word)?)?;
+        args.push(word.replace(alloc, "\\n", "\n")?)?;
     }
     Ok(args)
 }
