@@ -127,6 +127,42 @@ fn run_once<C: Clock>(alloc: Global, clock: &C, text: &str) -> io::Result<Run> {
     run_in(alloc, clock, text, &mut session)
 }
 
+/// How long the definitions of a crate take to be collected, whatever is left over.
+fn time_of<C: Clock>(
+    alloc: Global,
+    clock: &C,
+    one: &OneFile,
+    session: &mut Interner,
+) -> io::Result<Duration> {
+    let start = Instant::now(clock)?;
+    let _collected = collect(alloc, one, session)?;
+    start.elapsed(clock)
+}
+
+/// One run over the crate of a text whose lines are counted, under names of a session.
+fn run_lines<C: Clock>(
+    alloc: Global,
+    clock: &C,
+    text: &str,
+    session: &mut Interner,
+) -> io::Result<Figures> {
+    let (file, given) = text.split_once("-- gives\n").unwrap_or((text, ""));
+    let mut one = OneFile::new(alloc, read_tree(alloc, session, file)?);
+    add_given(alloc, session, given, &mut one)?;
+    Ok(Figures {
+        items: items_in(&one.tree),
+        counted: text.lines().count(),
+        time: time_of(alloc, clock, &one, session)?,
+        places_time: None,
+    })
+}
+
+/// What is measured of a text whose lines are counted, once.
+fn measure_lines<C: Clock>(alloc: Global, clock: &C, text: &str) -> io::Result<Figures> {
+    let mut session = Interner::new(alloc)?;
+    run_lines(alloc, clock, text, &mut session)
+}
+
 /// What is measured, once.
 fn measure_once<C: Clock>(
     alloc: Global,
@@ -134,8 +170,10 @@ fn measure_once<C: Clock>(
     counted: &str,
     text: &str,
 ) -> io::Result<Figures> {
-    if counted == "items" {
-        return assoc::measure(alloc, clock, text);
+    match counted {
+        "items" => return assoc::measure(alloc, clock, text),
+        "lines" => return measure_lines(alloc, clock, text),
+        _ => {}
     }
     let run = run_once(alloc, clock, text)?;
     let (counted, places_time) = match counted {
