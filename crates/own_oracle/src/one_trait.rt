@@ -126,9 +126,9 @@ impl OneTrait {
 }
 
 impl SourceDatabase for OneTrait {
-    ghost oracle = { answers_of };
+    ghost oracle = { λ one. answers_of one.tree one.krate one.written one.given one.maps };
 
-    ghost states = { states_of };
+    ghost states = { λ one. states_of one.maps };
 
     fn item_tree(&self, id: TreeId) -> Option<&ItemTree> {
         match id.file {
