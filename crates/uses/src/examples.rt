@@ -1,18 +1,21 @@
 //! The examples of the library's use, at work.
 
+mod assoc_items;
 mod attributes;
 mod blocks;
 mod calls;
 mod collecting;
 mod dependencies;
 mod derives;
-mod items;
+pub mod items;
 mod macros;
+mod one_file;
 mod oracle;
 mod reading;
 mod two_files;
 
-use hir_def::{Collected, Def, Interner, Name, StructId};
+use hir_def::{Collected, Def, FunctionId, Interner, Name, StructId};
+use one_file::{CALL, position};
 use oracle::database;
 use reading::{derive_at, first_left_over, is_recorded, type_at_path, type_in_scope};
 use std::alloc::{AllocError, Global};
@@ -70,7 +73,7 @@ fn expands_a_call(alloc: Global) -> Result<bool, AllocError> {
     let name = session.intern_name("S")?;
     Ok(
         is_struct(&collected, 1, name)
-            && is_recorded(&collected, calls::position(), calls::CALL)
+            && is_recorded(&collected, position(calls::PLACE), CALL)
             && collected.outcome.macros.is_empty(),
     )
 }
@@ -84,7 +87,7 @@ fn replaces_an_item(alloc: Global) -> Result<bool, AllocError> {
     Ok(
         is_struct(&collected, 1, name)
             && type_in_scope(&collected, 0, replaced).is_none()
-            && is_recorded(&collected, attributes::position(), attributes::CALL),
+            && is_recorded(&collected, position(attributes::PLACE), CALL),
     )
 }
 
@@ -97,24 +100,42 @@ fn derives_beside_an_item(alloc: Global) -> Result<bool, AllocError> {
     Ok(
         type_in_scope(&collected, 0, name).is_some()
             && type_in_scope(&collected, 0, item).is_some()
-            && derive_at(&collected, derives::place()) == Some(derives::CALL),
+            && derive_at(&collected, derives::place()) == Some(CALL),
+    )
+}
+
+/// Whether a copy of a trait's items has the function that a macro gives beside those written.
+fn has_given_items(alloc: Global) -> Result<bool, AllocError> {
+    let mut session = Interner::new(alloc)?;
+    let Some(items) = assoc_items::collect(alloc, &mut session)? else {
+        return Ok(false);
+    };
+    let items = items.clone()?;
+    Ok(
+        items.method_by_name(&session.intern_name("b")?) == Some(FunctionId(1))
+            && items
+                .associated_type_by_name(&session.intern_name("c")?)
+                .is_some()
+            && items
+                .assoc_item_by_name(&session.intern_name("m")?)
+                .is_none(),
     )
 }
 
 #[test]
 fn examples_find_what_they_name(rt: HostRuntime) -> Result<(), Fail> {
     let alloc = rt.alloc();
-    assert!(rt; finds_second_file(alloc)?);
-    assert!(rt; takes_of_another(alloc)?);
-    assert!(rt; sees_around(alloc)?);
-    Ok(())
-}
-
-#[test]
-fn macros_give_what_is_written_down(rt: HostRuntime) -> Result<(), Fail> {
-    let alloc = rt.alloc();
-    assert!(rt; expands_a_call(alloc)?);
-    assert!(rt; replaces_an_item(alloc)?);
-    assert!(rt; derives_beside_an_item(alloc)?);
+    let examples = [
+        ("two files", finds_second_file(alloc)?),
+        ("dependencies", takes_of_another(alloc)?),
+        ("blocks", sees_around(alloc)?),
+        ("calls", expands_a_call(alloc)?),
+        ("attributes", replaces_an_item(alloc)?),
+        ("derives", derives_beside_an_item(alloc)?),
+        ("associated items", has_given_items(alloc)?),
+    ];
+    for (example, finds) in examples {
+        assert!(rt; finds, "{example}");
+    }
     Ok(())
 }

@@ -1,16 +1,13 @@
 //! A block of a function's body: `use S as T;`, in a crate with `pub struct S;`.
 
-use crate::examples::collecting::{collect_first, tree_of_file};
-use crate::examples::items::{add_item, crate_data, import_as, struct_of};
+use crate::examples::collecting::collect_first;
+use crate::examples::items::{add_item, import_as, plain, struct_of};
+use crate::examples::one_file::{CRATE, FILE, database};
 use hir_def::{
-    BlockId, BlockInfo, Collected, Crate, Database, DefMap, Edition, FileId, HirFileId, Interner,
-    ModuleId, Seq, SourceDatabase, TreeId, collect_defs,
+    BlockId, BlockInfo, Collected, DefMap, Edition, HirFileId, Interner, ModuleId, SourceDatabase,
+    TreeId, collect_defs,
 };
 use std::alloc::{AllocError, Global};
-
-const CRATE: Crate = Crate(0);
-
-const FILE: FileId = FileId(0);
 
 const BLOCK: BlockId = BlockId(0);
 
@@ -19,18 +16,6 @@ const BLOCK_TREE: TreeId = TreeId {
     file: HirFileId::File(FILE),
     block: Some(BLOCK),
 };
-
-/// A database of the crate and its block.
-fn database(alloc: Global, session: &mut Interner) -> Result<Database, AllocError> {
-    let mut db = Database::new(alloc);
-    let item = struct_of(session, "S")?;
-    add_item(alloc, &mut db, tree_of_file(FILE), item)?;
-    let item = import_as(alloc, session, "S", "T")?;
-    add_item(alloc, &mut db, BLOCK_TREE, item)?;
-    let no_deps = Seq::from_vec(Vec::new(alloc));
-    db.add_crate(CRATE, crate_data(FILE, no_deps))?;
-    Ok(db)
-}
 
 /// Collects the block, which stands in the root of its crate, over the finished maps of the crate.
 /// None where these are missing, or the block stands in modules that do not fit.
@@ -54,7 +39,10 @@ fn collect_block<D: SourceDatabase>(
 
 /// Collects the crate and then its block, in one session.
 pub fn collect(alloc: Global, session: &mut Interner) -> Result<Option<Collected>, AllocError> {
-    let mut db = database(alloc, session)?;
+    let items = vec![in alloc; plain(struct_of(session, "S")?)]?;
+    let mut db = database(alloc, items)?;
+    let item = import_as(alloc, session, "S", "T")?;
+    add_item(alloc, &mut db, BLOCK_TREE, item)?;
     collect_first(alloc, &mut db, session, CRATE, FILE)?;
     collect_block(alloc, session, &db)
 }

@@ -71,6 +71,14 @@ pub fn struct_of(session: &mut Interner, name: &str) -> Result<ModItemKind, Allo
     })
 }
 
+/// `pub trait T { .. }`, whose items are written down once it has a number.
+pub fn trait_of(session: &mut Interner, name: &str) -> Result<ModItemKind, AllocError> {
+    Ok(ModItemKind::Trait {
+        name: session.intern_name(name)?,
+        visibility: RawVisibility::Public,
+    })
+}
+
 /// `mod a;`, whose items stand in a file of their own.
 pub fn module_of(session: &mut Interner, name: &str) -> Result<ModItemKind, AllocError> {
     Ok(ModItemKind::Mod {

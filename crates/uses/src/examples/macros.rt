@@ -1,9 +1,10 @@
-//! Macros, and what they give: the items that define and call them, and the trees of expansions.
+//! Macros, and what they give: the items that define and call them, what calls answer, and the
+//! trees of expansions.
 
 use crate::examples::items::{add_item, path_of};
 use hir_def::{
-    Database, ExpandTo, FileAstId, FileId, HirFileId, InFile, Interner, MacroCallId, ModItemKind,
-    RawVisibility, SyntaxContext, TreeId,
+    CallAnswer, Database, ExpandTo, HirFileId, Interner, MacroCallId, ModItemKind, RawVisibility,
+    Seq, SyntaxContext, TreeId,
 };
 use std::alloc::{AllocError, Global};
 
@@ -35,11 +36,12 @@ pub fn call_of(
     })
 }
 
-/// Where an item of a file stands, by its number in the order of the text.
-pub fn position_in(file: FileId, number: usize) -> InFile<FileAstId> {
-    InFile {
-        file: HirFileId::File(file),
-        value: FileAstId(number),
+/// What a call answers that has an expansion, no error, and no calls among its arguments.
+pub fn answer_of(alloc: Global, call: MacroCallId) -> CallAnswer {
+    CallAnswer {
+        value: Some(call),
+        err: None,
+        inner: Seq::from_vec(Vec::new(alloc)),
     }
 }
 
