@@ -3,6 +3,7 @@
 //! worked out from the rules.
 
 mod attributes;
+mod macros;
 mod maps;
 mod paths;
 mod reports;
@@ -25,6 +26,8 @@ pub enum Asked {
     Reports,
     /// What attributes are, and what paths mean.
     Paths,
+    /// Which macros paths name in a module, by its index.
+    Macros(usize),
     /// What else is known of a map.
     Map,
 }
@@ -44,6 +47,9 @@ fn lines_of(alloc: Global, asked: Asked, row: &Fixture<'_>) -> Result<String, Fa
         Asked::Scope => scopes::write_scope(map, session, &mut lines)?,
         Asked::Reports => reports::write_reports(session, &collected, &mut lines)?,
         Asked::Paths => paths::write_paths(&mut workspace, &collected, &mut lines)?,
+        Asked::Macros(module) => {
+            macros::write_macros(&mut workspace, &collected, module, &mut lines)?;
+        }
         Asked::Map => maps::write_map(&mut workspace, &collected, &mut lines)?,
     }
     Ok(lines)

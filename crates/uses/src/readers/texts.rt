@@ -2,7 +2,7 @@
 
 use crate::readers::Asked;
 
-pub static TEXTS: [(Asked, &str); 9] = [
+pub static TEXTS: [(Asked, &str); 11] = [
     (
         Asked::Names(1),
         r#"a module sees what is textual, its scope, crates, their macros and the prelude
@@ -175,6 +175,50 @@ a: crate::a, pub(in crate::a), no macro a
 a::S::c: from 2 on: crate::a::S, no macro a::S::c
 a::T: no macro a::T
 b::T: missing, no macro b::T"#,
+    ),
+    (
+        Asked::Macros(1),
+        r#"a path names the first macro that fits
+crate 1 root 0
+crate 0 root 1 edition 2015
+dep std crate 1 prelude
+macro 1:5 by attr
+-- file
+pub mod prelude { pub mod rust_2015 { pub macro p {} } } #[macro_export] macro_rules! used {}
+-- file
+#[macro_use] extern crate std; macro_rules! t {} pub macro m {}
+mod a { pub macro n {} pub macro at {} }
+-- shows
+t: call crate::?,
+m: import crate::m,
+n: call crate::a::n,
+at: attribute crate::a::at,
+used: call macro_rules#0,
+p: call macro#0,
+a::n: import crate::a::n,
+gone:"#,
+    ),
+    (
+        Asked::Macros(0),
+        r#"and in a block one of the maps around it
+crate 1 root 0
+crate 0 root 1
+dep std crate 1 prelude
+-- file
+pub mod prelude { pub mod rust_2021 { pub macro p {} } }
+-- file
+macro_rules! t {} pub mod a { pub macro n {} pub macro m {} }
+-- block depth 0 in 1 0
+pub macro n {}
+-- shows
+t: call macro_rules#0, import macro_rules#0,
+m: call macro#2, import macro#2,
+n: call {block}::n, import {block}::n,
+at:
+used:
+p: call macro#0, import macro#0,
+a::n:
+gone:"#,
     ),
     (
         Asked::Map,
