@@ -324,22 +324,6 @@ fn print_impls<W: io::Write>(
     Ok(())
 }
 
-/// Hands what was collected to the database, with the items of its traits and impls, as far as the
-/// oracle of a row knows them, and answers which map it is.
-pub fn hand_over(
-    workspace: &mut Workspace,
-    collected: Collected,
-    unknown: &[Unknown],
-) -> Result<MapId, AllocError> {
-    let map = finish(workspace, collected)?;
-    add_trait_lists(workspace)?;
-    add_impl_lists(workspace)?;
-    for unknown in unknown {
-        forget(workspace, unknown);
-    }
-    Ok(map)
-}
-
 /// Prints the items of the traits and impls of what was collected, and then what a row asks about
 /// others and about names.
 pub fn print_items<W: io::Write>(
@@ -349,7 +333,12 @@ pub fn print_items<W: io::Write>(
     asks: &[AskText<'_>],
     out: &mut W,
 ) -> Result<(), Fault> {
-    let map = hand_over(workspace, collected, unknown)?;
+    let map = finish(workspace, collected)?;
+    add_trait_lists(workspace)?;
+    add_impl_lists(workspace)?;
+    for unknown in unknown {
+        forget(workspace, unknown);
+    }
     print_traits(workspace, map, out)?;
     print_impls(workspace, map, out)?;
     for ask in asks {

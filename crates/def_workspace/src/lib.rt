@@ -11,7 +11,7 @@ mod page;
 mod words;
 mod workspace;
 
-pub use assoc::{hand_over, print_items};
+pub use assoc::print_items;
 pub use collecting::collect;
 pub use command::{run, run_args};
 pub use def_collector::Collected;

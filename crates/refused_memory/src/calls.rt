@@ -2,7 +2,7 @@
 
 use crate::copies::copy;
 use crate::locations::{KINDS, add_location, count};
-use crate::maps::workspace_of;
+use crate::maps::asked;
 use crate::trial::Trial;
 use def_collector::AttrResolution;
 use def_ids::{Edition, ModuleId};
@@ -11,7 +11,7 @@ use def_map::{BlockInfo, DefMap};
 use def_parts::{
     ModDir, parse_macro_name_and_helper_attrs, parse_proc_macro_decl, parse_proc_macro_derive,
 };
-use def_workspace::{Fault, Fixture, Workspace, collect, hand_over};
+use def_workspace::{Fault, Fixture, Workspace};
 use item_tree::{
     Attr, AttrId, Attrs, AttrsOrCfg, BlockId, Crate, FileAstId, FileId, HirFileId, InFile,
     ModItemId, Name, NameTable, TreeId,
@@ -287,11 +287,7 @@ impl Trial for Call<'_, '_> {
     type Answer = bool;
 
     fn ready(&self, alloc: Global) -> Result<Workspace, Fault> {
-        let mut workspace = workspace_of(alloc, self.row)?;
-        if let Some(collected) = collect(&mut workspace, self.row)? {
-            hand_over(&mut workspace, collected, &[])?;
-        }
-        Ok(workspace)
+        asked(alloc, self.row)
     }
 
     fn answer(&self, workspace: &mut Workspace) -> Result<bool, Fault> {

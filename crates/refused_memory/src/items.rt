@@ -1,14 +1,15 @@
 //! The items of all traits and impls of a row asked for, once its crate is collected.
 
-use crate::maps::workspace_of;
+use crate::maps::{asked, workspace_of};
 use crate::trial::Trial;
 use def_assoc::{ImplItems, TraitItems};
 use def_ids::{ImplId, TraitId};
 use def_interner::LocationId;
 use def_rules::DefDiagnostics;
-use def_workspace::{Fault, Fixture, Workspace, collect, hand_over};
+use def_workspace::{Fault, Fixture, Workspace, collect};
 use std::alloc::{AllocError, Global};
 use std::io::Write;
+use std::mem;
 
 /// The items of the traits and impls of a row.
 #[derive(Clone, Copy)]
@@ -67,10 +68,11 @@ impl Trial for ItemsOf<'_, '_> {
     type Answer = Items;
 
     fn ready(&self, alloc: Global) -> Result<Workspace, Fault> {
-        let mut workspace = workspace_of(alloc, self.row)?;
-        if let Some(collected) = collect(&mut workspace, self.row)? {
-            hand_over(&mut workspace, collected, self.row.unknown.as_slice())?;
-        }
+        let mut workspace = asked(alloc, self.row)?;
+        // The session is one in which nothing was asked yet.
+        let mut other = workspace_of(alloc, self.row)?;
+        let _ = collect(&mut other, self.row)?;
+        mem::swap(&mut workspace.session, &mut other.session);
         Ok(workspace)
     }
 

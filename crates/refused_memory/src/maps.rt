@@ -2,7 +2,7 @@
 
 use crate::locations::fill;
 use crate::trial::Trial;
-use def_workspace::{Collected, Fault, Fixture, Workspace, collect, print};
+use def_workspace::{Collected, Fault, Fixture, Workspace, collect, print, print_items};
 use std::alloc::Global;
 
 /// The map of a row.
@@ -15,6 +15,23 @@ pub struct MapOf<'r, 't> {
 pub fn workspace_of(alloc: Global, row: &Fixture<'_>) -> Result<Workspace, Fault> {
     let mut workspace = Workspace::new(alloc, row)?;
     fill(&mut workspace.session)?;
+    Ok(workspace)
+}
+
+/// The workspace of a row whose crates are collected, and whose traits and impls were asked for
+/// their items.
+pub fn asked(alloc: Global, row: &Fixture<'_>) -> Result<Workspace, Fault> {
+    let mut workspace = workspace_of(alloc, row)?;
+    if let Some(collected) = collect(&mut workspace, row)? {
+        let mut lines: Vec<u8> = Vec::new(alloc);
+        print_items(
+            &mut workspace,
+            collected,
+            row.unknown.as_slice(),
+            &[],
+            &mut lines,
+        )?;
+    }
     Ok(workspace)
 }
 

@@ -2,7 +2,7 @@
 //! answer what they answer else.
 
 use crate::copies::path_of;
-use crate::maps::workspace_of;
+use crate::maps::asked;
 use crate::refusal::{end, refuse_from};
 use def_assoc::{ImplItems, TraitItems};
 use def_bindings::{BindingTable, ModuleTree, Namespace, VisOrder, Visibility};
@@ -14,7 +14,7 @@ use def_map::{
     ResolvePaths, Table,
 };
 use def_parts::{Globs, ModDir, ProcMacroDef, ProcMacroKind};
-use def_workspace::{Fault, Fixture, Part, Workspace, collect, hand_over, read_row};
+use def_workspace::{Fault, Fixture, Part, Workspace, collect, read_row};
 use item_tree::sym::{PATH, PROC_MACRO_DERIVE};
 use item_tree::{
     AttrId, Attrs, AttrsOrCfg, FileAstId, FileId, HirFileId, InFile, ItemNode, ItemTree, ModItemId,
@@ -369,11 +369,7 @@ fn map_of(
 
 /// What the calls are made on, but for what they take.
 fn subjects(alloc: Global, row: &Fixture<'_>) -> Result<Option<Subjects>, Fault> {
-    let mut workspace = workspace_of(alloc, row)?;
-    let Some(collected) = collect(&mut workspace, row)? else {
-        return Ok(None);
-    };
-    hand_over(&mut workspace, collected, &[])?;
+    let mut workspace = asked(alloc, row)?;
     let Some((map, local)) = map_of(&mut workspace, row)? else {
         return Ok(None);
     };

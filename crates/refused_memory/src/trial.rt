@@ -134,7 +134,11 @@ pub fn refuse_each<T: Trial, W: io::Write>(
     counts: &mut Counts,
     out: &mut W,
 ) -> Result<(), Fault> {
-    let known = known_of(alloc, trial)?;
+    let Ok(known) = known_of(alloc, trial) else {
+        writeln!(out, "{name}: it ends with a fault where memory is there")?;
+        counts.add_done(false);
+        return Ok(());
+    };
     let mut why = "there is no end of its requests";
     for number in 1..MOST {
         match turn(trial, &known, number)? {
