@@ -41,6 +41,10 @@ impl<'a> Reader<'a> {
         if !self.is_parenthesized() {
             return self.fail(ItemFault::WantedGroup);
         }
+        self.group()?;
+        if !self.is_pair(0, b'-', b'>') {
+            self.ends_head()?;
+        }
         let body = self.declaration()?;
         Ok(closed(ItemKind::Function { body }, name))
     }
@@ -50,10 +54,15 @@ impl<'a> Reader<'a> {
         self.generics()?;
         if self.is_parenthesized() {
             let fields = self.fields()?;
-            self.semicolon()?;
+            if self.word(0) == Word::Where {
+                self.semicolon()?;
+            } else {
+                self.semicolon_here()?;
+            }
             let constructor = Constructor::Fields(fields);
             return Ok(closed(ItemKind::Struct { constructor }, name));
         }
+        self.ends_head()?;
         let constructor = match self.declaration()? {
             Some(_) => Constructor::Absent,
             None => Constructor::Unit,
@@ -63,6 +72,8 @@ impl<'a> Reader<'a> {
 
     fn union_head(&mut self) -> Result<Head, Stop> {
         let name = Some(self.name()?);
+        self.generics()?;
+        self.ends_head()?;
         self.braced_declaration()?;
         Ok(closed(ItemKind::Union, name))
     }
@@ -75,6 +86,10 @@ impl<'a> Reader<'a> {
 
     fn trait_head(&mut self) -> Result<Head, Stop> {
         let name = Some(self.name()?);
+        self.generics()?;
+        if !self.is_mark(0, b':') && !self.is_mark(0, b'=') {
+            self.ends_head()?;
+        }
         // An alias of bounds ends with a `;`.
         let body = self.declaration()?;
         Ok(Head {
@@ -86,6 +101,10 @@ impl<'a> Reader<'a> {
 
     fn alias_head(&mut self) -> Result<Head, Stop> {
         let name = Some(self.name()?);
+        self.generics()?;
+        if !self.is_mark(0, b':') && !self.is_mark(0, b'=') {
+            self.ends_head()?;
+        }
         self.semicolon()?;
         Ok(closed(ItemKind::TypeAlias, name))
     }

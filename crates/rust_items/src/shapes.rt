@@ -73,6 +73,8 @@ impl<'a> Reader<'a> {
     pub(crate) fn variants(&mut self) -> Result<Span, Stop> {
         let from = self.list.variants.len();
         let outer_end = self.end;
+        self.generics()?;
+        self.ends_head()?;
         let within = self.braced_declaration()?;
         let after = self.at;
         self.set_place(within.from as usize, within.to as usize);

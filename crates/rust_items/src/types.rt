@@ -3,6 +3,7 @@
 use crate::fault::{ItemFault, Stop};
 use crate::item::Span;
 use crate::reader::Reader;
+use crate::words::Word;
 use rust_lexer::TokenKind;
 
 impl<'a> Reader<'a> {
@@ -72,6 +73,14 @@ impl<'a> Reader<'a> {
             return Ok(());
         }
         self.fail(ItemFault::WantedSemicolon)
+    }
+
+    /// Stops unless a body, a `;` or a `where` stands here.
+    pub(crate) fn ends_head(&self) -> Result<(), Stop> {
+        if self.is_braced() || self.is_mark(0, b';') || self.word(0) == Word::Where {
+            return Ok(());
+        }
+        self.fail(ItemFault::WantedBody)
     }
 
     /// Goes over what declares, with its body or its `;`, and answers the places within the body.

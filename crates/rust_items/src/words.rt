@@ -32,6 +32,7 @@ pub(crate) enum Word {
     Union,
     Unsafe,
     Use,
+    Where,
     /// Any other keyword of all editions.
     Keyword,
     /// No keyword.
@@ -120,9 +121,8 @@ fn word_of_five(bytes: &[u8]) -> Word {
         b"super" => Word::Super,
         b"trait" => Word::Trait,
         b"union" => Word::Union,
-        b"break" | b"false" | b"final" | b"match" | b"where" | b"while" | b"yield" => {
-            Word::Keyword
-        }
+        b"where" => Word::Where,
+        b"break" | b"false" | b"final" | b"match" | b"while" | b"yield" => { Word::Keyword }
         _ => Word::Other,
     }
 }

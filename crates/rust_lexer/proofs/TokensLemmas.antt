@@ -1,8 +1,7 @@
-use Rattle.std.proofs.Common.{ℕ, ◌<◌, ◌≤◌, List, [], ◌∷◌, ◌++◌, length, get_or, arith}
-use Rattle.std.specs.Prelude.{All, AllPairs}
+use Rattle.std.proofs.Common.{ℕ, ◌≤◌, List, [], ◌∷◌, ◌++◌, arith}
 use Rattle.std.proofs.lemmas.List.Elements.{All-push, All-weaker, All-nil}
 use Rattle.std.proofs.lemmas.List.Quantifiers.{all_pairs_push}
-use Rattle.rust_lexer.specs.Tokens.{IsSpan, AreTokensOf, AreTokensUpTo}
+use Rattle.rust_lexer.specs.Tokens.{IsSpan, AreTokensUpTo}
 use Rattle.rust_lexer.specs.declared.token.Token.{Token}
 
 -- No tokens at all.
