@@ -1,9 +1,10 @@
 -- What lists contain that are made piece by piece.
-use Rattle.std.proofs.Common.{◌≡◌, ◌⊎◌, inl, inr, ℕ, zero, suc, ◌+◌, ◌<◌, ◌≤◌, drop, List, [], ◌∷◌, ◌++◌, Option, Some, None, Contains, length, get_or, refl, sym, ◌∙◌, ap, subst, arith, append_assoc}
-use Rattle.std.specs.Prelude.{filter_map, flat_map}
+use Rattle.std.proofs.Common.{◌≡◌, ◌⊎◌, inl, inr, ℕ, zero, suc, ◌+◌, ◌<◌, ◌≤◌, drop, List, [], ◌∷◌, ◌++◌, Option, Some, None, All, Contains, length, get_or, refl, sym, ◌∙◌, ap, subst, arith, append_assoc}
+use Rattle.std.specs.Prelude.{AllPairs, filter_map, flat_map}
 use Rattle.std.specs.List.{cons_option}
 use Rattle.std.proofs.lemmas.List.{append-nil, at_drop_all, at_drop_more}
-use Rattle.std.proofs.lemmas.List.Elements.{Contains-append_left, Contains-append_right, Contains-append_cases}
+use Rattle.std.proofs.lemmas.List.Elements.{Contains-append_left, Contains-append_right, Contains-append_cases, Contains-get_or}
+use Rattle.std.proofs.lemmas.List.Kept.{AllPairs-cons}
 
 module _ {X : Type 0} where
   two_pieces : (b c : Option X) → cons_option b [] ++ cons_option c [] ≡ cons_option b (cons_option c [])
@@ -86,6 +87,46 @@ module _ {X Y : Type 0} where
         | inl first ↦ (z, Contains_head z zs, first)
         | inr rest ↦ let found = piece_of f zs y rest in (found.0, Contains_rest z zs found.0 found.1, found.2)
       ]
+
+-- what holds of each element
+pub all_of : {X : Type 0} (P : X → Type 0) (xs : List X) → ((x : X) → Contains xs x → P x) → All P xs
+all_of P xs each = λ k d within. each (get_or xs k d) (Contains-get_or xs k d within)
+
+module _ {X : Type 0} (R : X → X → Type 0) where
+  rest_pairs : (x : X) (xs : List X) → AllPairs R (x ∷ xs) → AllPairs R xs
+  rest_pairs x xs whole = λ i j d below within. whole (suc i) (suc j) d (omega (arith, below)) (omega (arith, within))
+
+  head_pairs : (x : X) (xs : List X) → AllPairs R (x ∷ xs) → (b : X) → Contains xs b → R x b
+  head_pairs x xs whole b (k, within, is) = subst (R x) is (whole 0 (suc k) b (omega arith) (omega (arith, within)))
+
+  -- of two lists, one after the other, where each element of the first goes with each of the second
+  pub pairs_behind : (xs ys : List X) → AllPairs R xs → AllPairs R ys → ((a b : X) → Contains xs a → Contains ys b → R a b) → AllPairs R (xs ++ ys)
+  pairs_behind [] ys first second across = second
+  pairs_behind (x ∷ xs) ys first second across =
+      AllPairs-cons R x (xs ++ ys)
+      (all_of (R x) (xs ++ ys) (λ b there. elim (Contains-append_cases xs ys b there) [
+        | inl own ↦ head_pairs x xs first b own
+        | inr other ↦ across x b (Contains_head x xs) other
+      ]))
+      (pairs_behind xs ys (rest_pairs x xs first) second (λ a b own other. across a b (Contains_rest x xs a own) other))
+
+-- of what is made of a list, element by element
+module _ {X Y : Type 0} (S : X → X → Type 0) (R : Y → Y → Type 0) where
+  pub pairs_found : (h : X → Option Y) (xs : List X) → AllPairs S xs → ((x z : X) → S x z → (a b : Y) → h x ≡ Some a → h z ≡ Some b → R a b) → AllPairs R (filter_map h xs)
+  pairs_found h [] whole across = λ i j d below within. absurd (omega (arith, within))
+  pairs_found h (x ∷ xs) whole across = by (pairs_found h xs (rest_pairs S x xs whole) across) (h x) refl
+    where
+      by : AllPairs R (filter_map h xs) → (o : Option Y) → h x ≡ o → AllPairs R (cons_option o (filter_map h xs))
+      by rest None e = rest
+      by rest (Some a) e =
+          AllPairs-cons R a (filter_map h xs)
+          (all_of (R a) (filter_map h xs) (λ b there. let found = found_of h xs b there in across x found.0 (head_pairs S x xs whole found.0 found.1) a b e found.2)) rest
+
+  pub pairs_of_pieces : (f : X → List Y) (xs : List X) → AllPairs S xs → ((x : X) → AllPairs R (f x)) → ((x z : X) → S x z → (a b : Y) → Contains (f x) a → Contains (f z) b → R a b) → AllPairs R (flat_map f xs)
+  pairs_of_pieces f [] whole each across = λ i j d below within. absurd (omega (arith, within))
+  pairs_of_pieces f (x ∷ xs) whole each across =
+      pairs_behind R (f x) (flat_map f xs) (each x) (pairs_of_pieces f xs (rest_pairs S x xs whole) each across)
+      (λ a b first second. let piece = piece_of f xs b second in across x piece.0 (head_pairs S x xs whole piece.0 piece.1) a b first piece.2)
 
 -- elements that a loop over a list gathers, those to come standing behind them
 module _ {X Y : Type 0} (f : X → List Y) (xs : List X) (i : ℕ) where

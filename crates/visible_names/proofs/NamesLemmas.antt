@@ -1,10 +1,11 @@
--- The lists of names in which all names of a source stand.
-use Rattle.std.proofs.Common.{◌≡◌, ◌≤◌, Bool, true, false, List, [], Option, Some, None, Contains, length, refl, sym, ap, subst, ◌∙◌, reverse, slice_get, is_some}
+-- The lists of names in which all names of a source stand, each once.
+use Rattle.std.proofs.Common.{◌≡◌, ◌≤◌, arith, Bool, true, false, List, [], Option, Some, None, Contains, length, refl, sym, ap, subst, ◌∙◌, reverse, slice_get, is_some}
 use Rattle.std.specs.Prelude.{◌||◌, if◌then◌else◌}
 use Rattle.std.specs.Option.{option_map, option_map_or, option_and_then}
 use Rattle.std.proofs.lemmas.Map.Views.{Contains-from_any, Contains-keys_from_lookup}
+use Rattle.std.proofs.lemmas.Map.Keys.{apart_from_distinct}
 use Rattle.std.proofs.lemmas.Option.{slice_get_past}
-use Rattle.indexmap.specs.IndexMap.{IndexMap, get, keys}
+use Rattle.indexmap.specs.IndexMap.{IndexMap, IsUnique, get, keys}
 use Rattle.tree_ids.specs.declared.name.Name.{Name}
 use Rattle.def_ids.specs.declared.ids.Def.TheVariants.{Macro}
 use Rattle.def_ids.specs.declared.ids.MacroId.{MacroId}
@@ -15,6 +16,7 @@ use Rattle.def_bindings.specs.IdLaws.{name-eq, same_map_itself}
 use Rattle.def_bindings.specs.declared.bindings.Namespace.{Namespace}
 use Rattle.def_bindings.specs.declared.bindings.Namespace.TheVariants.{Types, Values, Macros}
 use Rattle.def_bindings.specs.declared.visibility.Visibility.{Visibility}
+use Rattle.def_tables.specs.Lists.{AreDistinct}
 use Rattle.def_map.specs.declared.def_map.DefMap.{DefMap}
 use Rattle.def_map.specs.declared.item_scope.ItemScope.{ItemScope}
 use Rattle.def_map.specs.DefMaps.{state_of, view_of}
@@ -129,3 +131,11 @@ lists_unless place source names all name ns item e = by (is_block_root place) e
 pub outside_is : (b : Bool) (source : Namespace → Option Item) → (if b then nothing else per_namespace source) ≡ per_namespace (λ ns. if b then None else source ns)
 outside_is true source = refl
 outside_is false source = refl
+
+-- the keys of a map are names that differ
+pub keys_once : {V S : Type 0} (m : IndexMap Name V S) (names : List Name) → names ≡ keys m → IsUnique is_name m → AreDistinct names
+keys_once m names is unique =
+    subst AreDistinct (sym is) (λ i j d below within. apart_from_distinct is_name (keys m) i j d unique below within)
+
+pub none_once : AreDistinct []
+none_once = λ i j d below within. absurd (omega (arith, within))

@@ -1,14 +1,17 @@
 -- What is added to the list, and what it then shows.
 use Rattle.std.proofs.Common.{◌≡◌, inl, inr, ◌+◌, ◌≤◌, ◌<◌, ℕ, zero, suc, get_or, List, [], ◌∷◌, ◌++◌, Option, Some, None, Contains, refl, sym, ap, subst, ◌∙◌, arith, is_some}
-use Rattle.std.specs.Prelude.{◌↔◌, option_map, All, AllPairs, if◌then◌else◌}
-use Rattle.std.specs.List.{cons_option}
+use Rattle.std.specs.Prelude.{◌↔◌, false, option_map, AllPairs, if◌then◌else◌}
+use Rattle.std.specs.List.{cons_option, IsDistinct}
 use Rattle.std.proofs.lemmas.List.Elements.{Contains-append_left, Contains-append_right, Contains-append_cases, Contains-get_or}
-use Rattle.std.proofs.lemmas.List.Kept.{AllPairs-cons}
-use Rattle.std.proofs.lemmas.Bool.{cases_lt}
+use Rattle.std.proofs.lemmas.Map.Keys.{apart_from_distinct}
+use Rattle.std.proofs.lemmas.Bool.{cases_lt, false≢true}
 use Rattle.tree_ids.specs.declared.name.Name.{Name}
 use Rattle.def_ids.specs.declared.ids.ModuleId.{ModuleId}
 use Rattle.def_bindings.specs.declared.bindings.Namespace.{Namespace}
 use Rattle.def_bindings.specs.declared.bindings.Namespace.TheVariants.{Types, Values, Macros}
+use Rattle.def_bindings.specs.Content.{is_name, is_namespace}
+use Rattle.def_bindings.specs.IdLaws.{name-refl, namespace-refl}
+use Rattle.def_tables.specs.Lists.{AreDistinct}
 use Rattle.def_modules.specs.MapView.{MapView, LocalView}
 use Rattle.def_oracle.specs.Oracle.{Oracle}
 use Rattle.def_sources.specs.declared.per_ns.PerNs.{PerNs}
@@ -17,9 +20,9 @@ use Rattle.def_sources.specs.Sources.{Question}
 use Rattle.visible_names.specs.declared.brought.BroughtBy.{BroughtBy}
 use Rattle.visible_names.specs.declared.brought.BroughtBy.TheVariants.{TextualMacro, Scope, ExternPrelude, MacroUsePrelude, Prelude}
 use Rattle.visible_names.specs.declared.brought.VisibleName.{VisibleName}
-use Rattle.visible_names.specs.Visible.{asking, source_of, has, before, brings, brought, brought_as, brought_over, all_brought, rank, AddsAll, Lists, ShowsAll}
-use Rattle.visible_names.proofs.ListsLemmas.{three_pieces, Contains_head, Contains_rest, Contains_none, Contains_found, found_of, Contains_piece, piece_of}
-use Rattle.visible_names.proofs.PathsLemmas.{is_unless, brought_meant, meant_brought}
+use Rattle.visible_names.specs.Visible.{asking, source_of, has, before, brings, brought, brought_as, brought_over, all_brought, rank, AddsAll, AreApart, Lists, ShowsAll}
+use Rattle.visible_names.proofs.ListsLemmas.{three_pieces, Contains_head, Contains_rest, Contains_none, Contains_found, found_of, Contains_piece, piece_of, pairs_behind, pairs_found, pairs_of_pieces}
+use Rattle.visible_names.proofs.PathsLemmas.{is_unless, brought_meant, hidden, meant_brought}
 
 module _ (q : Question) (own : MapView) (place : ModuleId) (by : BroughtBy) (name : Name) where
   abbrev entry : Namespace → Option Item → Option Item → Option VisibleName
@@ -48,6 +51,10 @@ each_namespace Types = Contains_head Types (Values ∷ Macros ∷ [])
 each_namespace Values = Contains_rest Types (Values ∷ Macros ∷ []) Values (Contains_head Values (Macros ∷ []))
 each_namespace Macros = Contains_rest Types (Values ∷ Macros ∷ []) Macros (Contains_rest Values (Macros ∷ []) Macros (Contains_head Macros []))
 
+namespaces_apart : AllPairs (λ (a b : Namespace). is_namespace a b ≡ false) (Types ∷ Values ∷ Macros ∷ [])
+unfolding IsDistinct
+namespaces_apart i j d below within = apart_from_distinct is_namespace (Types ∷ Values ∷ Macros ∷ []) i j d ((refl, (refl, tt)), ((refl, tt), (tt, tt))) below within
+
 module _ (q : Question) (own : MapView) (place : ModuleId) (by : BroughtBy) where
   -- what a source brings it has
   had_of : (name : Name) (ns : Namespace) (item : Item) → brings q own place by name ns ≡ Some item → source_of q own place by name ns ≡ Some item
@@ -73,39 +80,40 @@ module _ (q : Question) (own : MapView) (place : ModuleId) (by : BroughtBy) wher
       (Contains_found (λ ns. option_map (brought_as by e.name ns) (brings q own place by e.name ns)) (Types ∷ Values ∷ Macros ∷ []) e.ns e (each_namespace e.ns)
       (ap (option_map (brought_as by e.name e.ns)) is ∙ (λ i. Some (brought_as (sym same i) e.name e.ns e.item))))
 
+  -- a name is listed once in each namespace
+  once_each : (name : Name) → AllPairs AreApart (brought q own place by name)
+  once_each name =
+      pairs_found (λ (a b : Namespace). is_namespace a b ≡ false) AreApart (λ ns. option_map (brought_as by name ns) (brings q own place by name ns)) (Types ∷ Values ∷ Macros ∷ []) namespaces_apart
+      (λ ns ns' other a b first second named spaced.
+      let one = entry_is q own place by name (brings q own place by name ns) ns a first in
+      let two = entry_is q own place by name (brings q own place by name ns') ns' b second in
+      false≢true (sym other ∙ ap (is_namespace ns) (sym two.1 ∙ sym spaced ∙ one.1) ∙ namespace-refl ns))
+
+  of_name : (name : Name) (e : VisibleName) → Contains (brought q own place by name) e → e.name ≡ name
+  of_name name e there =
+      let found = found_of (λ ns. option_map (brought_as by name ns) (brings q own place by name ns)) (Types ∷ Values ∷ Macros ∷ []) e there in
+      (entry_is q own place by name (brings q own place by name found.0) found.0 e found.2).0
+
+  -- and names that differ are listed apart
+  added_once : (names : List Name) → AreDistinct names → AllPairs AreApart (all_brought q own place by names)
+  added_once names distinct =
+      pairs_of_pieces (λ (a b : Name). is_name a b ≡ false) AreApart (brought q own place by) names distinct once_each
+      (λ name other apart a b first second named spaced.
+      false≢true (sym apart ∙ ap (is_name name) (sym (of_name other b second) ∙ sym named ∙ of_name name a first) ∙ name-refl name))
+
   -- so they are added
-  pub added_all : (old new : List VisibleName) (names : List Name) → Lists (source_of q own place by) names → new ≡ old ++ all_brought q own place by names → AddsAll q own place by old new
-  added_all old new names all is = record {
+  pub added_all : (old new : List VisibleName) (names : List Name) → Lists (source_of q own place by) names → AreDistinct names → new ≡ old ++ all_brought q own place by names → AddsAll q own place by old new
+  added_all old new names all distinct is = record {
     added = all_brought q own place by names;
     behind = is;
     exact = λ e. (listed_brings names e, λ (given : (e.by ≡ by) × (brings q own place by e.name e.ns ≡ Some e.item)). brings_listed names all e given.0 given.1);
+    once = added_once names distinct;
   }
-
--- what holds of each element
-all_of : {X : Type 0} (P : X → Type 0) (xs : List X) → ((x : X) → Contains xs x → P x) → All P xs
-all_of P xs each = λ k d within. each (get_or xs k d) (Contains-get_or xs k d within)
 
 -- lists whose elements do not fall
 module _ {X : Type 0} (n : X → ℕ) where
   abbrev pub Rises : List X → Type 0
   Rises xs = AllPairs (λ (a b : X). n a ≤ n b) xs
-
-  rest_rises : (x : X) (xs : List X) → Rises (x ∷ xs) → Rises xs
-  rest_rises x xs whole = λ i j d below within. whole (suc i) (suc j) d (omega (arith, below)) (omega (arith, within))
-
-  head_below : (x : X) (xs : List X) → Rises (x ∷ xs) → (b : X) → Contains xs b → n x ≤ n b
-  head_below x xs whole b (k, within, is) = subst (λ (y : X). n x ≤ n y) is (whole 0 (suc k) b (omega arith) (omega (arith, within)))
-
-  -- one after the other, where none of the first is above one of the second
-  rises_behind : (xs ys : List X) → Rises xs → Rises ys → ((a b : X) → Contains xs a → Contains ys b → n a ≤ n b) → Rises (xs ++ ys)
-  rises_behind [] ys first second apart = second
-  rises_behind (x ∷ xs) ys first second apart =
-      AllPairs-cons (λ (a b : X). n a ≤ n b) x (xs ++ ys)
-      (all_of (λ b. n x ≤ n b) (xs ++ ys) (λ b there. elim (Contains-append_cases xs ys b there) [
-        | inl own ↦ head_below x xs first b own
-        | inr other ↦ apart x b (Contains_head x xs) other
-      ]))
-      (rises_behind xs ys (rest_rises x xs first) second (λ a b own other. apart a b (Contains_rest x xs a own) other))
 
   -- elements that are all as high
   level_rises : (top : ℕ) (xs : List X) → ((x : X) → Contains xs x → n x ≡ top) → Rises xs
@@ -148,11 +156,13 @@ module _ (oracle : Oracle) (own : MapView) (local : LocalView) (place : ModuleId
   record ShowsBelow (top : ℕ) (list : List VisibleName) : Type 0 where
     exact : (x : VisibleName) → Contains list x ↔ ((rank x.by < top) × Brings x)
     rises : Rises (λ (x : VisibleName). rank x.by) list
+    once : AllPairs AreApart list
 
   shows_none : ShowsBelow 0 []
   shows_none = record {
     exact = λ x. (λ there. absurd (Contains_none x there), λ (given : (rank x.by < 0) × Brings x). absurd (omega (arith, given.0)));
     rises = λ i j d below within. absurd (omega (arith, within));
+    once = λ i j d below within. absurd (omega (arith, within));
   }
 
   -- and the next one
@@ -170,9 +180,14 @@ module _ (oracle : Oracle) (own : MapView) (local : LocalView) (place : ModuleId
       ]),
     );
     rises = subst (Rises (λ (x : VisibleName). rank x.by)) (sym adds.behind) (
-        rises_behind (λ (x : VisibleName). rank x.by) old adds.added before.rises
+        pairs_behind (λ (a b : VisibleName). rank a.by ≤ rank b.by) old adds.added before.rises
         (level_rises (λ (x : VisibleName). rank x.by) (rank by) adds.added (λ x there. ap rank ((adds.exact x).0 there).0))
         (λ a b first second. let lower = ((before.exact a).0 first).0 in let top = ap rank ((adds.exact b).0 second).0 in omega (arith, lower, top)));
+    once = subst (AllPairs AreApart) (sym adds.behind) (pairs_behind AreApart old adds.added before.once adds.once (λ a b first second named spaced.
+        let earlier = (before.exact a).0 first in
+        let later = (adds.exact b).0 second in
+        hidden oracle own local place a.name a.by b.by a.ns a.item b.item (omega (arith, earlier.0, ap rank later.0)) earlier.1
+        ((λ i. brings (asking oracle local) own place (later.0 i) (named i) (spaced i)) ∙ later.1)));
   }
 
   -- after all sources, the list shows all
@@ -184,10 +199,11 @@ module _ (oracle : Oracle) (own : MapView) (local : LocalView) (place : ModuleId
       shown : ShowsBelow 5 p → ShowsAll oracle own local place p
       shown all = record {
         exact = λ x. (λ there. ((all.exact x).0 there).1, λ given. (all.exact x).1 (rank_below x.by, given));
+        once = all.once;
         in_order = all.rises;
-        means = λ session x there. brought_meant oracle session own local place x.name x.by x.ns x.item ((all.exact x).0 there).1;
-        covers = λ no_root session name ns item is. elim (meant_brought oracle session own local place name no_root ns item is) [
+        means = λ session x there. brought_meant oracle own local place x.name session x.by x.ns x.item ((all.exact x).0 there).1;
+        covers = λ session name ns item is. elim (meant_brought oracle own local place name session ns item is) [
           | inl found ↦ inl (found.0, (all.exact (brought_as found.0 name ns item)).1 (rank_below found.0, found.1))
-          | inr builtin ↦ inr builtin
+          | inr other ↦ inr other
         ];
       }

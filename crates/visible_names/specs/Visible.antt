@@ -1,5 +1,5 @@
 -- What a module sees of the names around it.
-use Rattle.std.specs.Prelude.{◌≡◌, ◌≤◌, ℕ, false, ◌↔◌, ◌⊎◌, List, [], ◌∷◌, ◌++◌, filter_map, flat_map, Option, None, Some, option_map, is_some, Contains, AllPairs, if◌then◌else◌}
+use Rattle.std.specs.Prelude.{◌≡◌, ◌≤◌, ℕ, true, ◌↔◌, ◌⊎◌, List, [], ◌∷◌, ◌++◌, filter_map, flat_map, Option, None, Some, option_map, is_some, Contains, AllPairs, if◌then◌else◌}
 use Rattle.std.specs.List.{cons_option}
 use Rattle.item_tree.specs.declared.mod_path.ModPath.{ModPath}
 use Rattle.item_tree.specs.declared.mod_path.PathKind.TheVariants.{Plain}
@@ -14,7 +14,9 @@ use Rattle.def_oracle.specs.Oracle.{Oracle}
 use Rattle.def_sources.specs.declared.per_ns.PerNs.{PerNs}
 use Rattle.def_sources.specs.Modes.{for_module}
 use Rattle.def_sources.specs.PerNs.{Item, in_namespace, nothing, otherwise, per_namespace}
-use Rattle.def_sources.specs.Sources.{Question, Source, world_of, textual_source, scope_source, builtin_source, extern_source, macro_use_source, prelude_source, unless_block_root}
+use Rattle.def_sources.specs.Sources.{Question, Source, question_of, world_of, textual_source, scope_source, builtin_source, extern_source, macro_use_source, prelude_source, unless_block_root}
+use Rattle.def_paths.specs.Answers.{first_resolved}
+use Rattle.def_paths.specs.OuterMaps.{answers_outside}
 use Rattle.def_paths.specs.Paths.{resolve}
 use Rattle.visible_names.specs.declared.brought.BroughtBy.{BroughtBy}
 use Rattle.visible_names.specs.declared.brought.BroughtBy.TheVariants.{TextualMacro, Scope, ExternPrelude, MacroUsePrelude, Prelude}
@@ -81,11 +83,16 @@ all_brought q own place by names = flat_map (brought q own place by) names
 abbrev pub Lists : Source → List Name → Type 0
 Lists source names = (name : Name) (ns : Namespace) (item : Item) → source name ns ≡ Some item → Contains names name
 
--- all that a source brings was added behind the others, and nothing else
+-- two entries that are of two names, or in two namespaces
+abbrev pub AreApart : VisibleName → VisibleName → Type 0
+AreApart a b = a.name ≡ b.name → a.ns ≡ b.ns → ⊥
+
+-- all that a source brings was added behind the others, none of it twice, and nothing else
 pub record AddsAll (q : Question) (own : MapView) (place : ModuleId) (by : BroughtBy) (old new : List VisibleName) : Type 0 where
   pub added : List VisibleName
   pub behind : new ≡ old ++ added
   pub exact : (e : VisibleName) → Contains added e ↔ ((e.by ≡ by) × (brings q own place by e.name e.ns ≡ Some e.item))
+  pub once : AllPairs AreApart added
 
 -- a plain path of one name
 abbrev pub lone : Name → ModPath
@@ -95,6 +102,11 @@ lone name = record { kind = Plain; segments = name ∷ [] }
 abbrev pub meant : Oracle → Session → MapView → LocalView → ModuleId → Name → Namespace → Option Item
 meant oracle session own local place name ns =
     in_namespace (resolve (world_of oracle session own local) for_module place (lone name)).resolved_def ns
+
+-- what such a path means in the maps around a block, the first of them that has it
+abbrev pub meant_around : Oracle → Session → MapView → LocalView → Name → Namespace → Option Item
+meant_around oracle session own local name ns =
+    first_resolved (λ p. in_namespace p ns) (answers_outside (question_of oracle session local for_module) (lone name) [] own.facts.containing)
 
 -- how many sources are asked before this one
 abbrev pub rank : BroughtBy → ℕ
@@ -108,10 +120,13 @@ rank Prelude = 4
 pub record ShowsAll (oracle : Oracle) (own : MapView) (local : LocalView) (place : ModuleId) (list : List VisibleName) : Type 0 where
   -- it has what each source brings, and nothing else
   pub exact : (e : VisibleName) → Contains list e ↔ (brings (asking oracle local) own place e.by e.name e.ns ≡ Some e.item)
+  -- no name stands twice in a namespace
+  pub once : AllPairs AreApart list
   -- sources stand in the order in which they are asked
   pub in_order : AllPairs (λ (a b : VisibleName). rank a.by ≤ rank b.by) list
   -- a plain path of the name means the item
   pub means : (session : Session) (e : VisibleName) → Contains list e → meant oracle session own local place e.name e.ns ≡ Some e.item
-  -- what such a path means is listed, or is a builtin type; only a block's root looks further
-  pub covers : is_block_root place ≡ false → (session : Session) (name : Name) (ns : Namespace) (item : Item) → meant oracle session own local place name ns ≡ Some item
-      → ((by : BroughtBy) × Contains list (brought_as by name ns item)) ⊎ (builtin_source (asking oracle local) own name ns ≡ Some item)
+  -- what such a path means is listed, or is a builtin type, or a block's root finds it in the maps around the block
+  pub covers : (session : Session) (name : Name) (ns : Namespace) (item : Item) → meant oracle session own local place name ns ≡ Some item
+      → ((by : BroughtBy) × Contains list (brought_as by name ns item)) ⊎ ((builtin_source (asking oracle local) own name ns ≡ Some item)
+      ⊎ ((is_block_root place ≡ true) × (meant_around oracle session own local name ns ≡ Some item)))

@@ -7,6 +7,7 @@ ghost use Rattle.def_ids.specs.Ids.{is_block_root};
 ghost use Rattle.def_sources.specs.PerNs.{nothing, per_namespace};
 ghost use Rattle.def_sources.specs.Sources.{map_of_id, scope_source, textual_source, builtin_source, extern_source, macro_use_source, prelude_source};
 ghost use Rattle.def_sources.specs.Tables.{bound_by};
+ghost use Rattle.def_tables.specs.Lists.{AreDistinct};
 ghost use Rattle.visible_names.specs.Visible.{asking, has, inside, before, all_brought, brought, brought_over, source_of, AddsAll, Lists};
 
 use crate::brought::{BroughtBy, VisibleName};
@@ -271,8 +272,9 @@ impl<'a, D: SourceDatabase> Seen<'a, D> {
     /// The names for which a module of this map has textual macros.
     fn textual_names(&self) -> &'a [Name]
         requires { self.now.place.map ≡ (view_of self.now.map.now).facts.id }
-        ensures { let q = asking (D.oracle self.now.db.now) (local_view self.now.local.now) in
+        ensures all { let q = asking (D.oracle self.now.db.now) (local_view self.now.local.now) in
             Lists (textual_source q (view_of self.now.map.now) self.now.place) result.now }
+        ensures once { AreDistinct result.now }
     {
         match self.map.scope(self.place.index) {
             Some(scope) => scope.legacy_macros().keys().as_slice(),
@@ -282,8 +284,9 @@ impl<'a, D: SourceDatabase> Seen<'a, D> {
 
     /// The names that a module's scope binds, also in another map.
     fn scope_names(&self, place: ModuleId) -> &'a [Name]
-        ensures { let q = asking (D.oracle self.now.db.now) (local_view self.now.local.now) in
+        ensures all { let q = asking (D.oracle self.now.db.now) (local_view self.now.local.now) in
             Lists (scope_source q (view_of self.now.map.now) place) result.now }
+        ensures once { AreDistinct result.now }
     {
         match self.table_of(place.map) {
             Some(table) => {
@@ -296,23 +299,26 @@ impl<'a, D: SourceDatabase> Seen<'a, D> {
 
     /// The names of other crates.
     fn extern_names(&self) -> &'a [Name]
-        ensures { let q = asking (D.oracle self.now.db.now) (local_view self.now.local.now) in
+        ensures all { let q = asking (D.oracle self.now.db.now) (local_view self.now.local.now) in
             Lists (extern_source q) result.now }
+        ensures once { AreDistinct result.now }
     {
         self.local.extern_prelude.keys().as_slice()
     }
 
     /// The names of the macros that extern crates brought.
     fn macro_use_names(&self) -> &'a [Name]
-        ensures { Lists (macro_use_source (view_of self.now.map.now)) result.now }
+        ensures all { Lists (macro_use_source (view_of self.now.map.now)) result.now }
+        ensures once { AreDistinct result.now }
     {
         self.map.macro_use_prelude().keys().as_slice()
     }
 
     /// The names that the prelude module binds.
     fn prelude_names(&self) -> &'a [Name]
-        ensures { let q = asking (D.oracle self.now.db.now) (local_view self.now.local.now) in
+        ensures all { let q = asking (D.oracle self.now.db.now) (local_view self.now.local.now) in
             Lists (prelude_source q (view_of self.now.map.now)) result.now }
+        ensures once { AreDistinct result.now }
     {
         match self.map.prelude() {
             Some(prelude) => self.scope_names(prelude),
@@ -323,8 +329,9 @@ impl<'a, D: SourceDatabase> Seen<'a, D> {
     /// The names that a source has.
     fn names(&self, by: BroughtBy) -> &'a [Name]
         requires { self.now.place.map ≡ (view_of self.now.map.now).facts.id }
-        ensures { let q = asking (D.oracle self.now.db.now) (local_view self.now.local.now) in
+        ensures all { let q = asking (D.oracle self.now.db.now) (local_view self.now.local.now) in
             Lists (source_of q (view_of self.now.map.now) self.now.place by) result.now }
+        ensures once { AreDistinct result.now }
     {
         match by {
             BroughtBy::TextualMacro => self.textual_names(),
