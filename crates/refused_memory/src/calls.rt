@@ -278,12 +278,12 @@ fn call(workspace: &mut Workspace, number: usize) -> Result<bool, AllocError> {
 
 /// A call, in the workspace of a row.
 #[derive(Clone, Copy)]
-pub struct Call<'r, 't> {
+pub struct CallOf<'r, 't> {
     pub row: &'r Fixture<'t>,
     pub number: usize,
 }
 
-impl Trial for Call<'_, '_> {
+impl Trial for CallOf<'_, '_> {
     type Answer = bool;
 
     fn ready(&self, alloc: Global) -> Result<Workspace, Fault> {

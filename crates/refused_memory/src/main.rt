@@ -16,7 +16,7 @@ mod rows;
 mod tables;
 mod trial;
 
-use calls::{CALLS, Call, name_of};
+use calls::{CALLS, CallOf, name_of};
 use counts::Counts;
 use def_bindings::Visibility;
 use def_map::Table;
@@ -89,7 +89,7 @@ fn try_calls<W: io::Write>(alloc: Global, all: &mut Counts, out: &mut W) -> Resu
     let row = read_row(alloc, Part { text, line: 1 })?;
     for number in 0..CALLS {
         let name = name_of(number);
-        let call = Call { row: &row, number };
+        let call = CallOf { row: &row, number };
         let mut counts = Counts::NONE;
         refuse_each(alloc, &call, name, &mut counts, out)?;
         counts.tell(name, all, out)?;

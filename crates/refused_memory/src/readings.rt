@@ -368,7 +368,7 @@ fn map_of(
 }
 
 /// What the calls are made on, but for what they take.
-fn subjects(alloc: Global, row: &Fixture<'_>) -> Result<Option<Subjects>, Fault> {
+fn subjects_of(alloc: Global, row: &Fixture<'_>) -> Result<Option<Subjects>, Fault> {
     let mut workspace = asked(alloc, row)?;
     let Some((map, local)) = map_of(&mut workspace, row)? else {
         return Ok(None);
@@ -397,7 +397,7 @@ fn subjects(alloc: Global, row: &Fixture<'_>) -> Result<Option<Subjects>, Fault>
 /// none where one was refused.
 fn answers(alloc: Global, row: &Fixture<'_>, refuses: bool) -> Result<Option<Vec<u8>>, Fault> {
     let mut out = Vec::with_capacity(alloc, ROOM)?;
-    let (Some(mut subjects), written) = (subjects(alloc, row)?, written(alloc)?) else {
+    let (Some(mut subjects), written) = (subjects_of(alloc, row)?, written(alloc)?) else {
         return Ok(None);
     };
     let Some((map, _)) = map_of(&mut subjects.workspace, row)? else {

@@ -99,7 +99,7 @@ fn turn_from<T: Trial>(trial: &T, known: &Known, number: usize) -> Result<Turn, 
 }
 
 /// One turn, in which the request of this number is refused.
-fn turn<T: Trial>(trial: &T, known: &Known, number: usize) -> Result<Turn, Fault> {
+fn one_turn<T: Trial>(trial: &T, known: &Known, number: usize) -> Result<Turn, Fault> {
     let alloc = known.ready.alloc;
     let mut workspace = trial.ready(alloc)?;
     refuse(alloc, number);
@@ -141,7 +141,7 @@ pub fn refuse_each<T: Trial, W: io::Write>(
     };
     let mut why = "there is no end of its requests";
     for number in 1..MOST {
-        match turn(trial, &known, number)? {
+        match one_turn(trial, &known, number)? {
             Turn::Refused => counts.add_refused(),
             Turn::Again => counts.add_again(),
             Turn::Whole => {
