@@ -229,9 +229,9 @@ impl<'a> Reader<'a> {
             self.skip(2);
         }
         for _ in self.at..self.end {
-            let is_path_word = matches!(self.word(0), Word::Crate | Word::SelfPath | Word::Super);
+            let is_segment = self.word(0).is_segment();
             let is_dollar = self.kind(0) == Some(TokenKind::DollarCrate);
-            if !self.names(0) && !is_path_word && !is_dollar {
+            if !self.names(0) && !is_segment && !is_dollar {
                 return self.fail(ItemFault::WantedItem);
             }
             self.skip(1);

@@ -43,8 +43,8 @@ impl<'a> Reader<'a> {
 
     /// Takes the name of a segment.
     fn segment_name(&mut self) -> Result<Token, Stop> {
-        let is_path_word = matches!(self.word(0), Word::Crate | Word::SelfPath | Word::Super);
-        if self.names(0) || is_path_word || self.kind(0) == Some(TokenKind::DollarCrate) {
+        let is_segment = self.word(0).is_segment();
+        if self.names(0) || is_segment || self.kind(0) == Some(TokenKind::DollarCrate) {
             return self.token(ItemFault::WantedImport);
         }
         self.fail(ItemFault::WantedImport)

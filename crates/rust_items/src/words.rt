@@ -23,6 +23,7 @@ pub(crate) enum Word {
     Pub,
     Safe,
     SelfPath,
+    SelfType,
     Static,
     Struct,
     Super,
@@ -52,6 +53,14 @@ impl Word {
                 | Word::MacroRules
                 | Word::Safe
                 | Word::Union
+        )
+    }
+
+    /// Whether the word is a segment of paths, and no name.
+    pub(crate) fn is_segment(self) -> bool {
+        matches!(
+            self,
+            Word::Crate | Word::SelfPath | Word::SelfType | Word::Super
         )
     }
 
@@ -105,8 +114,9 @@ fn word_of_four(bytes: &[u8]) -> Word {
         b"impl" => Word::Impl,
         b"safe" => Word::Safe,
         b"self" => Word::SelfPath,
+        b"Self" => Word::SelfType,
         b"type" => Word::Type,
-        b"Self" | b"else" | b"loop" | b"move" | b"priv" | b"true" => Word::Keyword,
+        b"else" | b"loop" | b"move" | b"priv" | b"true" => Word::Keyword,
         _ => Word::Other,
     }
 }

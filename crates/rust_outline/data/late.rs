@@ -1,0 +1,5 @@
+fn a() {}
+/// é
+fn b() {}
+
+/*! inner of nothing */
