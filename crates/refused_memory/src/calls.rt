@@ -17,7 +17,6 @@ use item_tree::{
     ModItemId, Name, NameTable, TreeId,
 };
 use std::alloc::{AllocError, Global};
-use std::io::Write;
 
 /// The row in whose workspace the calls are made.
 pub static ROW: &str = "
@@ -290,20 +289,21 @@ impl Trial for CallOf<'_, '_> {
         asked(alloc, self.row)
     }
 
+    // Another answer than it should be is a fault.
     fn answer(&self, workspace: &mut Workspace) -> Result<bool, Fault> {
-        Ok(call(workspace, self.number)?)
+        if call(workspace, self.number)? {
+            Ok(true)
+        } else {
+            Err(Fault::Output)
+        }
     }
 
     fn write(
         &self,
         _workspace: &Workspace,
-        answer: &bool,
-        lines: &mut Vec<u8>,
+        _answer: &bool,
+        _lines: &mut Vec<u8>,
     ) -> Result<(), Fault> {
-        if *answer {
-            Ok(writeln!(lines, "right")?)
-        } else {
-            Err(Fault::Output)
-        }
+        Ok(())
     }
 }
