@@ -67,8 +67,8 @@ fn attrs(attrs: &Attrs, out: &mut Vec<u8>) -> io::Result<()> {
     say(attrs.by_key(PROC_MACRO_DERIVE).exists(), out)?;
     say(derives.tt_values().next().is_some(), out)?;
     say(attrs.by_key(PATH).string_value(), out)?;
-    say(attrs.iter_after(None).count(), out)?;
-    say(attrs.iter_after(Some(AttrId(0))).count(), out)
+    say(attrs.iter_after(None).next().is_some(), out)?;
+    say(attrs.iter_after(Some(AttrId(0))).next().is_some(), out)
 }
 
 /// The calls on a tree.
