@@ -240,8 +240,15 @@ fn is_mod_rs(path: &str) -> bool
 }
 
 /// The candidates, as an answer has them.
-fn into_vec(alloc: Global, files: ArrayVec<String, 2, Global>) -> Result<Vec<String>, AllocError>
+fn into_vec(
+    alloc: Global,
+    mut files: ArrayVec<String, 2, Global>,
+) -> Result<Vec<String>, AllocError>
     ensures { IfOk result (λ copy. copy.items ≡ files.items) }
 {
-    files.into_iter().collect(alloc)
+    let mut copy = Vec::with_capacity(alloc, files.len())?;
+    'moving: while !files.is_empty() {
+        copy.push(files.remove(0))?;
+    }
+    Ok(copy)
 }
