@@ -6,7 +6,6 @@ use hir_def::{
     TreeId, collect_defs,
 };
 use std::alloc::{AllocError, Global};
-use std::test::Fail;
 
 /// The trait that a name means at the root of a map.
 fn trait_named(map: &DefMap, name: Name) -> Option<TraitId> {
@@ -47,11 +46,4 @@ pub fn methods(alloc: Global) -> Result<Option<(FunctionId, FunctionId)>, AllocE
         (Some(written), Some(given)) => Ok(Some((written, given))),
         _ => Ok(None),
     }
-}
-
-#[test]
-fn a_macro_gives_a_trait_a_function(rt: HostRuntime) -> Result<(), Fail> {
-    let found = methods(rt.alloc())?;
-    assert!(rt; found == Some((FunctionId(0), FunctionId(1))));
-    Ok(())
 }

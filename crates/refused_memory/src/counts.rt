@@ -2,12 +2,11 @@
 
 use std::io;
 
-/// How many requests were refused, how many of these were asked again and then granted, of how many
-/// things that are done, and how many of these are wrong.
+/// How many requests were refused, of how many things that are done, and how many of these are
+/// wrong.
 #[derive(Clone, Copy)]
 pub struct Counts {
     pub refused: usize,
-    pub again: usize,
     pub done: usize,
     pub wrong: usize,
 }
@@ -15,7 +14,6 @@ pub struct Counts {
 impl Counts {
     pub const NONE: Counts = Counts {
         refused: 0,
-        again: 0,
         done: 0,
         wrong: 0,
     };
@@ -23,12 +21,6 @@ impl Counts {
     /// Counts a request that was refused.
     pub fn add_refused(&mut self) {
         self.refused = self.refused.saturating_add(1);
-    }
-
-    /// Counts a request that was refused, asked again and then granted.
-    pub fn add_again(&mut self) {
-        self.add_refused();
-        self.again = self.again.saturating_add(1);
     }
 
     /// Counts what was done, and whether it is right.
@@ -43,12 +35,10 @@ impl Counts {
     pub fn tell<W: io::Write>(&self, name: &str, all: &mut Counts, out: &mut W) -> io::Result<()> {
         let Counts {
             refused,
-            again,
             done,
             wrong,
         } = *self;
         all.refused = all.refused.saturating_add(refused);
-        all.again = all.again.saturating_add(again);
         all.done = all.done.saturating_add(done);
         all.wrong = all.wrong.saturating_add(wrong);
         writeln!(out, "{name}: {refused} refused in {done}")

@@ -178,15 +178,15 @@ fn wants(workspace: &mut Workspace, item: usize) -> Result<bool, AllocError> {
     Ok(collect_defs(*alloc, &oracle, session, seeded, ROOT, None).is_err())
 }
 
-/// Whether want of memory is answered where the oracle has none for one of the calls, and only
-/// there.
-pub fn is_told(alloc: Global) -> Result<bool, Fault> {
+/// The item that is answered otherwise than by want of memory where the oracle has none for it and
+/// it is one of the calls, and not so where it is another item; none where all are right.
+pub fn told_otherwise(alloc: Global) -> Result<Option<usize>, Fault> {
     let row = read_row(alloc, Part { text: ROW, line: 1 })?;
     for item in 0..ITEMS {
         let mut workspace = workspace_of(alloc, &row)?;
         if wants(&mut workspace, item)? != CALLS.contains(&item) {
-            return Ok(false);
+            return Ok(Some(item));
         }
     }
-    Ok(true)
+    Ok(None)
 }

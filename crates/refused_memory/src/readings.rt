@@ -289,29 +289,60 @@ fn parts(alloc: Global, subjects: &Subjects, map: DefMap, out: &mut Vec<u8>) -> 
     say(whole.is_fresh(), out)
 }
 
-/// Makes all calls, of which the last ones take a second map and the items of a tree.
-fn read(
+/// What calls take.
+#[derive(Drop)]
+struct Taken {
+    /// A second map.
+    map: Option<DefMap>,
+    /// The items of a tree.
+    written: Option<(Vec<ItemNode>, Vec<ModItemId>)>,
+}
+
+/// The groups of calls.
+const GROUPS: [&str; 10] = [
+    "trees",
+    "sessions",
+    "what is known of crates",
+    "modules",
+    "scopes",
+    "paths",
+    "items of traits and impls",
+    "directories",
+    "parts of maps",
+    "new trees",
+];
+
+/// Makes the calls of a group, by its number.
+fn read_group(
     alloc: Global,
+    number: usize,
     subjects: &Subjects,
-    map: DefMap,
-    written: (Vec<ItemNode>, Vec<ModItemId>),
+    taken: &mut Taken,
     out: &mut Vec<u8>,
 ) -> io::Result<()> {
-    if let Some(found) = subjects.workspace.db.files.trees.get(&ROOT) {
-        tree(found, out)?;
-    }
+    let (db, names) = (&subjects.workspace.db, &subjects.workspace.session);
     let name = subjects.path.as_ident().unwrap_or(Name(0));
-    session(&subjects.workspace.session, out)?;
-    krate(&subjects.map, out)?;
-    modules(&subjects.map, out)?;
-    scopes(&subjects.map, name, out)?;
-    paths(subjects, out)?;
-    items(subjects, out)?;
-    files(alloc, subjects, out)?;
-    parts(alloc, subjects, map, out)?;
-    let (items, top) = written;
-    let made = ItemTree::new(items, top, no_attrs(alloc));
-    say(made.is_ok(), out)
+    match number {
+        0 => match db.files.trees.get(&ROOT) {
+            Some(found) => tree(found, out),
+            None => Ok(()),
+        },
+        1 => session(names, out),
+        2 => krate(&subjects.map, out),
+        3 => modules(&subjects.map, out),
+        4 => scopes(&subjects.map, name, out),
+        5 => paths(subjects, out),
+        6 => items(subjects, out),
+        7 => files(alloc, subjects, out),
+        8 => match taken.map.take() {
+            Some(map) => parts(alloc, subjects, map, out),
+            None => Ok(()),
+        },
+        _ => match taken.written.take() {
+            Some((items, top)) => say(ItemTree::new(items, top, no_attrs(alloc)).is_ok(), out),
+            None => Ok(()),
+        },
+    }
 }
 
 /// No attributes.
@@ -393,33 +424,48 @@ fn subjects_of(alloc: Global, row: &Fixture<'_>) -> Result<Option<Subjects>, Fau
     }))
 }
 
-/// Makes all calls, where it is asked while every request is refused. Answers what they answer;
-/// none where one was refused.
-fn answers(alloc: Global, row: &Fixture<'_>, refuses: bool) -> Result<Option<Vec<u8>>, Fault> {
-    let mut out = Vec::with_capacity(alloc, ROOM)?;
-    let (Some(mut subjects), written) = (subjects_of(alloc, row)?, written(alloc)?) else {
-        return Ok(None);
+/// Makes all calls, where it is asked while every request is refused. Answers for each group what it
+/// answers, and none where it asked for memory.
+fn answers(alloc: Global, row: &Fixture<'_>, refuses: bool) -> Result<Vec<Option<Vec<u8>>>, Fault> {
+    let mut groups = Vec::with_capacity(alloc, GROUPS.len())?;
+    let Some(mut subjects) = subjects_of(alloc, row)? else {
+        return Ok(groups);
     };
-    let Some((map, _)) = map_of(&mut subjects.workspace, row)? else {
-        return Ok(None);
+    let mut taken = Taken {
+        map: map_of(&mut subjects.workspace, row)?.map(|(map, _)| map),
+        written: Some(written(alloc)?),
     };
-    if refuses {
-        refuse_from(alloc, 1);
+    for number in 0..GROUPS.len() {
+        let mut out = Vec::with_capacity(alloc, ROOM)?;
+        if refuses {
+            refuse_from(alloc, 1);
+        }
+        let read = read_group(alloc, number, &subjects, &mut taken, &mut out);
+        let is_refused = end(alloc);
+        let group = if is_refused || read.is_err() {
+            None
+        } else {
+            Some(out)
+        };
+        if let Err(failed) = groups.push(group) {
+            return Err(AllocError::from(failed).into());
+        }
     }
-    let read = read(alloc, &subjects, map, written, &mut out);
-    if end(alloc) || read.is_err() {
-        return Ok(None);
-    }
-    Ok(Some(out))
+    Ok(groups)
 }
 
-/// Whether the calls ask for no memory, and answer what they answer where it is there.
-pub fn are_answered(alloc: Global) -> Result<bool, Fault> {
+/// The first group of calls that asks for memory, or answers otherwise where there is none; none
+/// where all are right.
+pub fn answered_otherwise(alloc: Global) -> Result<Option<&'static str>, Fault> {
     let row = read_row(alloc, Part { text: ROW, line: 1 })?;
     let before = answers(alloc, &row, false)?;
     let refused = answers(alloc, &row, true)?;
-    match (before, refused) {
-        (Some(before), Some(refused)) => Ok(before.as_slice() == refused.as_slice()),
-        _ => Ok(false),
+    for (number, name) in GROUPS.iter().enumerate() {
+        match (before.get(number), refused.get(number)) {
+            (Some(Some(before)), Some(Some(refused))) if before.as_slice() == refused.as_slice() =>
+                {}
+            _ => return Ok(Some(name)),
+        }
     }
+    Ok(None)
 }

@@ -8,6 +8,7 @@ use def_map::Table;
 use def_tables::{NumberedTable, ScopeTable};
 use item_tree::{Crate, Name};
 use std::alloc::{AllocError, Global};
+use std::io;
 
 /// The map of the modules.
 const MAP: MapId = MapId {
@@ -201,11 +202,20 @@ fn refuse_write<T: Made>(
     Ok(false)
 }
 
-/// Refuses each request of each write in turn, and counts them.
-pub fn refuse_writes<T: Made>(alloc: Global, counts: &mut Counts) -> Result<(), AllocError> {
+/// Refuses each request of each write in turn, and counts them. A write that is wrong is told.
+pub fn refuse_writes<T: Made, W: io::Write>(
+    alloc: Global,
+    name: &str,
+    counts: &mut Counts,
+    out: &mut W,
+) -> io::Result<()> {
     let mut is_right = true;
     for number in 0..WRITES {
         if !refuse_write::<T>(alloc, number, counts)? {
+            writeln!(
+                out,
+                "write {number} of {name}: it does not leave what it should"
+            )?;
             is_right = false;
         }
     }

@@ -2,7 +2,7 @@
 
 use crate::counts::Counts;
 use crate::locations::knows_all;
-use crate::refusal::{MOST, end, refuse, refuse_from};
+use crate::refusal::{MOST, end, refuse};
 use def_workspace::{Fault, Workspace};
 use std::alloc::Global;
 use std::{io, mem};
@@ -37,8 +37,6 @@ struct Known {
 /// How a turn ended in which a request was to be refused.
 enum Turn {
     Refused,
-    /// It was asked again, and granted: the answer is as ever.
-    Again,
     /// There was no such request.
     Whole,
     /// It is not as it should be.
@@ -81,23 +79,6 @@ fn is_known<T: Trial>(
     Ok(lines.as_slice() == known.lines.as_slice())
 }
 
-/// A turn in which the request of this number is refused and every one behind it, since it answered
-/// where that one alone was.
-fn turn_from<T: Trial>(trial: &T, known: &Known, number: usize) -> Result<Turn, Fault> {
-    let alloc = known.ready.alloc;
-    let mut workspace = trial.ready(alloc)?;
-    refuse_from(alloc, number);
-    let answered = trial.answer(&mut workspace);
-    end(alloc);
-    match answered {
-        Err(Fault::Memory) => match after(trial, known, workspace)? {
-            Turn::Refused => Ok(Turn::Again),
-            other => Ok(other),
-        },
-        _ => Ok(Turn::Wrong("it answers, though it was refused memory")),
-    }
-}
-
 /// One turn, in which the request of this number is refused.
 fn one_turn<T: Trial>(trial: &T, known: &Known, number: usize) -> Result<Turn, Fault> {
     let alloc = known.ready.alloc;
@@ -112,7 +93,7 @@ fn one_turn<T: Trial>(trial: &T, known: &Known, number: usize) -> Result<Turn, F
         Ok(answer) if !is_known(trial, known, &workspace, &answer)? => {
             Ok(Turn::Wrong("it answers other lines"))
         }
-        Ok(_) if is_refused => turn_from(trial, known, number),
+        Ok(_) if is_refused => Ok(Turn::Wrong("it answers, though it was refused memory")),
         Ok(_) => Ok(Turn::Whole),
     }
 }
@@ -143,7 +124,6 @@ pub fn refuse_each<T: Trial, W: io::Write>(
     for number in 1..MOST {
         match one_turn(trial, &known, number)? {
             Turn::Refused => counts.add_refused(),
-            Turn::Again => counts.add_again(),
             Turn::Whole => {
                 counts.add_done(true);
                 return Ok(());

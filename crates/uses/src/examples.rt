@@ -122,6 +122,12 @@ fn has_given_items(alloc: Global) -> Result<bool, AllocError> {
     )
 }
 
+/// Whether the trait of an oracle of one's own has the function that is written and the one that a
+/// macro gives.
+fn finds_both_methods(alloc: Global) -> Result<bool, AllocError> {
+    Ok(own_oracle::methods(alloc)? == Some((FunctionId(0), FunctionId(1))))
+}
+
 #[test]
 fn examples_find_what_they_name(rt: HostRuntime) -> Result<(), Fail> {
     let alloc = rt.alloc();
@@ -133,6 +139,7 @@ fn examples_find_what_they_name(rt: HostRuntime) -> Result<(), Fail> {
         ("attributes", replaces_an_item(alloc)?),
         ("derives", derives_beside_an_item(alloc)?),
         ("associated items", has_given_items(alloc)?),
+        ("an oracle of one's own", finds_both_methods(alloc)?),
     ];
     for (example, finds) in examples {
         assert!(rt; finds, "{example}");

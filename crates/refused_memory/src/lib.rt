@@ -22,13 +22,12 @@ use def_bindings::Visibility;
 use def_map::Table;
 use def_tables::{NumberedTable, ScopeTable};
 use def_workspace::{Fault, Part, read_row};
-use oracle::is_told;
-use readings::are_answered;
+use oracle::told_otherwise;
+use readings::answered_otherwise;
 use rows::{RowCounts, try_named, try_text};
 use std::alloc::Global;
 use std::io::{self, Write};
-use std::process::ExitCode;
-use std::{env, fs};
+use std::{fmt, fs};
 use tables::{Made, refuse_writes};
 use trial::refuse_each;
 
@@ -71,9 +70,14 @@ fn try_names<W: io::Write>(alloc: Global, all: &mut Counts, out: &mut W) -> Resu
 }
 
 /// Tries the rows of the files that are named.
-fn try_files<W: io::Write>(rt: &HostRuntime, all: &mut Counts, out: &mut W) -> Result<(), Fault> {
+fn try_files<W: io::Write>(
+    rt: &HostRuntime,
+    files: &[String],
+    all: &mut Counts,
+    out: &mut W,
+) -> Result<(), Fault> {
     let mut counts = NO_ROWS;
-    for name in env::args(rt)?.skip(1) {
+    for name in files {
         let text = fs::read_to_string(rt, name.as_str())?;
         counts.maps = Counts::NONE;
         try_text(rt.alloc(), text.as_str(), &mut counts, out)?;
@@ -105,7 +109,7 @@ fn try_table<T: Made, W: io::Write>(
     out: &mut W,
 ) -> Result<(), Fault> {
     let mut counts = Counts::NONE;
-    refuse_writes::<T>(alloc, &mut counts)?;
+    refuse_writes::<T, W>(alloc, name, &mut counts, out)?;
     counts.tell(name, all, out)?;
     Ok(())
 }
@@ -117,56 +121,44 @@ fn try_tables<W: io::Write>(alloc: Global, all: &mut Counts, out: &mut W) -> Res
     try_table::<Table, W>(alloc, "NumberedTable of a map", all, out)
 }
 
-/// Prints whether something is as it should be, and counts it where it is not.
-fn tell_right<W: io::Write>(
+/// Prints that something is as it should be, or what of it is not, and counts that.
+fn tell_right<T: fmt::Display + Drop, W: io::Write>(
     name: &str,
-    is_right: bool,
+    wrong: Option<T>,
     all: &mut Counts,
     out: &mut W,
 ) -> io::Result<()> {
-    if is_right {
+    let Some(wrong) = wrong else {
         return writeln!(out, "{name}: right");
-    }
+    };
     all.wrong = all.wrong.saturating_add(1);
-    writeln!(out, "{name}: wrong")
+    writeln!(out, "{name}: wrong at {wrong}")
 }
 
 /// Makes the calls that take no memory, and asks an oracle that has none.
 fn try_others<W: io::Write>(alloc: Global, all: &mut Counts, out: &mut W) -> Result<(), Fault> {
-    tell_right("calls that take no memory", are_answered(alloc)?, all, out)?;
-    tell_right("an oracle without memory", is_told(alloc)?, all, out)?;
+    let wrong = answered_otherwise(alloc)?;
+    tell_right("calls that take no memory", wrong, all, out)?;
+    let wrong = told_otherwise(alloc)?;
+    tell_right("an oracle without memory", wrong, all, out)?;
     Ok(())
 }
 
-/// Tries all, and answers whether all is right.
-fn try_all<W: io::Write>(rt: &HostRuntime, out: &mut W) -> Result<bool, Fault> {
+/// Refuses each request for memory in turn, also of the rows of the files of these names, and prints
+/// what was refused and what is wrong. Answers whether all is right.
+pub fn try_all<W: io::Write>(
+    rt: &HostRuntime,
+    files: &[String],
+    out: &mut W,
+) -> Result<bool, Fault> {
     let mut all = Counts::NONE;
     try_names(rt.alloc(), &mut all, out)?;
-    try_files(rt, &mut all, out)?;
+    try_files(rt, files, &mut all, out)?;
     try_calls(rt.alloc(), &mut all, out)?;
     try_tables(rt.alloc(), &mut all, out)?;
     try_others(rt.alloc(), &mut all, out)?;
-    let Counts {
-        refused,
-        again,
-        wrong,
-        ..
-    } = all;
-    writeln!(
-        out,
-        "{refused} requests were refused, of which {again} were asked again and granted"
-    )?;
+    let Counts { refused, wrong, .. } = all;
+    writeln!(out, "{refused} requests were refused")?;
     writeln!(out, "{wrong} are wrong")?;
     Ok(wrong == 0)
-}
-
-fn main(rt: HostRuntime) -> ExitCode {
-    match try_all(&rt, &mut io::writer(&rt)) {
-        Ok(true) => ExitCode::SUCCESS,
-        Ok(false) => ExitCode::from(1),
-        Err(_) => {
-            let _ = writeln!(rt.stderr(), "out of memory, or a text cannot be read");
-            ExitCode::from(2)
-        }
-    }
 }

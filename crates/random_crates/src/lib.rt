@@ -25,31 +25,16 @@ use imports::fault_of_imports;
 use reports::fault_of_reports;
 use rows::random_row;
 use std::alloc::{AllocError, Global};
-use std::env;
-use std::io::{self, Write};
-use std::process::ExitCode;
+use std::io::Write;
 
-/// What the words of the command line ask for: a seed, how many rows, and whether all that is
-/// counted is told.
+/// Which rows are made.
 #[derive(Clone, Copy)]
-struct Request {
-    seed: u64,
-    count: u64,
-    tells_all: bool,
-}
-
-/// What words ask for, the program's own name first.
-fn asked_by(words: &[String]) -> Option<Request> {
-    let (seed, count, tells_all) = match words {
-        [_, seed, count] => (seed, count, false),
-        [_, seed, count, word] if word.as_str() == "counts" => (seed, count, true),
-        _ => return None,
-    };
-    Some(Request {
-        seed: seed.as_str().parse::<u64>().ok()?,
-        count: count.as_str().parse::<u64>().ok()?,
-        tells_all,
-    })
+pub struct Request {
+    /// The same seed gives the same rows.
+    pub seed: u64,
+    pub count: u64,
+    /// Whether all that is counted is told.
+    pub tells_all: bool,
 }
 
 /// What does not hold of an answer, if something does not.
@@ -88,7 +73,7 @@ fn fault_of_row(
 /// Makes the rows that are asked for and looks at their answers, up to one that is wrong, which it
 /// prints with what does not hold. Answers whether all are right, and nothing that is counted is
 /// rare.
-fn run<W: Write>(alloc: Global, asked: Request, out: &mut W) -> Result<bool, Fault> {
+pub fn try_rows<W: Write>(alloc: Global, asked: Request, out: &mut W) -> Result<bool, Fault> {
     let grammar = Grammar::new(alloc)?;
     let mut counts = Counts::new();
     for number in 0..asked.count {
@@ -106,36 +91,4 @@ fn run<W: Write>(alloc: Global, asked: Request, out: &mut W) -> Result<bool, Fau
     let count = asked.count;
     writeln!(out, "{count} workspaces")?;
     Ok(counts.write(out, asked.tells_all)?)
-}
-
-/// The arguments of the process, its own name first.
-fn args(rt: &HostRuntime) -> io::Result<Vec<String>> {
-    let mut args = Vec::new(rt.alloc());
-    for arg in env::args(rt)? {
-        args.push(arg)?;
-    }
-    Ok(args)
-}
-
-/// Does what words ask for, and answers the status: 1 where a row is wrong or something is rare,
-/// and where memory is refused, or a write; 2 for words that ask for nothing.
-fn status<W: Write>(rt: &HostRuntime, words: &[String], out: &mut W) -> u8 {
-    let Some(asked) = asked_by(words) else {
-        let _ = writeln!(rt.stderr(), "usage: random_crates SEED COUNT [counts]");
-        return 2;
-    };
-    match run(rt.alloc(), asked, out) {
-        Ok(true) => 0,
-        Ok(false) => 1,
-        Err(_) => {
-            let _ = writeln!(rt.stderr(), "out of memory, or the output was refused");
-            1
-        }
-    }
-}
-
-fn main(rt: HostRuntime) -> io::Result<ExitCode> {
-    let words = args(&rt)?;
-    let mut out = io::writer(&rt);
-    Ok(ExitCode::from(status(&rt, words.as_slice(), &mut out)))
 }
