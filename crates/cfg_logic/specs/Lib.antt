@@ -1,0 +1,4 @@
+pub mod Mirrors
+pub mod Options
+pub mod Predicates
+pub mod Written
