@@ -25,7 +25,7 @@ pub fn holds(
         Err((fault, part)) => {
             let end = predicate.to as usize;
             let at = read.places.get(part).map_or(end, |at| *at as usize);
-            Ok(Err(error_at(sources, trees, at, fault)))
+            Ok(Err(error_at(trees, at, fault)))
         }
     }
 }

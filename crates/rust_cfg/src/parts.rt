@@ -4,7 +4,7 @@ use crate::fault::CfgError;
 use crate::literal::text_of_literal;
 use cfg_logic::{CfgFault, CfgPart, Group};
 use rust_items::Span;
-use rust_lexer::{Place, SourceId, Sources, Token, TokenKind};
+use rust_lexer::{Sources, Token, TokenKind};
 use rust_trees::Trees;
 use std::alloc::{AllocError, AllocFailed, Global};
 
@@ -35,17 +35,10 @@ impl<T: Drop> From<AllocFailed<T>> for Stop {
 }
 
 /// The error at a place among tokens, or at the last one.
-pub(crate) fn error_at(sources: &Sources, trees: &Trees, at: usize, fault: CfgFault) -> CfgError {
+pub(crate) fn error_at(trees: &Trees, at: usize, fault: CfgFault) -> CfgError {
     let here = trees.get(at);
-    let place = match here.or(trees.tokens().last().copied()) {
-        Some(token) => sources.place(token),
-        None => Place {
-            source: SourceId(0),
-            line: 1,
-            column: 1,
-        },
-    };
-    CfgError { fault, place }
+    let token = here.or(trees.tokens().last().copied());
+    CfgError { fault, token }
 }
 
 /// A place among the tokens of a predicate.
@@ -197,6 +190,6 @@ pub fn read_parts<'a>(
             Ok(Ok(read))
         }
         Err(Stop::Memory(error)) => Err(error),
-        Err(Stop::Here(fault)) => Ok(Err(error_at(sources, trees, reader.at, fault))),
+        Err(Stop::Here(fault)) => Ok(Err(error_at(trees, reader.at, fault))),
     }
 }

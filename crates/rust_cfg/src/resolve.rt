@@ -94,7 +94,7 @@ struct Resolver<'a> {
 impl<'a> Resolver<'a> {
     /// Notes a fault at a place.
     fn note(&mut self, at: u32, fault: CfgFault) -> Result<(), AllocError> {
-        let error = error_at(self.sources, self.trees, at as usize, fault);
+        let error = error_at(self.trees, at as usize, fault);
         self.resolved.faults.push(error)?;
         Ok(())
     }
