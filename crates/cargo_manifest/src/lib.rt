@@ -9,4 +9,4 @@ mod read;
 
 pub use fault::{ManifestError, ManifestFault};
 pub use manifest::{Manifest, ManifestDependency, WantedDependency};
-pub use read::read_manifest;
+pub use read::{read_manifest, read_workspace_edition};

@@ -22,8 +22,10 @@ pub struct ManifestDependency {
 #[derive(Drop)]
 pub struct Manifest {
     pub name: String,
-    /// `2015` where none is named; `2021` where it is the workspace's, whose manifest is not read.
+    /// `2015` where none is named, and `2021` where it is that of the workspace.
     pub edition: String,
+    /// Whether the edition is that of the workspace.
+    pub is_workspace_edition: bool,
     pub lib_path: Option<String>,
     pub lib_name: Option<String>,
     pub is_proc_macro: bool,

@@ -91,6 +91,12 @@ fn edition_of(package: &Table) -> &str {
     }
 }
 
+/// The edition that a workspace has for its members.
+fn workspace_edition(document: &Table) -> Option<&str> {
+    let workspace = table_in(document, "workspace")?;
+    text_in(table_in(workspace, "package")?, "edition")
+}
+
 /// An error with no place of its own.
 fn unplaced(fault: ManifestFault) -> ManifestError {
     ManifestError { fault, at: None }
@@ -115,6 +121,7 @@ fn read_document(
     Ok(Ok(Manifest {
         name: String::from_str(alloc, name)?,
         edition: String::from_str(alloc, edition)?,
+        is_workspace_edition: table_in(package, "edition").is_some(),
         lib_path: owned(alloc, text_in(library, "path"))?,
         lib_name: owned(alloc, text_in(library, "name"))?,
         is_proc_macro: is_proc_macro(library),
@@ -136,5 +143,15 @@ pub fn read_manifest(
             fault: ManifestFault::Toml(error),
             at: error.span().map(|span| span.start),
         })),
+    }
+}
+
+/// The edition that a manifest has for the members of its workspace. None where it has none, and where
+/// it is not read.
+pub fn read_workspace_edition(alloc: Global, text: &str) -> Result<Option<String>, AllocError> {
+    match toml::table_from_str(alloc, text) {
+        Ok(document) => owned(alloc, workspace_edition(&document)),
+        Err(error) if error.is_memory() => Err(AllocError),
+        Err(_) => Ok(None),
     }
 }
