@@ -2,11 +2,11 @@
 
 use crate::arguments::Arguments;
 use crate::context::Lowering;
-use crate::fault::LowerError;
+use crate::fault::LowerFault;
 use def_interner::Interner;
 use item_tree::{Attr, Attrs, AttrsOrCfg, CfgExpr, Seq, SyntaxContext};
 use rust_cfg::{Resolved, resolve_attributes};
-use rust_items::{Attribute, Span};
+use rust_items::{Attribute, Item, ItemKind, Span};
 use rust_lexer::TokenKind;
 use std::alloc::{AllocError, Global};
 
@@ -17,21 +17,33 @@ pub(crate) fn no_attributes(alloc: Global) -> Attrs {
     }
 }
 
+/// Whether an attribute that begins with a word means nothing to the collector.
+fn is_idle_word(word: &str) -> bool {
+    match word {
+        "doc" => true,
+        "rustc_builtin_macro" | "rustc_coherence_is_core" => false,
+        _ => word.starts_with("rustc_"),
+    }
+}
+
 impl<'a> Lowering<'a> {
-    /// Whether the tokens of an attribute document: such a one means nothing to the collector.
-    fn is_doc(&self, tokens: Span) -> bool {
-        match self.kind_at(tokens.from) {
-            Some(TokenKind::DocName) => true,
-            Some(TokenKind::Identifier) => self.word_at(tokens.from) == Some("doc"),
-            _ => false,
+    /// Whether the tokens of an attribute mean nothing to the collector: it documents, or is one of
+    /// the compiler's own, whose names no macro may have.
+    fn is_idle(&self, tokens: Span) -> bool {
+        match self.word_at(tokens.from) {
+            Some(word) => is_idle_word(word),
+            None => self.kind_at(tokens.from) == Some(TokenKind::DocName),
         }
     }
 
-    /// The attributes of a span, if one of them does more than document.
-    fn listed(&self, span: Span) -> Option<&'a [Attribute]> {
+    /// The attributes of a span, if one of them means anything.
+    pub(crate) fn listed(&self, span: Span) -> Option<&'a [Attribute]> {
         let (from, to) = (span.from as usize, span.to as usize);
         let listed = self.context.list.attributes.as_slice().get(from..to)?;
-        if listed.iter().all(|attribute| self.is_doc(attribute.tokens)) {
+        if listed
+            .iter()
+            .all(|attribute| self.is_idle(attribute.tokens))
+        {
             return None;
         }
         Some(listed)
@@ -48,7 +60,7 @@ impl<'a> Lowering<'a> {
             context.options,
         )?;
         for error in resolved.faults.iter() {
-            self.tell_error(LowerError::from(*error))?;
+            self.tell(LowerFault::Cfg(error.fault), error.token)?;
         }
         Ok(resolved)
     }
@@ -90,9 +102,9 @@ impl<'a> Lowering<'a> {
         self.within(open, tokens.to)
     }
 
-    /// An attribute, if it has a path and does more than document.
+    /// An attribute, if it has a path and means anything.
     fn attribute(&self, session: &mut Interner, tokens: Span) -> Result<Option<Attr>, AllocError> {
-        if self.is_doc(tokens) {
+        if self.is_idle(tokens) {
             return Ok(None);
         }
         let tokens = self.without_unsafe(tokens);
@@ -147,15 +159,48 @@ impl<'a> Lowering<'a> {
         }
     }
 
-    /// The attributes of an item, if it has some that say anything.
+    /// Whether an attribute makes a function a test or a benchmark.
+    fn is_test(&self, attribute: Attribute) -> bool {
+        let tokens = attribute.tokens;
+        tokens.from.saturating_add(1) == tokens.to
+            && matches!(self.word_at(tokens.from), Some("test" | "bench"))
+    }
+
+    /// Whether an item is a test or a benchmark of a crate that is not built for them: the compiler
+    /// leaves it out.
+    fn is_left_out(&self, item: &Item) -> bool {
+        if !matches!(item.kind, ItemKind::Function { .. })
+            || self.context.options.has_flag("test")
+        {
+            return false;
+        }
+        let Some(listed) = self.listed(item.attributes) else {
+            return false;
+        };
+        for attribute in listed {
+            if self.is_test(*attribute) {
+                return true;
+            }
+        }
+        false
+    }
+
+    /// The attributes of an item, if it has some that say anything. A test or a benchmark is as one
+    /// with `cfg(test)`.
     pub(crate) fn item_attributes(
         &mut self,
         session: &mut Interner,
-        span: Span,
+        item: &Item,
     ) -> Result<Option<AttrsOrCfg>, AllocError> {
-        if self.listed(span).is_none() {
+        if self.listed(item.attributes).is_none() {
             return Ok(None);
         }
-        Ok(Some(self.attributes(session, span)?))
+        match self.attributes(session, item.attributes)? {
+            AttrsOrCfg::Enabled(attrs) if self.is_left_out(item) => {
+                let condition = CfgExpr(item.attributes.from as usize);
+                Ok(Some(AttrsOrCfg::CfgDisabled(condition, attrs)))
+            }
+            attrs => Ok(Some(attrs)),
+        }
     }
 }

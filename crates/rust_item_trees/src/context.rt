@@ -1,6 +1,7 @@
 //! What items are lowered from, and what is looked up there.
 
 use crate::fault::{LowerError, LowerFault};
+use crate::inner_macros::InnerMacros;
 use def_interner::Interner;
 use item_tree::{Crate, Name, PathKind};
 use rust_cfg::CfgOptions;
@@ -29,6 +30,8 @@ pub struct Context<'a> {
     pub options: &'a CfgOptions,
     /// For each text, by its number, the crate that it is of: `$crate` means that one.
     pub crates: &'a [Crate],
+    /// The macros that were lowered so far whose calls of others mean those of their own crate.
+    pub inner_macros: &'a [InnerMacros],
 }
 
 /// What lowers the items of a text.
@@ -114,14 +117,6 @@ impl<'a> Lowering<'a> {
         }
     }
 
-    /// Tells a fault that has a place, unless many have been told.
-    pub(crate) fn tell_error(&mut self, error: LowerError) -> Result<(), AllocError> {
-        if self.faults.len() < FAULT_LIMIT {
-            self.faults.push(error)?;
-        }
-        Ok(())
-    }
-
     /// Tells a fault at a token, unless many have been told: to find the place of each takes a walk
     /// over the text.
     pub(crate) fn tell(
@@ -136,6 +131,7 @@ impl<'a> Lowering<'a> {
             Some(token) => self.context.sources.place(token),
             None => NO_PLACE,
         };
-        self.tell_error(LowerError { fault, place })
+        self.faults.push(LowerError { fault, place })?;
+        Ok(())
     }
 }

@@ -1,6 +1,6 @@
 //! What is wrong with items that are read whole.
 
-use rust_cfg::{CfgError, CfgFault};
+use rust_cfg::CfgFault;
 use rust_lexer::Place;
 use std::error::Error;
 use std::fmt;
@@ -22,15 +22,6 @@ pub enum LowerFault {
 pub struct LowerError {
     pub fault: LowerFault,
     pub place: Place,
-}
-
-impl From<CfgError> for LowerError {
-    fn from(error: CfgError) -> Self {
-        LowerError {
-            fault: LowerFault::Cfg(error.fault),
-            place: error.place,
-        }
-    }
 }
 
 impl fmt::Display for LowerFault {

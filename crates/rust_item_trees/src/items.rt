@@ -3,6 +3,7 @@
 use crate::attributes::no_attributes;
 use crate::context::{Context, Lowering, NO_PLACE};
 use crate::fault::{LowerError, LowerFault};
+use crate::inner_macros::InnerMacros;
 use crate::tree::TreeSoFar;
 use def_interner::Interner;
 use def_oracle::{AssocItem, EnumVariant};
@@ -18,6 +19,8 @@ pub struct Lowered {
     pub variants: Vec<(FileAstId, Vec<EnumVariant>)>,
     /// What stands in each trait and each impl, whose `cfg` is met.
     pub assoc: Vec<(FileAstId, Vec<AssocItem>)>,
+    /// The macros among them whose calls of others mean those of their own crate.
+    pub inner_macros: Vec<InnerMacros>,
     pub faults: Vec<LowerError>,
 }
 
@@ -27,6 +30,7 @@ struct Made {
     tree: TreeSoFar,
     variants: Vec<(FileAstId, Vec<EnumVariant>)>,
     assoc: Vec<(FileAstId, Vec<AssocItem>)>,
+    inner_macros: Vec<InnerMacros>,
 }
 
 /// An item, its place in the list, and its attributes.
@@ -67,7 +71,7 @@ impl<'a> Lowering<'a> {
     }
 
     /// Adds what stands in an item beside the tree: no items yet of a trait or an impl, the
-    /// variants of an enum.
+    /// variants of an enum, the part of the text of a macro.
     fn add_beside(
         &mut self,
         session: &mut Interner,
@@ -83,6 +87,11 @@ impl<'a> Lowering<'a> {
             }
             ItemKind::Trait | ItemKind::Impl { .. } => {
                 made.assoc.push((ast_id, Vec::new(self.alloc)))?;
+            }
+            ItemKind::MacroRules { .. } => {
+                if let Some(inner) = self.inner_macros(&one.item) {
+                    made.inner_macros.push(inner)?;
+                }
             }
             _ => {}
         }
@@ -143,7 +152,7 @@ impl<'a> Lowering<'a> {
             if number < passed_to {
                 continue;
             }
-            let attrs = self.item_attributes(session, item.attributes)?;
+            let attrs = self.item_attributes(session, item)?;
             if is_disabled(&attrs) {
                 passed_to = item.after as usize;
             }
@@ -202,6 +211,7 @@ pub fn lower(
         tree: TreeSoFar::new(alloc),
         variants: Vec::new(alloc),
         assoc: Vec::new(alloc),
+        inner_macros: Vec::new(alloc),
     };
     let attrs = lowering.attributes(session, context.list.inner)?;
     lowering.add_items(session, &mut made, next_variant)?;
@@ -210,12 +220,14 @@ pub fn lower(
         tree,
         variants,
         assoc,
+        inner_macros,
     } = made;
     let tree = whole_tree(alloc, tree, attrs, &mut faults)?;
     Ok(Lowered {
         tree,
         variants,
         assoc,
+        inner_macros,
         faults,
     })
 }

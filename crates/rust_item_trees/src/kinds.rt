@@ -17,11 +17,13 @@ impl<'a> Lowering<'a> {
         session: &mut Interner,
         path: Span,
     ) -> Result<Option<ModPath>, AllocError> {
-        let read = self.path(session, path)?;
-        if read.is_none() {
-            self.tell(LowerFault::BadPath, self.token(path.from))?;
+        match self.path(session, path)? {
+            Some(read) => Ok(Some(self.rooted(path, read))),
+            None => {
+                self.tell(LowerFault::BadPath, self.token(path.from))?;
+                Ok(None)
+            }
         }
-        Ok(read)
     }
 
     /// A macro call.

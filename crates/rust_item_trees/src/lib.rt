@@ -7,6 +7,7 @@ mod attributes;
 mod context;
 mod fault;
 mod imports;
+mod inner_macros;
 mod items;
 mod kinds;
 mod paths;
@@ -17,4 +18,5 @@ mod visibilities;
 
 pub use context::Context;
 pub use fault::{LowerError, LowerFault};
+pub use inner_macros::InnerMacros;
 pub use items::{Lowered, lower};
