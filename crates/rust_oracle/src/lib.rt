@@ -6,4 +6,4 @@ mod numbers;
 mod oracle;
 
 pub use numbers::{CallNumber, CalledMacro};
-pub use oracle::Oracle;
+pub use oracle::{INCLUDE, Oracle};

@@ -1,7 +1,7 @@
 //! The oracle: it answers macro calls itself, and asks its database for all else.
 ghost use Rattle.std.specs.Prelude.{◌≡◌, option_map};
 ghost use Rattle.std.specs.Option.{option_copied};
-ghost use Rattle.rust_oracle.specs.Answers.{answers_of, code_at, number_of, states_of};
+ghost use Rattle.rust_oracle.specs.Answers.{answers_of, code_at, implied_at, is_numbered, number_of, states_of};
 
 use crate::numbers::{call_number, code_of};
 use def_database::Database;
@@ -19,11 +19,27 @@ use item_tree::{
 };
 use std::alloc::{AllocError, Global};
 
-/// An oracle over a database. A call of a macro by rules gives a number, which is a function of the
-/// numbers that were written down of the call's place and of the macro's definition. Where nothing was
-/// written down of the macro, the definition that is guessed for the place stands in, or else the
-/// macro's own number. Calls at places of which nothing was written down give nothing, and so do calls
-/// of builtin and procedural macros.
+/// The number that a database has for the builtin `include`, among those that expand their arguments
+/// first.
+pub const INCLUDE: u32 = 0;
+
+/// Whether calls of a macro have numbers, by what expands it.
+fn is_numbered(kind: MacroDefKind) -> bool
+    ensures { result ≡ is_numbered kind }
+{
+    match kind {
+        MacroDefKind::Declarative(_) => true,
+        MacroDefKind::BuiltInEager(number) => number == INCLUDE,
+        _ => false,
+    }
+}
+
+/// An oracle over a database. A call of a macro by rules, or of `include`, gives a number, which is a
+/// function of the numbers that were written down of the call's place and of the macro's definition.
+/// Where nothing was written down of the macro, the definition that is guessed for the place stands in,
+/// or else the macro's own number. Calls at places of which nothing was written down give nothing, and
+/// so do calls of other builtin and of procedural macros. A call for whose path no macro is found gives
+/// a number only where its path is the name of a macro that is implied.
 pub struct Oracle {
     pub db: Database,
     /// The number of each place where a call stands.
@@ -32,6 +48,9 @@ pub struct Oracle {
     pub definitions: IndexMap<MacroId, u32>,
     /// The number of the definition that a call is taken to be of, while its macro is not known.
     pub guesses: IndexMap<InFile<FileAstId>, u32>,
+    /// The definitions of macros that are known by name though the crate that has them is not given. They
+    /// are meant where a path is that name alone and no macro is found for it.
+    pub implied: IndexMap<Name, u32>,
     /// The source file behind each expansion.
     pub origins: IndexMap<MacroCallId, FileId>,
 }
@@ -43,6 +62,7 @@ impl Drop for Oracle {
             places: _,
             definitions: _,
             guesses: _,
+            implied: _,
             origins: _,
         } = self;
     }
@@ -56,6 +76,7 @@ impl Oracle {
             places: IndexMap::new(alloc),
             definitions: IndexMap::new(alloc),
             guesses: IndexMap::new(alloc),
+            implied: IndexMap::new(alloc),
             origins: IndexMap::new(alloc),
         }
     }
@@ -77,12 +98,26 @@ impl Oracle {
     fn number_of(&self, position: InFile<FileAstId>, found: MacroDefId) -> Option<MacroCallId>
         ensures { result ≡ number_of self.now position found }
     {
-        match found.kind {
-            MacroDefKind::Declarative(_) => {}
-            _ => return None,
+        if !is_numbered(found.kind) {
+            return None;
         }
         match (self.places.get(&position), self.code_at(position, found.id)) {
             (Some(place), Some(code)) => Some(call_number(*place, code)),
+            _ => None,
+        }
+    }
+
+    /// The number of what the call at a place gives for whose path no macro is found, where that path is
+    /// a name alone.
+    fn implied_at(&self, position: InFile<FileAstId>, name: Option<Name>) -> Option<MacroCallId>
+        ensures { result ≡ implied_at self.now position name }
+    {
+        let definition = match name {
+            Some(name) => self.implied.get(&name),
+            None => None,
+        };
+        match (self.places.get(&position), definition) {
+            (Some(place), Some(definition)) => Some(call_number(*place, *definition)),
             _ => None,
         }
     }
@@ -143,9 +178,16 @@ impl SourceDatabase for Oracle {
                 err: None,
                 inner: Seq::from_vec(Vec::new(alloc)),
             })),
-            None => Ok(Err(UnresolvedMacro {
-                path: query.path.clone()?,
-            })),
+            None => match self.implied_at(query.position, query.path.as_ident()) {
+                Some(call) => Ok(Ok(CallAnswer {
+                    value: Some(call),
+                    err: None,
+                    inner: Seq::from_vec(Vec::new(alloc)),
+                })),
+                None => Ok(Err(UnresolvedMacro {
+                    path: query.path.clone()?,
+                })),
+            },
         }
     }
 
