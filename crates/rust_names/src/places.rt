@@ -1,0 +1,212 @@
+//! Where tokens and items stand, as readers of files count.
+
+use item_tree::{Crate, FileAstId, InFile};
+use rust_items::{Item, ItemKind, ItemList};
+use rust_lexer::{Place, SourceId, Token};
+use rust_workspace::{ReadFile, Workspace};
+use source_lines::{LineColumn, Lines};
+use std::alloc::{AllocError, Global};
+
+/// How many expansions may lie one in another.
+const DEEPEST: usize = 4096;
+
+/// A part of a file. The line and the column are those of its beginning, and both begin at one.
+#[derive(Clone, Copy, PartialEq, Eq, Debug)]
+pub struct Spot {
+    pub source: SourceId,
+    /// Its first byte, and the byte behind its last one.
+    pub start: usize,
+    pub end: usize,
+    pub line: usize,
+    pub column: usize,
+}
+
+/// The files of a workspace by their texts, and the lines of these.
+#[derive(Drop)]
+pub struct Places<'a> {
+    pub workspace: &'a Workspace,
+    /// By the numbers of the sources.
+    paths: Vec<&'a str>,
+    lines: Vec<Lines>,
+    /// The number of each source in the order of paths.
+    numbers: Vec<usize>,
+    /// The crate of each source.
+    crates: Vec<Crate>,
+}
+
+/// The token that tells an item: its name, or else its first one.
+fn token_of_item(read: &ReadFile, item: &Item) -> Option<Token> {
+    match item.name {
+        Some(name) => Some(name),
+        None => read.trees.get(item.tokens.from as usize),
+    }
+}
+
+/// The last token of an import's path.
+fn token_of_import(list: &ItemList, item: &Item, index: u32) -> Option<Token> {
+    let ItemKind::Use { imports } = item.kind else {
+        return None;
+    };
+    let at = imports.from.saturating_add(index);
+    let import = list.imports.get(at as usize)?;
+    let segment = list.path_segments.get(import.path? as usize)?;
+    segment.name
+}
+
+/// Adds an entry at a place of a list, and lets those before it that are missing be `missing`.
+fn put_at<T: Copy>(list: &mut Vec<T>, at: usize, entry: T, missing: T) -> Result<(), AllocError> {
+    for _ in list.len()..at.saturating_add(1) {
+        list.push(missing)?;
+    }
+    if let Some(place) = list.get_mut(at) {
+        *place = entry;
+    }
+    Ok(())
+}
+
+/// The place of each text in the order of texts.
+fn ranks(alloc: Global, texts: &[&str]) -> Result<Vec<usize>, AllocError> {
+    let mut order: Vec<(&str, usize)> = Vec::new(alloc);
+    for (number, text) in texts.iter().enumerate() {
+        order.push((*text, number))?;
+    }
+    order.sort_unstable();
+    let mut ranks = Vec::new(alloc);
+    for (rank, (_, number)) in order.iter().enumerate() {
+        put_at(&mut ranks, *number, rank, 0)?;
+    }
+    Ok(ranks)
+}
+
+impl<'a> Places<'a> {
+    /// The places of what a workspace has read.
+    pub fn new(alloc: Global, workspace: &'a Workspace) -> Result<Places<'a>, AllocError> {
+        let mut paths: Vec<&'a str> = Vec::new(alloc);
+        let mut crates = Vec::new(alloc);
+        for file in workspace.files.values() {
+            let number = file.source.0 as usize;
+            put_at(&mut paths, number, file.path.as_str(), "?")?;
+            put_at(&mut crates, number, file.krate, file.krate)?;
+        }
+        let mut lines = Vec::new(alloc);
+        for number in 0..paths.len() {
+            let source = SourceId((number & 0xffff_ffff) as u32);
+            lines.push(Lines::new(alloc, workspace.sources.text(source))?)?;
+        }
+        let numbers = ranks(alloc, paths.as_slice())?;
+        Ok(Places {
+            workspace,
+            paths,
+            lines,
+            numbers,
+            crates,
+        })
+    }
+
+    /// The number of a file in the order of paths.
+    pub fn file_number(&self, source: SourceId) -> usize {
+        self.numbers.get(source.0 as usize).copied().unwrap_or(0)
+    }
+
+    /// The crate of a file.
+    pub fn crate_of(&self, source: SourceId) -> Option<Crate> {
+        self.crates.get(source.0 as usize).copied()
+    }
+
+    /// The path of a file.
+    pub fn path(&self, source: SourceId) -> &'a str {
+        self.paths.get(source.0 as usize).copied().unwrap_or("?")
+    }
+
+    /// A part of a text.
+    pub fn spot(&self, source: SourceId, start: usize, end: usize) -> Spot {
+        let text = self.workspace.sources.text(source);
+        let (line, column) = match self.lines.get(source.0 as usize) {
+            Some(lines) => {
+                let LineColumn { line, column } = lines.place(text, start);
+                (line, column)
+            }
+            None => (1, 1),
+        };
+        Spot {
+            source,
+            start,
+            end,
+            line,
+            column,
+        }
+    }
+
+    /// Where a token stands.
+    pub fn spot_of_token(&self, token: Token) -> Spot {
+        self.spot(token.source, token.start as usize, token.end as usize)
+    }
+
+    /// The character at a place that was counted by lines.
+    pub fn spot_of_place(&self, place: Place) -> Spot {
+        let Place {
+            source,
+            line,
+            column,
+        } = place;
+        let text = self.workspace.sources.text(source);
+        let start = match self.lines.get(source.0 as usize) {
+            Some(lines) => lines.byte(text, LineColumn { line, column }),
+            None => 0,
+        };
+        Spot {
+            source,
+            start,
+            end: start.saturating_add(1),
+            line,
+            column,
+        }
+    }
+
+    /// What was read of the file in which an item stands, and the item.
+    pub fn item(&self, position: InFile<FileAstId>) -> Option<(&'a ReadFile, &'a Item)> {
+        let read = self.workspace.read.get(&position.file)?;
+        let item = read.list.items.get(position.value.0)?;
+        Some((read, item))
+    }
+
+    /// The item in a file that an item stands for: itself, or the outermost call of a macro that it
+    /// was expanded from.
+    fn outermost(&self, position: InFile<FileAstId>) -> InFile<FileAstId> {
+        let mut here = position;
+        for _ in 0..DEEPEST {
+            let Some(read) = self.workspace.read.get(&here.file) else {
+                break;
+            };
+            match read.call {
+                Some(call) => here = call,
+                None => break,
+            }
+        }
+        here
+    }
+
+    /// Where an item stands: its name or its beginning, or the call that it was expanded from.
+    pub fn spot_of_item(&self, position: InFile<FileAstId>) -> Option<Spot> {
+        let (read, item) = self.item(self.outermost(position))?;
+        Some(self.spot_of_token(token_of_item(read, item)?))
+    }
+
+    /// Where an import of a `use` item stands: the last name of its path.
+    pub fn spot_of_import(&self, position: InFile<FileAstId>, index: u32) -> Option<Spot> {
+        let home = self.outermost(position);
+        if home == position {
+            let (read, item) = self.item(position)?;
+            if let Some(token) = token_of_import(&read.list, item, index) {
+                return Some(self.spot_of_token(token));
+            }
+        }
+        self.spot_of_item(position)
+    }
+
+    /// The name of an item, without an `r#`.
+    pub fn name_of_item(&self, position: InFile<FileAstId>) -> Option<&'a str> {
+        let (_, item) = self.item(position)?;
+        Some(self.workspace.sources.name(item.name?))
+    }
+}
