@@ -1,0 +1,78 @@
+//! A binding as it is written.
+
+use rust_names::{Brought, Described, Names, Spot};
+use serde_json::{Value, json};
+use std::alloc::AllocError;
+use std::io;
+
+/// Writes a place as ` at src/lib.rs:3`.
+pub(crate) fn write_spot<W: io::Write>(
+    names: &Names<'_>,
+    spot: Option<Spot>,
+    out: &mut W,
+) -> io::Result<()> {
+    if let Some(spot) = spot {
+        let (path, line) = (names.places.path(spot.source), spot.line);
+        write!(out, " at {path}:{line}")?;
+    }
+    Ok(())
+}
+
+/// Writes what is said of a binding, as
+/// `struct crate::a::S, pub(in crate), by use crate::a::* at src/lib.rs:3`.
+pub(crate) fn write_described<W: io::Write>(
+    names: &Names<'_>,
+    described: &Described,
+    out: &mut W,
+) -> io::Result<()> {
+    let (kind, path) = (described.kind, described.path.as_str());
+    let visibility = described.visibility.as_str();
+    write!(out, "{kind} {path}, {visibility}")?;
+    match &described.brought {
+        Some(brought) => {
+            let text = brought.text.as_str();
+            write!(out, ", by {text}")?;
+            write_spot(names, brought.spot, out)
+        }
+        None => {
+            if described.spot.is_some() {
+                write!(out, ",")?;
+            }
+            write_spot(names, described.spot, out)
+        }
+    }
+}
+
+/// A place as JSON.
+pub(crate) fn spot_value(names: &Names<'_>, spot: Option<Spot>) -> Result<Value, AllocError> {
+    match spot {
+        Some(spot) => {
+            let path = names.places.path(spot.source);
+            let (line, column) = (spot.line as u64, spot.column as u64);
+            json!(in names.alloc; {"path": path, "line": line, "column": column})
+        }
+        None => Ok(Value::Null),
+    }
+}
+
+/// What brought a binding, as JSON.
+fn brought_value(names: &Names<'_>, brought: &Brought) -> Result<Value, AllocError> {
+    let (text, at) = (brought.text.as_str(), spot_value(names, brought.spot)?);
+    json!(in names.alloc; {"import": text, "at": at})
+}
+
+/// What is said of a binding, as JSON.
+pub(crate) fn described_value(
+    names: &Names<'_>,
+    described: &Described,
+) -> Result<Value, AllocError> {
+    let by = match &described.brought {
+        Some(brought) => brought_value(names, brought)?,
+        None => Value::Null,
+    };
+    let (kind, path) = (described.kind, described.path.as_str());
+    let visibility = described.visibility.as_str();
+    let declared = spot_value(names, described.spot)?;
+    json!(in names.alloc; {"kind": kind, "path": path, "visibility": visibility, "by": by,
+        "declared": declared})
+}
