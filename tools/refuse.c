@@ -5,7 +5,8 @@
    FIRST + n          refuses the n-th request from now on, n being 1 to MOST;
    FIRST + MOST + n   refuses the n-th request from now on, and every one behind it.
 
-   With REFUSE_AT=n in the environment the n-th request of the whole program is refused, with no order.
+   With REFUSE_AT=n in the environment the n-th request of the whole program is refused, with no order. With REFUSE_COUNT=PATH
+   the number of requests since the last order, or since the beginning, is written into that file at the end.
 
    To make a block no larger is no request. So each block ends with the size that was asked for, in the bytes behind
    those that the program may use. */
@@ -14,6 +15,7 @@
 #include <errno.h>
 #include <malloc.h>
 #include <stdint.h>
+#include <stdio.h>
 #include <stdlib.h>
 #include <string.h>
 
@@ -109,4 +111,15 @@ void *aligned_alloc(size_t alignment, size_t size) {
     begin();
     if (is_refused()) return 0;
     return noted(real_aligned_alloc(alignment, size + sizeof size), size);
+}
+
+/* Writes down how many requests there were. What the C library asks for while it writes that counts no more. */
+__attribute__((destructor)) static void end(void) {
+    size_t count = requests;
+    const char *path = getenv("REFUSE_COUNT");
+    FILE *file = path ? fopen(path, "w") : 0;
+    if (file) {
+        fprintf(file, "%zu", count);
+        fclose(file);
+    }
 }
