@@ -4,6 +4,7 @@ use crate::calls::CallAhead;
 use crate::files::Files;
 use crate::reading::Reading;
 use crate::workspace::Workspace;
+use item_tree::Name;
 use rust_oracle::CallNumber;
 use std::alloc::AllocError;
 
@@ -23,6 +24,17 @@ impl Workspace {
         }
     }
 
+    /// Whether a name is that of a macro of the standard library, and a definition is another one: it may
+    /// be marked as a builtin, which its rules do not say.
+    fn is_doubtful(&self, name: Name, definition: u32) -> bool {
+        for (implied, own) in &self.calls.implied {
+            if *implied == name && *own != definition {
+                return true;
+            }
+        }
+        false
+    }
+
     /// Expands a call before its macro is known, if it is taken to be of some definition. Should it turn
     /// out to be of another one, nothing asks for what this gives.
     fn expand_guessed<F: Files>(
@@ -34,6 +46,9 @@ impl Workspace {
         let Some(definition) = self.guess(reading, ahead) else {
             return Ok(());
         };
+        if self.is_doubtful(ahead.name, definition) {
+            return Ok(());
+        }
         let Some(site) = self.calls.sites.get(ahead.place as usize).copied() else {
             return Ok(());
         };

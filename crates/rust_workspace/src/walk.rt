@@ -10,7 +10,7 @@ use indexmap::IndexMap;
 use item_tree::{
     FileAstId, HirFileId, InFile, ItemNode, ModContents, ModItemKind, ModPath, Name, TreeId,
 };
-use rust_oracle::Oracle;
+use rust_oracle::{CallNumber, CalledMacro, Oracle};
 use std::alloc::{AllocError, Global};
 
 /// A module whose items are those of a file of its own.
@@ -214,6 +214,20 @@ impl Workspace {
         }))
     }
 
+    /// The macro that gives an expansion, by its name: most calls in that are calls of the same one.
+    fn giver(&self, file: HirFileId) -> Option<(Name, u32)> {
+        let HirFileId::Macro(call) = file else {
+            return None;
+        };
+        let CalledMacro::Known(definition) = CallNumber::of(call).called else {
+            return None;
+        };
+        let position = self.calls.definitions.get_index(definition as usize)?;
+        let (_, item) = self.item_at(*position)?;
+        let name = self.session.find_name(self.sources.name(item.name?))?;
+        Some((name, definition))
+    }
+
     /// Walks a tree whose items stand in a directory: numbers its calls and definitions, and answers
     /// the modules whose items are in other files.
     pub(crate) fn walk(
@@ -225,6 +239,9 @@ impl Workspace {
         let Some(mut walk) = self.begin_walk(file, directory)? else {
             return Ok(Vec::new(self.alloc));
         };
+        if let Some((name, definition)) = self.giver(file) {
+            walk.above.insert(name, definition)?;
+        }
         let Workspace {
             oracle,
             session,
