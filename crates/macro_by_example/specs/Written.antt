@@ -1,13 +1,19 @@
 use Rattle.std.specs.Prelude.{◌≡◌, ◌⊎◌, List, All, Any}
 use Rattle.rust_lexer.specs.declared.token.Token.{Token}
 use Rattle.rust_lexer.specs.declared.token.SourceId.{SourceId}
+use Rattle.rust_lexer.specs.declared.token.TokenKind.{TokenKind}
 use Rattle.rust_lexer.specs.declared.token.TokenKind.TheVariants.{OpenParen, CloseParen, DollarCrate}
+
+-- The source of a template's token, by its kind: `$crate` has that of the macro.
+abbrev pub source_by : TokenKind → SourceId → SourceId → SourceId
+source_by DollarCrate of_macro own = of_macro
+source_by _ of_macro own = own
 
 -- The token t is the token u of a template, and `$crate` is that of the macro's source.
 pub record IsOfTemplate (of_macro : SourceId) (u t : Token) : Type 0 where
   pub kind : t.kind ≡ u.kind
   pub joint : t.joint ≡ u.joint
-  pub source : (t.source ≡ u.source) ⊎ ((u.kind ≡ DollarCrate) × (t.source ≡ of_macro))
+  pub source : t.source ≡ source_by u.kind of_macro u.source
   pub start : t.start ≡ u.start
   pub end : t.end ≡ u.end
 
