@@ -6,7 +6,7 @@ use crate::node::{Asked, Found, LibraryKey, Node, new_node};
 use crate::settings::{Folders, RootKind, STANDARD, Settings, is_standard};
 use cargo_manifest::{Manifest, ManifestDependency, WantedDependency};
 use indexmap::IndexMap;
-use rust_workspace::join;
+use source_files::join;
 use std::alloc::{AllocError, Global};
 
 /// Packages while they are found.

@@ -3,7 +3,7 @@
 use crate::fault::PackageError;
 use crate::settings::{Folders, RootKind, Settings};
 use cargo_manifest::{Manifest, ManifestDependency, read_manifest, read_workspace_edition};
-use rust_workspace::join;
+use source_files::join;
 use std::alloc::{AllocError, Global};
 
 /// How many folders are looked at for the workspace of a package, from its own one upwards.

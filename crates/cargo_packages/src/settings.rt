@@ -1,7 +1,7 @@
 //! What is asked for, and the folders in which it is looked for.
 
 use def_ids::Edition;
-use rust_workspace::Files;
+use source_files::Files;
 use std::alloc::AllocError;
 
 /// The crates that are there without being depended on.

@@ -1,7 +1,7 @@
 //! The folders and the clock of the system.
 
 use cargo_packages::Folders;
-use rust_workspace::Files;
+use source_files::Files;
 use std::alloc::AllocError;
 use std::time::Instant;
 use std::{fs, io};

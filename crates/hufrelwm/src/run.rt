@@ -10,6 +10,7 @@ use rust_reports::Checked;
 use rust_shown::{
     Form, write_checked, write_graph, write_map_json, write_meanings, write_meanings_json,
 };
+use rust_workspace::Workspace;
 use std::alloc::{AllocError, Global};
 use std::io;
 
@@ -25,7 +26,7 @@ enum Ended {
 
 /// Writes what does not resolve, and the map where it is asked for.
 fn check<O: io::Write>(
-    names: &Names<'_>,
+    names: &Names<'_, Workspace>,
     loaded: &Loaded,
     words: &Words<'_>,
     has_map: bool,
@@ -52,7 +53,7 @@ fn check<O: io::Write>(
 
 /// Writes the map.
 fn write_map<O: io::Write>(
-    names: &Names<'_>,
+    names: &Names<'_, Workspace>,
     loaded: &Loaded,
     words: &Words<'_>,
     out: &mut O,
@@ -66,7 +67,7 @@ fn write_map<O: io::Write>(
 
 /// Writes what a path means in a module.
 fn ask<O: io::Write, E: io::Write>(
-    names: &Names<'_>,
+    names: &Names<'_, Workspace>,
     loaded: &Loaded,
     words: &Words<'_>,
     asked: (&str, &str),

@@ -2,7 +2,7 @@
 
 use crate::run::run;
 use cargo_packages::Folders;
-use rust_workspace::Files;
+use source_files::Files;
 use std::alloc::{AllocError, Global};
 use std::test::Fail;
 

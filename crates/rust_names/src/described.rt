@@ -4,6 +4,7 @@ use crate::imports::Brought;
 use crate::names::{Names, kind_word};
 use crate::places::Spot;
 use def_map::Item;
+use rust_codebase::Codebase;
 use std::alloc::AllocError;
 
 /// What is said of a binding, or of a definition.
@@ -19,7 +20,7 @@ pub struct Described {
     pub spot: Option<Spot>,
 }
 
-impl<'a> Names<'a> {
+impl<'a, C: Codebase> Names<'a, C> {
     /// What is said of a binding.
     pub fn describe(&self, item: Item) -> Result<Described, AllocError> {
         Ok(Described {

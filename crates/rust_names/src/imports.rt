@@ -4,8 +4,8 @@ use crate::names::Names;
 use crate::places::Spot;
 use def_bindings::ImportOrExternCrate;
 use def_ids::UseId;
-use def_interner::LocationId;
 use item_tree::{FileAstId, InFile};
+use rust_codebase::Codebase;
 use rust_items::{Import, ImportKind, ItemKind, ItemList};
 use rust_lexer::Token;
 use std::alloc::{AllocError, Global};
@@ -40,10 +40,10 @@ fn segments_of(
     Ok(segments)
 }
 
-impl<'a> Names<'a> {
+impl<'a, C: Codebase> Names<'a, C> {
     /// The name of a token, without an `r#`.
     pub fn token_text(&self, token: Token) -> &'a str {
-        self.workspace().sources.name(token)
+        self.codebase().token_text(token)
     }
 
     /// An import of a `use` item, and the list that it is of.
@@ -114,12 +114,12 @@ impl<'a> Names<'a> {
 
     /// The import of a `use` item by its id, and where it stands.
     fn brought_by_use(&self, id: UseId, index: u32) -> Result<Option<Brought>, AllocError> {
-        let Some(loc) = id.lookup(&self.workspace().session) else {
+        let Some(position) = self.codebase().use_position(id) else {
             return Ok(None);
         };
         Ok(Some(Brought {
-            text: self.import_text(loc.position, index)?,
-            spot: self.places.spot_of_import(loc.position, index),
+            text: self.import_text(position, index)?,
+            spot: self.places.spot_of_import(position, index),
         }))
     }
 
@@ -143,8 +143,8 @@ impl<'a> Names<'a> {
             Some(ImportOrExternCrate::Import(id)) => self.brought_by_use(id.use_id, id.idx),
             Some(ImportOrExternCrate::Glob(id)) => self.brought_by_use(id.use_id, id.idx),
             Some(ImportOrExternCrate::ExternCrate(id)) => {
-                match id.lookup(&self.workspace().session) {
-                    Some(loc) => Ok(Some(self.brought_by_crate(loc.position)?)),
+                match self.codebase().extern_crate_position(id) {
+                    Some(position) => Ok(Some(self.brought_by_crate(position)?)),
                     None => Ok(None),
                 }
             }

@@ -1,4 +1,4 @@
-//! Modules and definitions of a workspace by their names and their places: from numbers to paths as they
+//! Modules and definitions of a codebase by their names and their places: from numbers to paths as they
 //! are written in Rust and to lines of files, and back from paths to modules and bindings.
 #![tactic(auto)]
 

@@ -2,8 +2,9 @@
 
 use crate::names::Names;
 use def_ids::ModuleId;
-use def_map::{BuiltinShadowMode, DefMap, PerNs};
+use def_map::{DefMap, PerNs};
 use item_tree::{Crate, ModPath, Name, PathKind, Seq};
+use rust_codebase::Codebase;
 use std::alloc::{AllocError, Global};
 
 /// A path that is asked for: how it begins, and the names behind that. None of a name is one that
@@ -43,7 +44,7 @@ fn all_names(alloc: Global, names: &[Option<Name>]) -> Result<Option<Vec<Name>>,
     Ok(Some(all))
 }
 
-impl<'a> Names<'a> {
+impl<'a, C: Codebase> Names<'a, C> {
     /// Reads a path as it is written in Rust.
     fn read_path(&self, text: &str) -> Result<Written, AllocError> {
         let mut kind = None;
@@ -82,28 +83,6 @@ impl<'a> Names<'a> {
         }))
     }
 
-    /// What a path of these names means in a module of a crate, in each namespace.
-    fn resolve(&self, module: ModuleId, path: &ModPath) -> Option<PerNs> {
-        let workspace = self.workspace();
-        let db = &workspace.oracle.db;
-        let map = db.crates.maps.get(&module.map.krate)?;
-        let local = db.crates.local_maps.get(&module.map.krate)?;
-        let shadow = BuiltinShadowMode::Other;
-        let (found, rest) = map.resolve_path(
-            local,
-            db,
-            &workspace.session,
-            module,
-            path,
-            shadow,
-            None,
-        );
-        match rest {
-            Some(_) => None,
-            None => Some(found),
-        }
-    }
-
     /// What a path means in a module of a crate, in each namespace.
     pub fn meaning(&self, module: ModuleId, text: &str) -> Result<Option<PerNs>, AllocError> {
         let written = self.read_path(text)?;
@@ -114,6 +93,6 @@ impl<'a> Names<'a> {
             kind: written.kind,
             segments: Seq::from_vec(names),
         };
-        Ok(self.resolve(module, &path))
+        Ok(self.codebase().meaning(module, &path))
     }
 }

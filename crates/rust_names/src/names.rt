@@ -3,20 +3,19 @@
 use crate::places::{Places, Spot};
 use crate::variants::{VariantHome, variant_homes};
 use def_bindings::Visibility;
-use def_ids::{Def, ExternBlockId, ItemContainerId, MacroId, MacroRulesId, ModuleId, VariantId};
-use def_interner::{Interner, LocationId};
+use def_ids::{Def, MacroId, MacroRulesId, ModuleId, VariantId};
 use def_map::{DefMap, ItemScope};
 use indexmap::IndexMap;
 use item_tree::{Crate, FileAstId, HirFileId, InFile, Name};
-use rust_workspace::{CollectedCrate, Workspace};
+use rust_codebase::{Codebase, CollectedCrate};
 use std::alloc::{AllocError, Global};
 
-/// What names are told by: the workspace, the crate whose paths begin with `crate`, and what leads
-/// from numbers back to names.
+/// What names are told by: all that was read and collected, the crate whose paths begin with `crate`, and
+/// what leads from numbers back to names.
 #[derive(Drop)]
-pub struct Names<'a> {
+pub struct Names<'a, C> {
     pub alloc: Global,
-    pub places: Places<'a>,
+    pub places: Places<'a, C>,
     pub home: Crate,
     crates: IndexMap<Crate, &'a str>,
     pub(crate) variants: IndexMap<VariantId, VariantHome>,
@@ -38,9 +37,9 @@ fn crate_names(
 }
 
 /// Adds the enums that a module declares.
-fn add_enums(
+fn add_enums<C: Codebase>(
     homes: &mut IndexMap<InFile<FileAstId>, ModuleId>,
-    session: &Interner,
+    codebase: &C,
     map: &DefMap,
     index: usize,
 ) -> Result<(), AllocError> {
@@ -52,25 +51,24 @@ fn add_enums(
         index,
     };
     for def in scope.declarations() {
-        if let Def::Enum(id) = def {
-            if let Some(loc) = id.lookup(session) {
-                homes.insert(loc.position, module)?;
+        if let Def::Enum(_) = def {
+            if let Some(position) = codebase.position_of(module.map.krate, *def) {
+                homes.insert(position, module)?;
             }
         }
     }
     Ok(())
 }
 
-/// The module of each enum. The session has those of earlier rounds too, so it is not asked.
-fn enum_homes(
+/// The module of each enum. The session has those of earlier rounds too, so it is not asked for them.
+fn enum_homes<C: Codebase>(
     alloc: Global,
-    session: &Interner,
-    maps: &IndexMap<Crate, DefMap>,
+    codebase: &C,
 ) -> Result<IndexMap<InFile<FileAstId>, ModuleId>, AllocError> {
     let mut homes = IndexMap::new(alloc);
-    for map in maps.values() {
+    for map in codebase.maps().values() {
         for index in 0..map.modules().len() {
-            add_enums(&mut homes, session, map, index)?;
+            add_enums(&mut homes, codebase, map, index)?;
         }
     }
     Ok(homes)
@@ -109,38 +107,33 @@ pub fn kind_word(def: Def) -> &'static str {
     }
 }
 
-impl<'a> Names<'a> {
-    /// What names of a workspace are told by, seen from a crate.
-    pub fn new(
-        alloc: Global,
-        workspace: &'a Workspace,
-        home: Crate,
-    ) -> Result<Names<'a>, AllocError> {
-        let db = &workspace.oracle.db;
+impl<'a, C: Codebase> Names<'a, C> {
+    /// What names of a codebase are told by, seen from a crate.
+    pub fn new(alloc: Global, codebase: &'a C, home: Crate) -> Result<Names<'a, C>, AllocError> {
         Ok(Names {
             alloc,
             home,
-            crates: crate_names(alloc, workspace.crates.as_slice())?,
-            variants: variant_homes(alloc, workspace)?,
-            enums: enum_homes(alloc, &workspace.session, &db.crates.maps)?,
-            builtins: builtin_names(alloc, &db.types.builtin)?,
-            places: Places::new(alloc, workspace)?,
+            crates: crate_names(alloc, codebase.crates())?,
+            variants: variant_homes(alloc, codebase)?,
+            enums: enum_homes(alloc, codebase)?,
+            builtins: builtin_names(alloc, codebase.builtin_types())?,
+            places: Places::new(alloc, codebase)?,
         })
     }
 
-    /// The workspace.
-    pub fn workspace(&self) -> &'a Workspace {
-        self.places.workspace
+    /// All that was read and collected.
+    pub fn codebase(&self) -> &'a C {
+        self.places.codebase
     }
 
     /// The text of a name.
     pub fn text(&self, name: Name) -> &'a str {
-        self.workspace().session.text(name).unwrap_or("?")
+        self.codebase().text(name).unwrap_or("?")
     }
 
     /// The name of a text, if any text has it.
     pub fn find_name(&self, text: &str) -> Option<Name> {
-        self.workspace().session.find_name(text)
+        self.codebase().find_name(text)
     }
 
     /// Adds a macro to those that a module defines, if it does.
@@ -151,8 +144,8 @@ impl<'a> Names<'a> {
         id: MacroId,
     ) -> Result<(), AllocError> {
         if let MacroId::MacroRules(id) = id {
-            let loc = id.lookup(&self.workspace().session);
-            if loc.map(|loc| loc.container) == Some(module) {
+            let def = Def::Macro(MacroId::MacroRules(id));
+            if self.codebase().home_of(def) == Some(module) {
                 defined.push(id)?;
             }
         }
@@ -176,7 +169,7 @@ impl<'a> Names<'a> {
 
     /// The map of a crate.
     pub fn map(&self, krate: Crate) -> Option<&'a DefMap> {
-        self.workspace().oracle.db.crates.maps.get(&krate)
+        self.codebase().maps().get(&krate)
     }
 
     /// What a module binds.
@@ -192,65 +185,19 @@ impl<'a> Names<'a> {
         self.crates.get(&krate).copied().unwrap_or("?")
     }
 
-    /// The module around an extern block.
-    fn home_of_block(&self, id: ExternBlockId) -> Option<ModuleId> {
-        Some(id.lookup(&self.workspace().session)?.container)
-    }
-
-    /// The module around what stands in this, if it is a module or an extern block.
-    fn home_of_container(&self, container: ItemContainerId) -> Option<ModuleId> {
-        match container {
-            ItemContainerId::Module(module) => Some(module),
-            ItemContainerId::ExternBlock(id) => self.home_of_block(id),
-            ItemContainerId::Trait(_) | ItemContainerId::Impl(_) => None,
-        }
-    }
-
-    /// The module in which a macro is defined.
-    fn home_of_macro(&self, id: MacroId) -> Option<ModuleId> {
-        let session = &self.workspace().session;
-        match id {
-            MacroId::MacroRules(id) => Some(id.lookup(session)?.container),
-            MacroId::Macro2(id) => Some(id.lookup(session)?.container),
-            MacroId::ProcMacro(id) => Some(id.lookup(session)?.container),
-        }
-    }
-
-    /// The module in which a definition stands. A module, a variant and a builtin type stand in none.
-    pub(crate) fn home_of(&self, def: Def) -> Option<ModuleId> {
-        let session = &self.workspace().session;
-        match def {
-            Def::Function(id) => self.home_of_container(id.lookup(session)?.container),
-            Def::Const(id) => self.home_of_container(id.lookup(session)?.container),
-            Def::Static(id) => self.home_of_container(id.lookup(session)?.container),
-            Def::TypeAlias(id) => self.home_of_container(id.lookup(session)?.container),
-            Def::Struct(id) => Some(id.lookup(session)?.container),
-            Def::Union(id) => Some(id.lookup(session)?.container),
-            Def::Enum(id) => Some(id.lookup(session)?.container),
-            Def::Trait(id) => Some(id.lookup(session)?.container),
-            Def::Macro(id) => self.home_of_macro(id),
-            Def::Module(_) | Def::Variant(_) | Def::Builtin(_) => None,
-        }
-    }
-
     /// Where a definition is declared. That of a variant is its enum.
     pub fn position_of(&self, def: Def) -> Option<InFile<FileAstId>> {
         match def {
             Def::Variant(id) => Some(self.variants.get(&id)?.position),
-            Def::Module(module) => self
-                .map(module.map.krate)?
-                .position_of(&self.workspace().session, def),
-            _ => self
-                .map(self.home)?
-                .position_of(&self.workspace().session, def),
+            Def::Module(module) => self.codebase().position_of(module.map.krate, def),
+            _ => self.codebase().position_of(self.home, def),
         }
     }
 
     /// The beginning of the root file of a crate.
     fn root_spot(&self, krate: Crate) -> Option<Spot> {
-        let workspace = self.workspace();
-        let root = workspace.oracle.db.crates.known.get(&krate)?.root_file;
-        let file = workspace.files.get(&root)?;
+        let root = self.codebase().root_file(krate)?;
+        let file = self.codebase().files().get(&root)?;
         Some(self.places.spot(file.source, 0, 0))
     }
 

@@ -4,6 +4,7 @@ use crate::names::Names;
 use def_bindings::Visibility;
 use def_ids::{Def, ModuleId, VariantId};
 use def_map::DefMap;
+use rust_codebase::Codebase;
 use std::alloc::{AllocError, Global};
 
 /// The modules below the root of a map on the way down to a module, and that module.
@@ -21,7 +22,7 @@ fn downwards(alloc: Global, map: &DefMap, index: usize) -> Result<Vec<usize>, Al
     Ok(path)
 }
 
-impl<'a> Names<'a> {
+impl<'a, C: Codebase> Names<'a, C> {
     /// Adds the name of a module below the root of a map.
     fn add_module_name(
         &self,
@@ -88,7 +89,7 @@ impl<'a> Names<'a> {
 
     /// Adds the path of an item within a module.
     fn add_item(&self, text: &mut String, def: Def) -> Result<(), AllocError> {
-        if let Some(module) = self.home_of(def) {
+        if let Some(module) = self.codebase().home_of(def) {
             self.add_module(text, module)?;
             text.push_str("::")?;
         }

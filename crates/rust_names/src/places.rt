@@ -1,9 +1,9 @@
 //! Where tokens and items stand, as readers of files count.
 
 use item_tree::{Crate, FileAstId, InFile};
+use rust_codebase::{Codebase, ReadFile};
 use rust_items::{Item, ItemKind, ItemList};
 use rust_lexer::{Place, SourceId, Token};
-use rust_workspace::{ReadFile, Workspace};
 use source_lines::{LineColumn, Lines};
 use std::alloc::{AllocError, Global};
 
@@ -21,10 +21,10 @@ pub struct Spot {
     pub column: usize,
 }
 
-/// The files of a workspace by their texts, and the lines of these.
+/// The files of a codebase by their texts, and the lines of these.
 #[derive(Drop)]
-pub struct Places<'a> {
-    pub workspace: &'a Workspace,
+pub struct Places<'a, C> {
+    pub codebase: &'a C,
     /// By the numbers of the sources.
     paths: Vec<&'a str>,
     lines: Vec<Lines>,
@@ -78,12 +78,12 @@ fn ranks(alloc: Global, texts: &[&str]) -> Result<Vec<usize>, AllocError> {
     Ok(ranks)
 }
 
-impl<'a> Places<'a> {
-    /// The places of what a workspace has read.
-    pub fn new(alloc: Global, workspace: &'a Workspace) -> Result<Places<'a>, AllocError> {
+impl<'a, C: Codebase> Places<'a, C> {
+    /// The places of what was read.
+    pub fn new(alloc: Global, codebase: &'a C) -> Result<Places<'a, C>, AllocError> {
         let mut paths: Vec<&'a str> = Vec::new(alloc);
         let mut crates = Vec::new(alloc);
-        for file in workspace.files.values() {
+        for file in codebase.files().values() {
             let number = file.source.0 as usize;
             put_at(&mut paths, number, file.path.as_str(), "?")?;
             put_at(&mut crates, number, file.krate, file.krate)?;
@@ -91,11 +91,11 @@ impl<'a> Places<'a> {
         let mut lines = Vec::new(alloc);
         for number in 0..paths.len() {
             let source = SourceId((number & 0xffff_ffff) as u32);
-            lines.push(Lines::new(alloc, workspace.sources.text(source))?)?;
+            lines.push(Lines::new(alloc, codebase.source_text(source))?)?;
         }
         let numbers = ranks(alloc, paths.as_slice())?;
         Ok(Places {
-            workspace,
+            codebase,
             paths,
             lines,
             numbers,
@@ -120,7 +120,7 @@ impl<'a> Places<'a> {
 
     /// A part of a text.
     pub fn spot(&self, source: SourceId, start: usize, end: usize) -> Spot {
-        let text = self.workspace.sources.text(source);
+        let text = self.codebase.source_text(source);
         let (line, column) = match self.lines.get(source.0 as usize) {
             Some(lines) => {
                 let LineColumn { line, column } = lines.place(text, start);
@@ -149,7 +149,7 @@ impl<'a> Places<'a> {
             line,
             column,
         } = place;
-        let text = self.workspace.sources.text(source);
+        let text = self.codebase.source_text(source);
         let start = match self.lines.get(source.0 as usize) {
             Some(lines) => lines.byte(text, LineColumn { line, column }),
             None => 0,
@@ -165,7 +165,7 @@ impl<'a> Places<'a> {
 
     /// What was read of the file in which an item stands, and the item.
     pub fn item(&self, position: InFile<FileAstId>) -> Option<(&'a ReadFile, &'a Item)> {
-        let read = self.workspace.read.get(&position.file)?;
+        let read = self.codebase.read(position.file)?;
         let item = read.list.items.get(position.value.0)?;
         Some((read, item))
     }
@@ -175,7 +175,7 @@ impl<'a> Places<'a> {
     fn outermost(&self, position: InFile<FileAstId>) -> InFile<FileAstId> {
         let mut here = position;
         for _ in 0..DEEPEST {
-            let Some(read) = self.workspace.read.get(&here.file) else {
+            let Some(read) = self.codebase.read(here.file) else {
                 break;
             };
             match read.call {
@@ -207,6 +207,6 @@ impl<'a> Places<'a> {
     /// The name of an item, without an `r#`.
     pub fn name_of_item(&self, position: InFile<FileAstId>) -> Option<&'a str> {
         let (_, item) = self.item(position)?;
-        Some(self.workspace.sources.name(item.name?))
+        Some(self.codebase.token_text(item.name?))
     }
 }

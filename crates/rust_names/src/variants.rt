@@ -3,10 +3,10 @@
 use def_ids::VariantId;
 use def_map::EnumVariant;
 use indexmap::IndexMap;
-use item_tree::{FileAstId, HirFileId, InFile, Name};
+use item_tree::{FileAstId, InFile, Name};
+use rust_codebase::Codebase;
 use rust_items::ItemKind;
-use rust_lexer::{Sources, Token};
-use rust_workspace::{ReadFile, Workspace};
+use rust_lexer::Token;
 use std::alloc::{AllocError, Global};
 
 /// An enum by where it stands, and the name of one of its variants, with where that is written.
@@ -18,13 +18,13 @@ pub(crate) struct VariantHome {
 }
 
 /// The tokens of the names of an enum's variants, those that cfg leaves out too.
-fn variant_tokens(
+fn variant_tokens<C: Codebase>(
     alloc: Global,
-    read: &IndexMap<HirFileId, ReadFile>,
+    codebase: &C,
     position: InFile<FileAstId>,
 ) -> Result<Vec<Token>, AllocError> {
     let mut tokens = Vec::new(alloc);
-    let Some(read) = read.get(&position.file) else {
+    let Some(read) = codebase.read(position.file) else {
         return Ok(tokens);
     };
     let Some(item) = read.list.items.get(position.value.0) else {
@@ -41,10 +41,15 @@ fn variant_tokens(
 }
 
 /// The place of the first token of a text at a place of a list or behind it.
-fn find_token(sources: &Sources, tokens: &[Token], from: usize, text: &str) -> Option<usize> {
+fn find_token<C: Codebase>(
+    codebase: &C,
+    tokens: &[Token],
+    from: usize,
+    text: &str,
+) -> Option<usize> {
     for at in from..tokens.len() {
         if let Some(token) = tokens.get(at) {
-            if sources.name(*token) == text {
+            if codebase.token_text(*token) == text {
                 return Some(at);
             }
         }
@@ -53,9 +58,9 @@ fn find_token(sources: &Sources, tokens: &[Token], from: usize, text: &str) -> O
 }
 
 /// Adds the variants of an enum. Those that are written are some of these tokens, in their order.
-fn add_variants(
+fn add_variants<C: Codebase>(
     homes: &mut IndexMap<VariantId, VariantHome>,
-    workspace: &Workspace,
+    codebase: &C,
     position: InFile<FileAstId>,
     variants: &[EnumVariant],
     tokens: &[Token],
@@ -63,9 +68,9 @@ fn add_variants(
     let mut next = 0;
     for variant in variants {
         let name = variant.name;
-        let text = workspace.session.text(name).unwrap_or("");
+        let text = codebase.text(name).unwrap_or("");
         let mut token = None;
-        if let Some(at) = find_token(&workspace.sources, tokens, next, text) {
+        if let Some(at) = find_token(codebase, tokens, next, text) {
             token = tokens.get(at).copied();
             next = at.saturating_add(1);
         }
@@ -80,16 +85,16 @@ fn add_variants(
 }
 
 /// The enum of each variant.
-pub(crate) fn variant_homes(
+pub(crate) fn variant_homes<C: Codebase>(
     alloc: Global,
-    workspace: &Workspace,
+    codebase: &C,
 ) -> Result<IndexMap<VariantId, VariantHome>, AllocError> {
     let mut homes = IndexMap::new(alloc);
-    for (position, variants) in workspace.oracle.db.types.variants.iter() {
-        let tokens = variant_tokens(alloc, &workspace.read, *position)?;
+    for (position, variants) in codebase.variants().iter() {
+        let tokens = variant_tokens(alloc, codebase, *position)?;
         let variants = variants.as_slice();
         let tokens = tokens.as_slice();
-        add_variants(&mut homes, workspace, *position, variants, tokens)?;
+        add_variants(&mut homes, codebase, *position, variants, tokens)?;
     }
     Ok(homes)
 }

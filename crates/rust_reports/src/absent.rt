@@ -1,9 +1,9 @@
 //! Crates that are not given.
 
 use def_ids::Edition;
-use def_interner::Interner;
 use indexmap::{IndexMap, IndexSet};
 use item_tree::{Crate, Name};
+use rust_codebase::Codebase;
 use std::alloc::{AllocError, Global};
 
 /// What is known of a crate beside its map: its edition, and the crates by name that it may use and
@@ -124,25 +124,25 @@ impl Absent {
     }
 
     /// Takes in that a crate by this name is not given to another one.
-    fn add_crate(
+    fn add_crate<C: Codebase>(
         &mut self,
-        session: &Interner,
+        codebase: &C,
         krate: Crate,
         text: &str,
     ) -> Result<(), AllocError> {
         if STANDARD.contains(&text) {
             self.without_standard.insert(krate)?;
         }
-        if let Some(name) = session.find_name(text) {
+        if let Some(name) = codebase.find_name(text) {
             self.crates.insert((krate, name))?;
         }
         Ok(())
     }
 
     /// Takes in the names of the prelude, as far as any text has them.
-    fn add_prelude(&mut self, session: &Interner) -> Result<(), AllocError> {
+    fn add_prelude<C: Codebase>(&mut self, codebase: &C) -> Result<(), AllocError> {
         for text in PRELUDE.iter() {
-            if let Some(name) = session.find_name(text) {
+            if let Some(name) = codebase.find_name(text) {
                 self.prelude.insert(name)?;
             }
         }
@@ -150,16 +150,16 @@ impl Absent {
     }
 
     /// Takes in what is known of the crates.
-    pub(crate) fn add(
+    pub(crate) fn add<C: Codebase>(
         &mut self,
-        session: &Interner,
+        codebase: &C,
         notes: &[CrateNotes],
     ) -> Result<(), AllocError> {
-        self.add_prelude(session)?;
+        self.add_prelude(codebase)?;
         for note in notes {
             self.editions.insert(note.krate, note.edition)?;
             for text in note.absent.iter() {
-                self.add_crate(session, note.krate, text.as_str())?;
+                self.add_crate(codebase, note.krate, text.as_str())?;
             }
         }
         Ok(())

@@ -6,8 +6,8 @@ use crate::parts::{crates_of, number_of};
 use crate::reports::Reports;
 use indexmap::IndexMap;
 use item_tree::{Crate, Name};
+use rust_codebase::{Codebase, CollectedCrate};
 use rust_names::Names;
-use rust_workspace::CollectedCrate;
 use std::alloc::AllocError;
 
 /// What was found of a crate.
@@ -25,7 +25,7 @@ pub struct Checked {
 }
 
 /// The crate of the workspace that has a number.
-fn collected_of<'a>(names: &Names<'a>, krate: Crate) -> Option<&'a CollectedCrate> {
+fn collected_of<'a, C: Codebase>(names: &Names<'a, C>, krate: Crate) -> Option<&'a CollectedCrate> {
     for collected in crates_of(names) {
         if number_of(collected) == krate {
             return Some(collected);
@@ -35,7 +35,7 @@ fn collected_of<'a>(names: &Names<'a>, krate: Crate) -> Option<&'a CollectedCrat
 }
 
 /// How many modules a crate has.
-fn module_count(names: &Names<'_>, krate: Crate) -> usize {
+fn module_count<C: Codebase>(names: &Names<'_, C>, krate: Crate) -> usize {
     match names.map(krate) {
         Some(map) => map.modules().len(),
         None => 0,
@@ -44,7 +44,7 @@ fn module_count(names: &Names<'_>, krate: Crate) -> usize {
 
 impl Checked {
     /// What a summary counts of a crate, of which nothing was found yet.
-    fn of(names: &Names<'_>, collected: &CollectedCrate) -> Checked {
+    fn of<C: Codebase>(names: &Names<'_, C>, collected: &CollectedCrate) -> Checked {
         Checked {
             reports: Reports::new(names.alloc),
             absent: IndexMap::new(names.alloc),
@@ -63,15 +63,20 @@ impl Checked {
     }
 
     /// Adds a crate that is not given, by its name, and how often it is used.
-    fn add_used(&mut self, names: &Names<'_>, name: Name, count: usize) -> Result<(), AllocError> {
+    fn add_used<C: Codebase>(
+        &mut self,
+        names: &Names<'_, C>,
+        name: Name,
+        count: usize,
+    ) -> Result<(), AllocError> {
         let text = String::from_str(names.alloc, names.text(name))?;
         self.add_absent(text, count)
     }
 
     /// Adds the crates that are not given and are used.
-    fn add_each_absent(
+    fn add_each_absent<C: Codebase>(
         &mut self,
-        names: &Names<'_>,
+        names: &Names<'_, C>,
         uses: &IndexMap<Name, usize>,
     ) -> Result<(), AllocError> {
         for (name, count) in uses.iter() {
@@ -87,15 +92,19 @@ impl Checked {
     }
 
     /// Adds the crates that are not given and are used, in the order of their names.
-    fn add_all_absent(&mut self, names: &Names<'_>, opaque: &Opaque) -> Result<(), AllocError> {
+    fn add_all_absent<C: Codebase>(
+        &mut self,
+        names: &Names<'_, C>,
+        opaque: &Opaque,
+    ) -> Result<(), AllocError> {
         self.add_each_absent(names, opaque.uses())?;
         self.sort_absent()
     }
 
     /// Finds what is reported.
-    fn find_reports(
+    fn find_reports<C: Codebase>(
         &mut self,
-        names: &Names<'_>,
+        names: &Names<'_, C>,
         opaque: &Opaque,
         collected: &CollectedCrate,
     ) -> Result<(), AllocError> {
@@ -103,9 +112,9 @@ impl Checked {
     }
 
     /// Finds what comes from crates that are not given, and then what does not resolve beside that.
-    fn fill(
+    fn fill<C: Codebase>(
         &mut self,
-        names: &Names<'_>,
+        names: &Names<'_, C>,
         opaque: &mut Opaque,
         collected: &CollectedCrate,
         notes: &[CrateNotes],
@@ -118,8 +127,8 @@ impl Checked {
     /// Finds what does not resolve in a crate, in the order of files and lines. What the crates that it
     /// depends on leave over counts only as far as it makes something unknown. None where the
     /// workspace has no such crate.
-    pub fn new(
-        names: &Names<'_>,
+    pub fn new<C: Codebase>(
+        names: &Names<'_, C>,
         krate: Crate,
         notes: &[CrateNotes],
     ) -> Result<Option<Checked>, AllocError> {

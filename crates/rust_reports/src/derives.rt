@@ -3,11 +3,11 @@
 use crate::reports::Reports;
 use def_ids::Def;
 use def_map::DefMap;
-use item_tree::{Crate, Name};
+use item_tree::Crate;
+use rust_codebase::{Codebase, ReadFile};
 use rust_items::{Item, Span};
 use rust_lexer::{Token, TokenKind};
 use rust_names::Names;
-use rust_workspace::{ReadFile, Workspace};
 use std::alloc::AllocError;
 
 /// The derives of the compiler, which give impls alone.
@@ -32,21 +32,16 @@ fn is_standard(path: &str) -> bool {
     STANDARD.contains(&name)
 }
 
-/// Whether a name is that of an attribute that stands for nothing.
-fn is_inert(workspace: &Workspace, name: Name) -> bool {
-    workspace.oracle.db.builtins.inert.contains(&name)
-}
-
 /// Whether the collector looks for no derives, as without the standard library.
-fn has_inert_derives(names: &Names<'_>) -> bool {
+fn has_inert_derives<C: Codebase>(names: &Names<'_, C>) -> bool {
     match names.find_name("derive") {
-        Some(name) => is_inert(names.workspace(), name),
+        Some(name) => names.codebase().is_inert(name),
         None => false,
     }
 }
 
 /// Whether the tokens of an attribute begin with `derive`.
-fn begins_with_derive(names: &Names<'_>, read: &ReadFile, tokens: Span) -> bool {
+fn begins_with_derive<C: Codebase>(names: &Names<'_, C>, read: &ReadFile, tokens: Span) -> bool {
     match read.trees.get(tokens.from as usize) {
         Some(first) => names.token_text(first) == "derive",
         None => false,
@@ -70,7 +65,10 @@ fn declarations_of(map: &DefMap, module: usize) -> &[Def] {
 }
 
 /// What was read of a definition that may have derives.
-fn read_declared<'a>(names: &Names<'a>, def: Def) -> Option<(&'a ReadFile, &'a Item)> {
+fn read_declared<'a, C: Codebase>(
+    names: &Names<'a, C>,
+    def: Def,
+) -> Option<(&'a ReadFile, &'a Item)> {
     match def {
         Def::Struct(_) | Def::Union(_) | Def::Enum(_) => {
             names.places.item(names.position_of(def)?)
@@ -80,7 +78,7 @@ fn read_declared<'a>(names: &Names<'a>, def: Def) -> Option<(&'a ReadFile, &'a I
 }
 
 /// A derive by its path.
-fn derive_text(names: &Names<'_>, path: &str) -> Result<String, AllocError> {
+fn derive_text<C: Codebase>(names: &Names<'_, C>, path: &str) -> Result<String, AllocError> {
     format!(in names.alloc; "the derive `{path}`")
 }
 
@@ -91,7 +89,11 @@ fn ends_path(token: Token) -> bool {
 
 impl Reports {
     /// Counts a derive by its path, if it has one and is none of the compiler's.
-    fn count_derive(&mut self, names: &Names<'_>, path: &str) -> Result<(), AllocError> {
+    fn count_derive<C: Codebase>(
+        &mut self,
+        names: &Names<'_, C>,
+        path: &str,
+    ) -> Result<(), AllocError> {
         if path.is_empty() || is_standard(path) {
             return Ok(());
         }
@@ -99,9 +101,9 @@ impl Reports {
     }
 
     /// Takes up the next token of a list of derives: it goes on with a path, or ends it.
-    fn count_token(
+    fn count_token<C: Codebase>(
         &mut self,
-        names: &Names<'_>,
+        names: &Names<'_, C>,
         path: &mut String,
         token: Token,
     ) -> Result<(), AllocError> {
@@ -115,9 +117,9 @@ impl Reports {
     }
 
     /// Counts the derives of a list, the paths between its commas, each of which is put into a text.
-    fn count_list(
+    fn count_list<C: Codebase>(
         &mut self,
-        names: &Names<'_>,
+        names: &Names<'_, C>,
         path: &mut String,
         read: &ReadFile,
         list: Span,
@@ -131,9 +133,9 @@ impl Reports {
     }
 
     /// Counts the derives of an attribute, if it is one of derives.
-    fn count_attribute(
+    fn count_attribute<C: Codebase>(
         &mut self,
-        names: &Names<'_>,
+        names: &Names<'_, C>,
         read: &ReadFile,
         tokens: Span,
     ) -> Result<(), AllocError> {
@@ -145,9 +147,9 @@ impl Reports {
     }
 
     /// Counts the derives of these attributes.
-    fn count_attributes(
+    fn count_attributes<C: Codebase>(
         &mut self,
-        names: &Names<'_>,
+        names: &Names<'_, C>,
         read: &ReadFile,
         attributes: Span,
     ) -> Result<(), AllocError> {
@@ -160,7 +162,11 @@ impl Reports {
     }
 
     /// Counts the derives of what a module declares, if that may have any.
-    fn count_declared(&mut self, names: &Names<'_>, def: Def) -> Result<(), AllocError> {
+    fn count_declared<C: Codebase>(
+        &mut self,
+        names: &Names<'_, C>,
+        def: Def,
+    ) -> Result<(), AllocError> {
         match read_declared(names, def) {
             Some((read, item)) => self.count_attributes(names, read, item.attributes),
             None => Ok(()),
@@ -168,7 +174,11 @@ impl Reports {
     }
 
     /// Counts the derives of these definitions.
-    fn count_each(&mut self, names: &Names<'_>, defs: &[Def]) -> Result<(), AllocError> {
+    fn count_each<C: Codebase>(
+        &mut self,
+        names: &Names<'_, C>,
+        defs: &[Def],
+    ) -> Result<(), AllocError> {
         for def in defs {
             self.count_declared(names, *def)?;
         }
@@ -176,7 +186,11 @@ impl Reports {
     }
 
     /// Counts the derives of what the modules of a map declare.
-    fn count_map(&mut self, names: &Names<'_>, map: &DefMap) -> Result<(), AllocError> {
+    fn count_map<C: Codebase>(
+        &mut self,
+        names: &Names<'_, C>,
+        map: &DefMap,
+    ) -> Result<(), AllocError> {
         for module in 0..map.modules().len() {
             self.count_each(names, declarations_of(map, module))?;
         }
@@ -185,9 +199,9 @@ impl Reports {
 
     /// Counts the derives of a crate, where the collector does not look for any. The map has what the
     /// last round of expansions declares, and the session also what earlier ones did by a guess.
-    pub(crate) fn note_derives(
+    pub(crate) fn note_derives<C: Codebase>(
         &mut self,
-        names: &Names<'_>,
+        names: &Names<'_, C>,
         home: Crate,
     ) -> Result<(), AllocError> {
         if !has_inert_derives(names) {

@@ -5,8 +5,8 @@ use crate::parts::{diagnostics_of, faults_of, number_of};
 use crate::reports::{At, Reports};
 use def_rules::{DefDiagnostic, DefDiagnosticKind};
 use item_tree::{Crate, Text};
+use rust_codebase::{Codebase, CollectedCrate, Fault, FaultKind, FaultPlace};
 use rust_names::Names;
-use rust_workspace::{CollectedCrate, Fault, FaultKind, FaultPlace};
 use std::alloc::AllocError;
 
 /// Adds the files that were looked for.
@@ -21,29 +21,38 @@ fn add_files(what: &mut String, candidates: &[Text]) -> Result<(), AllocError> {
 }
 
 /// The name of the item of a diagnostic.
-fn name_of<'a>(names: &Names<'a>, diagnostic: &DefDiagnostic) -> &'a str {
+fn name_of<'a, C: Codebase>(names: &Names<'a, C>, diagnostic: &DefDiagnostic) -> &'a str {
     names.places.name_of_item(diagnostic.ast_id).unwrap_or("?")
 }
 
 /// What is said of a module without a file.
-fn module_text(names: &Names<'_>, name: &str, candidates: &[Text]) -> Result<String, AllocError> {
+fn module_text<C: Codebase>(
+    names: &Names<'_, C>,
+    name: &str,
+    candidates: &[Text],
+) -> Result<String, AllocError> {
     let mut what = format!(in names.alloc; "no file of the module `{name}` is found")?;
     add_files(&mut what, candidates)?;
     Ok(what)
 }
 
 /// What is said of a crate that is not found.
-fn crate_text(names: &Names<'_>, name: &str) -> Result<String, AllocError> {
+fn crate_text<C: Codebase>(names: &Names<'_, C>, name: &str) -> Result<String, AllocError> {
     format!(in names.alloc; "the crate `{name}` is not found")
 }
 
 /// What is said of a fault of a text.
-fn fault_text(names: &Names<'_>, kind: FaultKind) -> Result<String, AllocError> {
+fn fault_text<C: Codebase>(names: &Names<'_, C>, kind: FaultKind) -> Result<String, AllocError> {
     format!(in names.alloc; "{kind}")
 }
 
 /// Whether an extern crate by this name is known not to be given.
-fn is_absent(names: &Names<'_>, opaque: &Opaque, diagnostic: &DefDiagnostic, text: &str) -> bool {
+fn is_absent<C: Codebase>(
+    names: &Names<'_, C>,
+    opaque: &Opaque,
+    diagnostic: &DefDiagnostic,
+    text: &str,
+) -> bool {
     match names.find_name(text) {
         Some(name) => opaque.is_absent(diagnostic.module.map.krate, name),
         None => false,
@@ -52,9 +61,9 @@ fn is_absent(names: &Names<'_>, opaque: &Opaque, diagnostic: &DefDiagnostic, tex
 
 impl Reports {
     /// Adds a report of an item in these words.
-    fn add_words(
+    fn add_words<C: Codebase>(
         &mut self,
-        names: &Names<'_>,
+        names: &Names<'_, C>,
         diagnostic: &DefDiagnostic,
         kind: &'static str,
         words: &str,
@@ -64,9 +73,9 @@ impl Reports {
     }
 
     /// Adds a report of a module without a file.
-    fn add_module(
+    fn add_module<C: Codebase>(
         &mut self,
-        names: &Names<'_>,
+        names: &Names<'_, C>,
         diagnostic: &DefDiagnostic,
         candidates: &[Text],
     ) -> Result<(), AllocError> {
@@ -75,9 +84,9 @@ impl Reports {
     }
 
     /// Adds a report of an extern crate, if it is not one that is known to be absent.
-    fn add_extern_crate(
+    fn add_extern_crate<C: Codebase>(
         &mut self,
-        names: &Names<'_>,
+        names: &Names<'_, C>,
         opaque: &Opaque,
         diagnostic: &DefDiagnostic,
     ) -> Result<(), AllocError> {
@@ -90,9 +99,9 @@ impl Reports {
     }
 
     /// Adds a report of a diagnostic.
-    fn add_diagnostic(
+    fn add_diagnostic<C: Codebase>(
         &mut self,
-        names: &Names<'_>,
+        names: &Names<'_, C>,
         opaque: &Opaque,
         diagnostic: &DefDiagnostic,
     ) -> Result<(), AllocError> {
@@ -130,14 +139,19 @@ impl Reports {
     }
 
     /// Adds a report of a fault of a text.
-    fn add_told(&mut self, names: &Names<'_>, at: At, kind: FaultKind) -> Result<(), AllocError> {
+    fn add_told<C: Codebase>(
+        &mut self,
+        names: &Names<'_, C>,
+        at: At,
+        kind: FaultKind,
+    ) -> Result<(), AllocError> {
         self.add(at, "fault", fault_text(names, kind)?)
     }
 
     /// Adds a report of a fault of a text, if that is one of the crate.
-    fn add_fault(
+    fn add_fault<C: Codebase>(
         &mut self,
-        names: &Names<'_>,
+        names: &Names<'_, C>,
         fault: &Fault,
         home: Crate,
     ) -> Result<(), AllocError> {
@@ -155,9 +169,9 @@ impl Reports {
     }
 
     /// Adds what is reported of these diagnostics.
-    fn add_each(
+    fn add_each<C: Codebase>(
         &mut self,
-        names: &Names<'_>,
+        names: &Names<'_, C>,
         opaque: &Opaque,
         diagnostics: &[DefDiagnostic],
     ) -> Result<(), AllocError> {
@@ -168,9 +182,9 @@ impl Reports {
     }
 
     /// Adds a report of each fault of the texts of a crate.
-    fn add_faults(
+    fn add_faults<C: Codebase>(
         &mut self,
-        names: &Names<'_>,
+        names: &Names<'_, C>,
         faults: &[Fault],
         home: Crate,
     ) -> Result<(), AllocError> {
@@ -181,9 +195,9 @@ impl Reports {
     }
 
     /// Adds what is reported of a crate.
-    fn add_crate(
+    fn add_crate<C: Codebase>(
         &mut self,
-        names: &Names<'_>,
+        names: &Names<'_, C>,
         opaque: &Opaque,
         collected: &CollectedCrate,
     ) -> Result<(), AllocError> {
@@ -194,9 +208,9 @@ impl Reports {
     }
 
     /// Adds what is reported of a crate, and puts it in order.
-    pub(crate) fn find(
+    pub(crate) fn find<C: Codebase>(
         &mut self,
-        names: &Names<'_>,
+        names: &Names<'_, C>,
         opaque: &Opaque,
         collected: &CollectedCrate,
     ) -> Result<(), AllocError> {

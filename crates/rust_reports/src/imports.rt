@@ -7,6 +7,7 @@ use crate::words::spot_of_segment;
 use def_ids::ModuleId;
 use def_rules::{DefDiagnostic, LeftImport};
 use item_tree::Name;
+use rust_codebase::Codebase;
 use rust_names::Names;
 use std::alloc::AllocError;
 
@@ -36,7 +37,11 @@ pub(crate) fn lack_at(import: &LeftImport, stop: Stop) -> Option<Lack> {
 }
 
 /// Adds a module by its path.
-fn add_place(names: &Names<'_>, what: &mut String, module: ModuleId) -> Result<(), AllocError> {
+fn add_place<C: Codebase>(
+    names: &Names<'_, C>,
+    what: &mut String,
+    module: ModuleId,
+) -> Result<(), AllocError> {
     what.push_str("` in `")?;
     names.add_module(what, module)?;
     what.push_str("`")?;
@@ -44,21 +49,25 @@ fn add_place(names: &Names<'_>, what: &mut String, module: ModuleId) -> Result<(
 }
 
 /// Adds at which name a path stops.
-fn add_lack(names: &Names<'_>, what: &mut String, lack: Lack) -> Result<(), AllocError> {
+fn add_lack<C: Codebase>(
+    names: &Names<'_, C>,
+    what: &mut String,
+    lack: Lack,
+) -> Result<(), AllocError> {
     what.push_str(": there is no `")?;
     what.push_str(names.text(lack.name))?;
     add_place(names, what, lack.module)
 }
 
 /// That an import is not found.
-fn not_found(names: &Names<'_>, key: ImportKey) -> Result<String, AllocError> {
+fn not_found<C: Codebase>(names: &Names<'_, C>, key: ImportKey) -> Result<String, AllocError> {
     let text = names.import_text(key.position, key.index)?;
     format!(in names.alloc; "`{text}` is not found")
 }
 
 /// What is said of an import that is not found.
-fn import_text(
-    names: &Names<'_>,
+fn import_text<C: Codebase>(
+    names: &Names<'_, C>,
     key: ImportKey,
     lack: Option<Lack>,
 ) -> Result<String, AllocError> {
@@ -70,7 +79,7 @@ fn import_text(
 }
 
 /// Where the name of an import stands that is lacking.
-fn place_of(names: &Names<'_>, key: ImportKey, lack: Option<Lack>) -> At {
+fn place_of<C: Codebase>(names: &Names<'_, C>, key: ImportKey, lack: Option<Lack>) -> At {
     let behind = match lack {
         Some(lack) => lack.behind,
         None => 0,
@@ -80,9 +89,9 @@ fn place_of(names: &Names<'_>, key: ImportKey, lack: Option<Lack>) -> At {
 
 impl Reports {
     /// Adds a report of an import that is not found, by where it stops.
-    fn add_lacking(
+    fn add_lacking<C: Codebase>(
         &mut self,
-        names: &Names<'_>,
+        names: &Names<'_, C>,
         key: ImportKey,
         lack: Option<Lack>,
     ) -> Result<(), AllocError> {
@@ -91,9 +100,9 @@ impl Reports {
     }
 
     /// Adds a report of an import that is not found, by its number in its `use` item.
-    pub(crate) fn add_import(
+    pub(crate) fn add_import<C: Codebase>(
         &mut self,
-        names: &Names<'_>,
+        names: &Names<'_, C>,
         opaque: &Opaque,
         diagnostic: &DefDiagnostic,
         index: u32,

@@ -1,11 +1,10 @@
 //! What is reported of macros that are not found or not run.
 
 use crate::opaque::Opaque;
-use crate::parts::session_of;
 use crate::reports::{Reports, at_spot};
-use def_display::ShownPath;
 use def_rules::{DefDiagnostic, ExpandErrorKind, LeftMacroKind};
 use item_tree::{FileAstId, InFile, ModPath};
+use rust_codebase::Codebase;
 use rust_names::{Names, Spot};
 use std::alloc::AllocError;
 
@@ -18,27 +17,20 @@ fn call_words(kind: LeftMacroKind) -> (&'static str, &'static str) {
     }
 }
 
-/// A path as it is written.
-fn path_text(names: &Names<'_>, path: &ModPath) -> Result<String, AllocError> {
-    let session = session_of(names);
-    let shown = ShownPath { path, session };
-    format!(in names.alloc; "{shown}")
-}
-
 /// A macro as it is called.
-fn macro_text(
-    names: &Names<'_>,
+fn macro_text<C: Codebase>(
+    names: &Names<'_, C>,
     kind: LeftMacroKind,
     path: &ModPath,
 ) -> Result<String, AllocError> {
     let (word, mark) = call_words(kind);
-    let text = path_text(names, path)?;
+    let text = names.codebase().path_text(path)?;
     format!(in names.alloc; "the {word} `{text}{mark}`")
 }
 
 /// Where the last name of a path stands in the attributes of an item, or else the item.
-fn spot_in_attributes(
-    names: &Names<'_>,
+fn spot_in_attributes<C: Codebase>(
+    names: &Names<'_, C>,
     opaque: &Opaque,
     position: InFile<FileAstId>,
     path: &ModPath,
@@ -50,8 +42,8 @@ fn spot_in_attributes(
 }
 
 /// Where a macro is called.
-fn spot_of_call(
-    names: &Names<'_>,
+fn spot_of_call<C: Codebase>(
+    names: &Names<'_, C>,
     opaque: &Opaque,
     position: InFile<FileAstId>,
     kind: LeftMacroKind,
@@ -79,28 +71,35 @@ fn is_silent(
 }
 
 /// What is said of a macro that is not found.
-fn lost_text(names: &Names<'_>, kind: LeftMacroKind, path: &ModPath) -> Result<String, AllocError> {
+fn lost_text<C: Codebase>(
+    names: &Names<'_, C>,
+    kind: LeftMacroKind,
+    path: &ModPath,
+) -> Result<String, AllocError> {
     let text = macro_text(names, kind, path)?;
     format!(in names.alloc; "{text} is not found")
 }
 
 /// What is said of a procedural macro that is switched off.
-fn disabled_text(names: &Names<'_>, path: &ModPath) -> Result<String, AllocError> {
-    let text = path_text(names, path)?;
+fn disabled_text<C: Codebase>(names: &Names<'_, C>, path: &ModPath) -> Result<String, AllocError> {
+    let text = names.codebase().path_text(path)?;
     format!(in names.alloc; "the macro `{text}` is switched off")
 }
 
 /// A procedural macro by its path.
-fn procedural_text(names: &Names<'_>, path: &ModPath) -> Result<String, AllocError> {
-    let text = path_text(names, path)?;
+fn procedural_text<C: Codebase>(
+    names: &Names<'_, C>,
+    path: &ModPath,
+) -> Result<String, AllocError> {
+    let text = names.codebase().path_text(path)?;
     format!(in names.alloc; "the procedural macro `{text}`")
 }
 
 impl Reports {
     /// Counts a macro of a crate that is not given.
-    fn count_left_out(
+    fn count_left_out<C: Codebase>(
         &mut self,
-        names: &Names<'_>,
+        names: &Names<'_, C>,
         kind: LeftMacroKind,
         path: &ModPath,
     ) -> Result<(), AllocError> {
@@ -109,9 +108,9 @@ impl Reports {
     }
 
     /// Adds a report of a macro that is neither found nor one that is not given.
-    fn add_lost(
+    fn add_lost<C: Codebase>(
         &mut self,
-        names: &Names<'_>,
+        names: &Names<'_, C>,
         opaque: &Opaque,
         diagnostic: &DefDiagnostic,
         kind: LeftMacroKind,
@@ -123,9 +122,9 @@ impl Reports {
     }
 
     /// Adds a report of a macro that is not found.
-    pub(crate) fn add_macro(
+    pub(crate) fn add_macro<C: Codebase>(
         &mut self,
-        names: &Names<'_>,
+        names: &Names<'_, C>,
         opaque: &Opaque,
         diagnostic: &DefDiagnostic,
         kind: LeftMacroKind,
@@ -142,9 +141,9 @@ impl Reports {
     }
 
     /// Adds a report of a procedural macro that is switched off.
-    fn add_disabled(
+    fn add_disabled<C: Codebase>(
         &mut self,
-        names: &Names<'_>,
+        names: &Names<'_, C>,
         opaque: &Opaque,
         diagnostic: &DefDiagnostic,
         path: &ModPath,
@@ -155,15 +154,19 @@ impl Reports {
     }
 
     /// Counts a procedural macro that is not run.
-    fn count_procedural(&mut self, names: &Names<'_>, path: &ModPath) -> Result<(), AllocError> {
+    fn count_procedural<C: Codebase>(
+        &mut self,
+        names: &Names<'_, C>,
+        path: &ModPath,
+    ) -> Result<(), AllocError> {
         self.leave_out();
         self.count_not_run(procedural_text(names, path)?)
     }
 
     /// Adds a report of a procedural macro that nothing expands.
-    pub(crate) fn add_error(
+    pub(crate) fn add_error<C: Codebase>(
         &mut self,
-        names: &Names<'_>,
+        names: &Names<'_, C>,
         opaque: &Opaque,
         diagnostic: &DefDiagnostic,
         path: &ModPath,

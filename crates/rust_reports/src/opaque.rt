@@ -5,10 +5,10 @@ use crate::imports::{Lack, lack_at};
 use crate::stops::{Stop, stop_of, stop_of_import};
 use crate::words::AttributeWords;
 use def_ids::ModuleId;
-use def_interner::Interner;
 use def_rules::{DefDiagnostic, DefDiagnosticKind, LeftImport};
 use indexmap::{IndexMap, IndexSet};
 use item_tree::{Crate, FileAstId, InFile, ModPath, Name};
+use rust_codebase::Codebase;
 use rust_lexer::Token;
 use rust_names::Names;
 use std::alloc::{AllocError, Global};
@@ -101,12 +101,12 @@ impl Opaque {
     }
 
     /// Takes in which crates are not given.
-    pub(crate) fn learn(
+    pub(crate) fn learn<C: Codebase>(
         &mut self,
-        session: &Interner,
+        codebase: &C,
         notes: &[CrateNotes],
     ) -> Result<(), AllocError> {
-        self.absent.add(session, notes)
+        self.absent.add(codebase, notes)
     }
 
     /// Notes an import that comes from a crate that is not given. Answers whether it is new.
@@ -147,7 +147,11 @@ impl Opaque {
     }
 
     /// Where an import stops that is left over.
-    pub(crate) fn stop_of_import(&self, names: &Names<'_>, import: &LeftImport) -> Stop {
+    pub(crate) fn stop_of_import<C: Codebase>(
+        &self,
+        names: &Names<'_, C>,
+        import: &LeftImport,
+    ) -> Stop {
         stop_of_import(names, &self.absent, import)
     }
 
@@ -174,7 +178,7 @@ impl Opaque {
     }
 
     /// Where the path of a macro stops.
-    fn stop_of(&self, names: &Names<'_>, module: ModuleId, path: &ModPath) -> Stop {
+    fn stop_of<C: Codebase>(&self, names: &Names<'_, C>, module: ModuleId, path: &ModPath) -> Stop {
         stop_of(names, &self.absent, module, path, false)
     }
 
@@ -196,7 +200,12 @@ impl Opaque {
     }
 
     /// Whether a path of a macro might lead to one of a crate that is not given.
-    pub(crate) fn has_macro(&self, names: &Names<'_>, module: ModuleId, path: &ModPath) -> bool {
+    pub(crate) fn has_macro<C: Codebase>(
+        &self,
+        names: &Names<'_, C>,
+        module: ModuleId,
+        path: &ModPath,
+    ) -> bool {
         match path.as_ident() {
             Some(name) => self.has_macro_of_name(module, name),
             None => self.has_macro_behind(self.stop_of(names, module, path)),
@@ -204,9 +213,9 @@ impl Opaque {
     }
 
     /// Notes the item of a macro, if that is one of a crate that is not given.
-    fn note_diagnostic(
+    fn note_diagnostic<C: Codebase>(
         &mut self,
-        names: &Names<'_>,
+        names: &Names<'_, C>,
         diagnostic: &DefDiagnostic,
     ) -> Result<(), AllocError> {
         if let DefDiagnosticKind::UnresolvedMacroCall { kind: _, path } = &diagnostic.kind {
@@ -218,9 +227,9 @@ impl Opaque {
     }
 
     /// Notes the items of the macros of a crate that are ones of crates that are not given.
-    pub(crate) fn note_items(
+    pub(crate) fn note_items<C: Codebase>(
         &mut self,
-        names: &Names<'_>,
+        names: &Names<'_, C>,
         diagnostics: &[DefDiagnostic],
     ) -> Result<(), AllocError> {
         for diagnostic in diagnostics {
@@ -236,7 +245,11 @@ impl Opaque {
     }
 
     /// Notes where an import stops, if a module lacks a name.
-    fn note_lack(&mut self, names: &Names<'_>, import: &LeftImport) -> Result<(), AllocError> {
+    fn note_lack<C: Codebase>(
+        &mut self,
+        names: &Names<'_, C>,
+        import: &LeftImport,
+    ) -> Result<(), AllocError> {
         match lack_at(import, self.stop_of_import(names, import)) {
             Some(lack) => self.add_lack(ImportKey::of(import), lack),
             None => Ok(()),
@@ -244,9 +257,9 @@ impl Opaque {
     }
 
     /// Notes where imports stop.
-    pub(crate) fn note_lacks(
+    pub(crate) fn note_lacks<C: Codebase>(
         &mut self,
-        names: &Names<'_>,
+        names: &Names<'_, C>,
         imports: &[LeftImport],
     ) -> Result<(), AllocError> {
         for import in imports {
@@ -261,9 +274,9 @@ impl Opaque {
     }
 
     /// Notes the words of the attributes that diagnostics speak of.
-    pub(crate) fn note_words(
+    pub(crate) fn note_words<C: Codebase>(
         &mut self,
-        names: &Names<'_>,
+        names: &Names<'_, C>,
         diagnostics: &[DefDiagnostic],
     ) -> Result<(), AllocError> {
         self.words.add_items(names, diagnostics)

@@ -1,24 +1,18 @@
-//! Parts of a workspace and of what was collected of a crate.
+//! Parts of what was collected of a crate.
 
-use def_interner::Interner;
 use def_rules::{DefDiagnostic, Edge, LeftImport};
 use item_tree::Crate;
+use rust_codebase::{Codebase, CollectedCrate, Fault};
 use rust_names::Names;
-use rust_workspace::{CollectedCrate, Fault};
-
-/// The session of all crates.
-pub(crate) fn session_of<'a>(names: &Names<'a>) -> &'a Interner {
-    &names.workspace().session
-}
 
 /// The crates, each behind those that it depends on.
-pub(crate) fn crates_of<'a>(names: &Names<'a>) -> &'a [CollectedCrate] {
-    names.workspace().crates.as_slice()
+pub(crate) fn crates_of<'a, C: Codebase>(names: &Names<'a, C>) -> &'a [CollectedCrate] {
+    names.codebase().crates()
 }
 
 /// What is wrong with the texts.
-pub(crate) fn faults_of<'a>(names: &Names<'a>) -> &'a [Fault] {
-    names.workspace().faults.as_slice()
+pub(crate) fn faults_of<'a, C: Codebase>(names: &Names<'a, C>) -> &'a [Fault] {
+    names.codebase().faults()
 }
 
 /// The number of a crate.

@@ -3,6 +3,7 @@ ghost use Rattle.std.specs.Prelude.{◌≡◌, ◌++◌, ◌∷◌, [], OnOk};
 
 use indexmap::IndexMap;
 use item_tree::{FileAstId, InFile};
+use rust_codebase::Codebase;
 use rust_names::{Names, Spot};
 use std::alloc::{AllocError, Global};
 
@@ -38,7 +39,7 @@ pub struct Reports {
 }
 
 /// Where a report stands in the order of reports.
-fn order_of(names: &Names<'_>, report: &Report) -> (usize, usize) {
+fn order_of<C: Codebase>(names: &Names<'_, C>, report: &Report) -> (usize, usize) {
     match &report.at {
         At::Spot(spot) => {
             let number = names.places.file_number(spot.source);
@@ -80,9 +81,9 @@ impl Reports {
     }
 
     /// Adds a report at an item.
-    pub(crate) fn add_at_item(
+    pub(crate) fn add_at_item<C: Codebase>(
         &mut self,
-        names: &Names<'_>,
+        names: &Names<'_, C>,
         position: InFile<FileAstId>,
         kind: &'static str,
         what: String,
@@ -114,7 +115,7 @@ impl Reports {
     }
 
     /// Puts the reports in the order of files and lines.
-    pub(crate) fn sort(&mut self, names: &Names<'_>) -> Result<(), AllocError> {
+    pub(crate) fn sort<C: Codebase>(&mut self, names: &Names<'_, C>) -> Result<(), AllocError> {
         self.list.sort_by_key(|report| order_of(names, report))?;
         Ok(())
     }

@@ -2,17 +2,17 @@
 
 use crate::absent::CrateNotes;
 use crate::opaque::{Opaque, Unknown};
-use crate::parts::{crates_of, diagnostics_of, globs_of, imports_of, number_of, session_of};
+use crate::parts::{crates_of, diagnostics_of, globs_of, imports_of, number_of};
 use crate::stops::Stop;
 use crate::words::has_attribute;
 use def_ids::ModuleId;
 use def_rules::{DefDiagnostic, DefDiagnosticKind, Edge, LeftImport};
 use indexmap::IndexMap;
 use item_tree::{Crate, Name};
+use rust_codebase::{Codebase, CollectedCrate, ReadFile};
 use rust_items::{ImportKind, Item, ItemKind};
 use rust_lexer::Token;
 use rust_names::Names;
-use rust_workspace::{CollectedCrate, ReadFile};
 use std::alloc::{AllocError, Global};
 use std::hash::Hash;
 
@@ -37,12 +37,16 @@ fn add_to<K: Copy + Eq + Hash, T: Drop>(
 }
 
 /// The name of a token, if any text has it.
-fn name_of(names: &Names<'_>, token: Token) -> Option<Name> {
+fn name_of<C: Codebase>(names: &Names<'_, C>, token: Token) -> Option<Name> {
     names.find_name(names.token_text(token))
 }
 
 /// The name that an import binds by its last word: what stands behind `as`, or the end of its path.
-fn bound_name(names: &Names<'_>, import: &LeftImport, alias: Option<Token>) -> Option<Name> {
+fn bound_name<C: Codebase>(
+    names: &Names<'_, C>,
+    import: &LeftImport,
+    alias: Option<Token>,
+) -> Option<Name> {
     match alias {
         Some(alias) => name_of(names, alias),
         None => import.path.segments.as_slice().last().copied(),
@@ -50,7 +54,7 @@ fn bound_name(names: &Names<'_>, import: &LeftImport, alias: Option<Token>) -> O
 }
 
 /// What a module would bind by an import.
-fn unknown_of(names: &Names<'_>, import: &LeftImport) -> Option<Unknown> {
+fn unknown_of<C: Codebase>(names: &Names<'_, C>, import: &LeftImport) -> Option<Unknown> {
     let (_, read) = names.import(import.ast_id, import.idx)?;
     let module = import.module;
     let name = match read.kind {
@@ -70,7 +74,11 @@ struct ExternCrate {
 }
 
 /// The extern crate of an item, if it is one.
-fn read_extern_crate(names: &Names<'_>, read: &ReadFile, item: &Item) -> Option<ExternCrate> {
+fn read_extern_crate<C: Codebase>(
+    names: &Names<'_, C>,
+    read: &ReadFile,
+    item: &Item,
+) -> Option<ExternCrate> {
     let ItemKind::ExternCrate { alias } = item.kind else {
         return None;
     };
@@ -87,7 +95,10 @@ fn read_extern_crate(names: &Names<'_>, read: &ReadFile, item: &Item) -> Option<
 }
 
 /// The extern crate of a diagnostic, if it is one of an extern crate.
-fn extern_crate(names: &Names<'_>, diagnostic: &DefDiagnostic) -> Option<ExternCrate> {
+fn extern_crate<C: Codebase>(
+    names: &Names<'_, C>,
+    diagnostic: &DefDiagnostic,
+) -> Option<ExternCrate> {
     if !matches!(diagnostic.kind, DefDiagnosticKind::UnresolvedExternCrate) {
         return None;
     }
@@ -182,9 +193,9 @@ impl Search {
 
 impl Opaque {
     /// Notes what an import would bind whose path leads to a crate that is not given.
-    fn take_import(
+    fn take_import<C: Codebase>(
         &mut self,
-        names: &Names<'_>,
+        names: &Names<'_, C>,
         search: &mut Search,
         import: &LeftImport,
     ) -> Result<(), AllocError> {
@@ -195,9 +206,9 @@ impl Opaque {
     }
 
     /// Counts an import of a crate that is not given, and notes what it would bind.
-    fn take_used(
+    fn take_used<C: Codebase>(
         &mut self,
-        names: &Names<'_>,
+        names: &Names<'_, C>,
         search: &mut Search,
         import: &LeftImport,
         used: Name,
@@ -208,9 +219,9 @@ impl Opaque {
 
     /// Looks where an import that is left over stops: it comes from a crate that is not given, or it
     /// waits for what it lacks.
-    fn look(
+    fn look<C: Codebase>(
         &mut self,
-        names: &Names<'_>,
+        names: &Names<'_, C>,
         search: &mut Search,
         import: &LeftImport,
         number: usize,
@@ -228,9 +239,9 @@ impl Opaque {
     }
 
     /// Looks where the imports of a list stop.
-    fn look_at_each(
+    fn look_at_each<C: Codebase>(
         &mut self,
-        names: &Names<'_>,
+        names: &Names<'_, C>,
         search: &mut Search,
         imports: &[LeftImport],
     ) -> Result<(), AllocError> {
@@ -241,9 +252,9 @@ impl Opaque {
     }
 
     /// Notes what the imports of these numbers would bind.
-    fn take_each(
+    fn take_each<C: Codebase>(
         &mut self,
-        names: &Names<'_>,
+        names: &Names<'_, C>,
         search: &mut Search,
         imports: &[LeftImport],
         waiting: &[usize],
@@ -257,9 +268,9 @@ impl Opaque {
     }
 
     /// Notes what the imports would bind that wait for what is unknown of a module.
-    fn take_waiting(
+    fn take_waiting<C: Codebase>(
         &mut self,
-        names: &Names<'_>,
+        names: &Names<'_, C>,
         search: &mut Search,
         imports: &[LeftImport],
         unknown: Unknown,
@@ -271,9 +282,9 @@ impl Opaque {
     }
 
     /// Spreads what is unknown of a module: along globs, and to the imports that wait for it.
-    fn spread(
+    fn spread<C: Codebase>(
         &mut self,
-        names: &Names<'_>,
+        names: &Names<'_, C>,
         search: &mut Search,
         imports: &[LeftImport],
         unknown: Unknown,
@@ -286,9 +297,9 @@ impl Opaque {
     }
 
     /// Spreads what is to be spread next. Answers whether there was anything.
-    fn spread_next(
+    fn spread_next<C: Codebase>(
         &mut self,
-        names: &Names<'_>,
+        names: &Names<'_, C>,
         search: &mut Search,
         imports: &[LeftImport],
     ) -> Result<bool, AllocError> {
@@ -302,9 +313,9 @@ impl Opaque {
     }
 
     /// Spreads all that is unknown, to the end.
-    fn spread_all(
+    fn spread_all<C: Codebase>(
         &mut self,
-        names: &Names<'_>,
+        names: &Names<'_, C>,
         search: &mut Search,
         imports: &[LeftImport],
     ) -> Result<(), AllocError> {
@@ -338,9 +349,9 @@ impl Opaque {
     }
 
     /// Notes what a diagnostic speaks of, if that is an extern crate that is not given.
-    fn take_diagnostic(
+    fn take_diagnostic<C: Codebase>(
         &mut self,
-        names: &Names<'_>,
+        names: &Names<'_, C>,
         search: &mut Search,
         diagnostic: &DefDiagnostic,
     ) -> Result<(), AllocError> {
@@ -351,9 +362,9 @@ impl Opaque {
     }
 
     /// Notes the extern crates of a crate that are not given.
-    fn take_extern_crates(
+    fn take_extern_crates<C: Codebase>(
         &mut self,
-        names: &Names<'_>,
+        names: &Names<'_, C>,
         search: &mut Search,
         diagnostics: &[DefDiagnostic],
     ) -> Result<(), AllocError> {
@@ -364,9 +375,9 @@ impl Opaque {
     }
 
     /// Looks through what was left over of a crate by a search that has not begun.
-    fn search(
+    fn search<C: Codebase>(
         &mut self,
-        names: &Names<'_>,
+        names: &Names<'_, C>,
         search: &mut Search,
         collected: &CollectedCrate,
     ) -> Result<(), AllocError> {
@@ -379,9 +390,9 @@ impl Opaque {
 
     /// Looks through what was left over of a crate. The crates that it depends on were looked through
     /// before.
-    fn look_through(
+    fn look_through<C: Codebase>(
         &mut self,
-        names: &Names<'_>,
+        names: &Names<'_, C>,
         collected: &CollectedCrate,
     ) -> Result<(), AllocError> {
         let mut search = Search::new(names.alloc);
@@ -389,9 +400,9 @@ impl Opaque {
     }
 
     /// Looks through all crates of a list but one.
-    fn look_through_others(
+    fn look_through_others<C: Codebase>(
         &mut self,
-        names: &Names<'_>,
+        names: &Names<'_, C>,
         crates: &[CollectedCrate],
         home: Crate,
     ) -> Result<(), AllocError> {
@@ -404,9 +415,9 @@ impl Opaque {
     }
 
     /// Notes what is looked up of what is left over of a crate.
-    fn note_left_over(
+    fn note_left_over<C: Codebase>(
         &mut self,
-        names: &Names<'_>,
+        names: &Names<'_, C>,
         collected: &CollectedCrate,
     ) -> Result<(), AllocError> {
         self.note_items(names, diagnostics_of(collected))?;
@@ -416,22 +427,22 @@ impl Opaque {
 
     /// Takes in which crates are not given, and looks through all crates but one. What is used of
     /// crates that are not given is counted in that one alone.
-    fn look_through_before(
+    fn look_through_before<C: Codebase>(
         &mut self,
-        names: &Names<'_>,
+        names: &Names<'_, C>,
         home: Crate,
         notes: &[CrateNotes],
     ) -> Result<(), AllocError> {
-        self.learn(session_of(names), notes)?;
+        self.learn(names.codebase(), notes)?;
         self.look_through_others(names, crates_of(names), home)?;
         self.forget_uses();
         Ok(())
     }
 
     /// Looks through all crates, this one as the last, and notes what is unknown in it.
-    pub(crate) fn look_through_all(
+    pub(crate) fn look_through_all<C: Codebase>(
         &mut self,
-        names: &Names<'_>,
+        names: &Names<'_, C>,
         collected: &CollectedCrate,
         notes: &[CrateNotes],
     ) -> Result<(), AllocError> {

@@ -2,11 +2,10 @@
 
 use crate::absent::Absent;
 use def_ids::{Def, Edition, ModuleId};
-use def_map::LocalDefMap;
 use def_rules::LeftImport;
-use item_tree::{Crate, ModPath, Name, PathKind};
+use item_tree::{ModPath, Name, PathKind};
+use rust_codebase::Codebase;
 use rust_names::Names;
-use rust_workspace::Workspace;
 
 /// Where a path stops.
 #[derive(Clone, Copy, PartialEq, Eq, Debug)]
@@ -31,7 +30,7 @@ enum Walk {
 }
 
 /// The module that lies so many levels above another one.
-fn above(names: &Names<'_>, module: ModuleId, levels: u8) -> ModuleId {
+fn above<C: Codebase>(names: &Names<'_, C>, module: ModuleId, levels: u8) -> ModuleId {
     let mut above = module;
     if let Some(map) = names.map(module.map.krate) {
         for _ in 0..levels {
@@ -42,33 +41,25 @@ fn above(names: &Names<'_>, module: ModuleId, levels: u8) -> ModuleId {
 }
 
 /// What a module binds to a name among the types.
-fn type_of(names: &Names<'_>, module: ModuleId, name: Name) -> Option<Def> {
+fn type_of<C: Codebase>(names: &Names<'_, C>, module: ModuleId, name: Name) -> Option<Def> {
     Some(names.scope(module)?.get(name).types?.def)
 }
 
-/// What a crate's own part of the names is.
-fn local_map(workspace: &Workspace, krate: Crate) -> Option<&LocalDefMap> {
-    workspace.oracle.db.crates.local_maps.get(&krate)
-}
-
-/// The root of a crate that a path may begin with.
-fn extern_root(names: &Names<'_>, krate: Crate, name: Name) -> Option<ModuleId> {
-    Some(
-        local_map(names.workspace(), krate)?
-            .extern_entry(name)?
-            .root,
-    )
-}
-
 /// The walk behind the first name of a path that begins with no word of its own.
-fn first_name(names: &Names<'_>, absent: &Absent, module: ModuleId, name: Name, at: usize) -> Walk {
+fn first_name<C: Codebase>(
+    names: &Names<'_, C>,
+    absent: &Absent,
+    module: ModuleId,
+    name: Name,
+    at: usize,
+) -> Walk {
     match type_of(names, module, name) {
         Some(Def::Module(next)) => return Walk::At(next),
         Some(_) => return Walk::Stopped(Stop::Other),
         None => {}
     }
     let krate = module.map.krate;
-    if let Some(root) = extern_root(names, krate, name) {
+    if let Some(root) = names.codebase().extern_root(krate, name) {
         return Walk::At(root);
     }
     if absent.has_crate(krate, name) {
@@ -78,7 +69,7 @@ fn first_name(names: &Names<'_>, absent: &Absent, module: ModuleId, name: Name, 
 }
 
 /// The walk behind a further name of a path.
-fn next_name(names: &Names<'_>, module: ModuleId, name: Name, at: usize) -> Walk {
+fn next_name<C: Codebase>(names: &Names<'_, C>, module: ModuleId, name: Name, at: usize) -> Walk {
     match type_of(names, module, name) {
         Some(Def::Module(next)) => Walk::At(next),
         Some(_) => Walk::Stopped(Stop::Other),
@@ -87,8 +78,8 @@ fn next_name(names: &Names<'_>, module: ModuleId, name: Name, at: usize) -> Walk
 }
 
 /// Where a path begins: a module, and whether its first name may be a crate's.
-fn beginning(
-    names: &Names<'_>,
+fn beginning<C: Codebase>(
+    names: &Names<'_, C>,
     absent: &Absent,
     module: ModuleId,
     path: &ModPath,
@@ -107,7 +98,7 @@ fn beginning(
 }
 
 /// Whether a module does not bind the first name of a path.
-fn lacks_first(names: &Names<'_>, module: ModuleId, path: &ModPath) -> bool {
+fn lacks_first<C: Codebase>(names: &Names<'_, C>, module: ModuleId, path: &ModPath) -> bool {
     match path.segments.as_slice().first() {
         Some(name) => type_of(names, module, *name).is_none(),
         None => false,
@@ -116,8 +107,8 @@ fn lacks_first(names: &Names<'_>, module: ModuleId, path: &ModPath) -> bool {
 
 /// Where a path stops. What it is to be found in is a module if `is_glob`, and else its last name
 /// is to be bound in one.
-pub(crate) fn stop_of(
-    names: &Names<'_>,
+pub(crate) fn stop_of<C: Codebase>(
+    names: &Names<'_, C>,
     absent: &Absent,
     module: ModuleId,
     path: &ModPath,
@@ -143,7 +134,7 @@ pub(crate) fn stop_of(
 }
 
 /// Whether a module binds a name in any namespace.
-fn binds(names: &Names<'_>, module: ModuleId, name: Name) -> bool {
+fn binds<C: Codebase>(names: &Names<'_, C>, module: ModuleId, name: Name) -> bool {
     match names.scope(module) {
         Some(scope) => {
             let found = scope.get(name);
@@ -154,7 +145,7 @@ fn binds(names: &Names<'_>, module: ModuleId, name: Name) -> bool {
 }
 
 /// Where a path stops whose last name a module is to bind in any namespace.
-fn last_name(names: &Names<'_>, module: ModuleId, name: Name, at: usize) -> Stop {
+fn last_name<C: Codebase>(names: &Names<'_, C>, module: ModuleId, name: Name, at: usize) -> Stop {
     if binds(names, module, name) {
         Stop::Other
     } else {
@@ -163,7 +154,11 @@ fn last_name(names: &Names<'_>, module: ModuleId, name: Name, at: usize) -> Stop
 }
 
 /// Where an import stops that is left over.
-pub(crate) fn stop_of_import(names: &Names<'_>, absent: &Absent, import: &LeftImport) -> Stop {
+pub(crate) fn stop_of_import<C: Codebase>(
+    names: &Names<'_, C>,
+    absent: &Absent,
+    import: &LeftImport,
+) -> Stop {
     let is_glob = names.is_glob(import.ast_id, import.idx);
     stop_of(names, absent, import.module, &import.path, is_glob)
 }

@@ -3,10 +3,10 @@
 use def_rules::{DefDiagnostic, DefDiagnosticKind, LeftMacroKind};
 use indexmap::{IndexMap, IndexSet};
 use item_tree::{FileAstId, InFile, ModPath, Name};
+use rust_codebase::{Codebase, ReadFile};
 use rust_items::{Item, ItemList, Span};
 use rust_lexer::Token;
 use rust_names::{Names, Spot};
-use rust_workspace::ReadFile;
 use std::alloc::{AllocError, Global};
 
 /// Whether a diagnostic is of a macro in an attribute.
@@ -19,7 +19,12 @@ fn is_of_attribute(kind: &DefDiagnosticKind) -> bool {
 }
 
 /// Whether one of these tokens is a word.
-fn holds_word(names: &Names<'_>, read: &ReadFile, tokens: Span, word: &str) -> bool {
+fn holds_word<C: Codebase>(
+    names: &Names<'_, C>,
+    read: &ReadFile,
+    tokens: Span,
+    word: &str,
+) -> bool {
     for at in tokens.from..tokens.to {
         if let Some(token) = read.trees.get(at as usize) {
             if token.is_name() && names.token_text(token) == word {
@@ -31,7 +36,12 @@ fn holds_word(names: &Names<'_>, read: &ReadFile, tokens: Span, word: &str) -> b
 }
 
 /// Whether an attribute of an item begins with a word, or holds it.
-pub(crate) fn has_attribute(names: &Names<'_>, read: &ReadFile, item: &Item, word: &str) -> bool {
+pub(crate) fn has_attribute<C: Codebase>(
+    names: &Names<'_, C>,
+    read: &ReadFile,
+    item: &Item,
+    word: &str,
+) -> bool {
     for number in item.attributes.from..item.attributes.to {
         if let Some(attribute) = read.list.attributes.get(number as usize) {
             if holds_word(names, read, attribute.tokens, word) {
@@ -43,7 +53,7 @@ pub(crate) fn has_attribute(names: &Names<'_>, read: &ReadFile, item: &Item, wor
 }
 
 /// The name that a token is, if it is one.
-fn name_of(names: &Names<'_>, token: Token) -> Option<Name> {
+fn name_of<C: Codebase>(names: &Names<'_, C>, token: Token) -> Option<Name> {
     if token.is_name() {
         names.find_name(names.token_text(token))
     } else {
@@ -85,9 +95,9 @@ impl AttributeWords {
     }
 
     /// Adds the names among these tokens of an item.
-    fn add_tokens(
+    fn add_tokens<C: Codebase>(
         &mut self,
-        names: &Names<'_>,
+        names: &Names<'_, C>,
         read: &ReadFile,
         position: InFile<FileAstId>,
         tokens: Span,
@@ -104,9 +114,9 @@ impl AttributeWords {
     }
 
     /// Adds the names in these attributes of an item.
-    fn add_attributes(
+    fn add_attributes<C: Codebase>(
         &mut self,
-        names: &Names<'_>,
+        names: &Names<'_, C>,
         read: &ReadFile,
         position: InFile<FileAstId>,
         attributes: Span,
@@ -120,9 +130,9 @@ impl AttributeWords {
     }
 
     /// Adds the names in the attributes of an item, if they were not added before.
-    fn add_item(
+    fn add_item<C: Codebase>(
         &mut self,
-        names: &Names<'_>,
+        names: &Names<'_, C>,
         position: InFile<FileAstId>,
     ) -> Result<(), AllocError> {
         if !self.note_item(position)? {
@@ -136,9 +146,9 @@ impl AttributeWords {
 
     /// Adds the names in the attributes of the items that diagnostics speak of, where these are of
     /// macros in attributes.
-    pub(crate) fn add_items(
+    pub(crate) fn add_items<C: Codebase>(
         &mut self,
-        names: &Names<'_>,
+        names: &Names<'_, C>,
         diagnostics: &[DefDiagnostic],
     ) -> Result<(), AllocError> {
         for diagnostic in diagnostics {
@@ -166,8 +176,8 @@ fn segment_before(list: &ItemList, last: u32, behind: usize) -> Option<Token> {
 }
 
 /// The segment of the path of an import that stands so many before its last one.
-fn token_of_segment(
-    names: &Names<'_>,
+fn token_of_segment<C: Codebase>(
+    names: &Names<'_, C>,
     position: InFile<FileAstId>,
     index: u32,
     behind: usize,
@@ -177,8 +187,8 @@ fn token_of_segment(
 }
 
 /// Where a segment of the path of an import stands, or else the import.
-pub(crate) fn spot_of_segment(
-    names: &Names<'_>,
+pub(crate) fn spot_of_segment<C: Codebase>(
+    names: &Names<'_, C>,
     position: InFile<FileAstId>,
     index: u32,
     behind: usize,

@@ -3,6 +3,7 @@
 use crate::described::spot_value;
 use crate::json::write_list;
 use crate::lines::write_line_of;
+use rust_codebase::Codebase;
 use rust_names::Names;
 use rust_reports::{At, Checked, Report};
 use serde_json::{Value, json};
@@ -20,11 +21,11 @@ pub enum Form {
 }
 
 /// Writes a report in a line, and the line that it speaks of where it is asked for.
-fn write_report<W: io::Write>(
-    names: &Names<'_>,
+fn write_report<C: Codebase, O: io::Write>(
+    names: &Names<'_, C>,
     report: &Report,
     has_excerpt: bool,
-    out: &mut W,
+    out: &mut O,
 ) -> io::Result<()> {
     let what = report.what.as_str();
     match &report.at {
@@ -46,7 +47,7 @@ fn write_report<W: io::Write>(
 }
 
 /// Writes what is left out: crates that are not given, and macros that are not run.
-fn write_left_out<W: io::Write>(checked: &Checked, out: &mut W) -> io::Result<()> {
+fn write_left_out<O: io::Write>(checked: &Checked, out: &mut O) -> io::Result<()> {
     for (name, count) in checked.absent.iter() {
         let (name, count) = (name.as_str(), *count);
         writeln!(
@@ -62,7 +63,7 @@ fn write_left_out<W: io::Write>(checked: &Checked, out: &mut W) -> io::Result<()
 }
 
 /// Writes how much there is, and what is left over.
-fn write_summary<W: io::Write>(checked: &Checked, out: &mut W) -> io::Result<()> {
+fn write_summary<O: io::Write>(checked: &Checked, out: &mut O) -> io::Result<()> {
     let (modules, expanded) = (checked.modules, checked.expanded);
     let (imports, macros) = (checked.imports, checked.macros);
     let reported = checked.reports.list.len();
@@ -83,11 +84,11 @@ fn write_summary<W: io::Write>(checked: &Checked, out: &mut W) -> io::Result<()>
 }
 
 /// Writes what was found of a crate.
-pub fn write_checked<W: io::Write>(
-    names: &Names<'_>,
+pub fn write_checked<C: Codebase, O: io::Write>(
+    names: &Names<'_, C>,
     checked: &Checked,
     form: Form,
-    out: &mut W,
+    out: &mut O,
 ) -> io::Result<()> {
     if form == Form::Json {
         return write_checked_json(names, checked, out);
@@ -103,7 +104,7 @@ pub fn write_checked<W: io::Write>(
 }
 
 /// A report as JSON.
-fn report_value(names: &Names<'_>, report: &Report) -> Result<Value, AllocError> {
+fn report_value<C: Codebase>(names: &Names<'_, C>, report: &Report) -> Result<Value, AllocError> {
     let at = match &report.at {
         At::Spot(spot) => spot_value(names, Some(*spot))?,
         At::Path(path) => {
@@ -117,7 +118,10 @@ fn report_value(names: &Names<'_>, report: &Report) -> Result<Value, AllocError>
 }
 
 /// The reports as JSON.
-fn report_values(names: &Names<'_>, reports: &[Report]) -> Result<Vec<Value>, AllocError> {
+fn report_values<C: Codebase>(
+    names: &Names<'_, C>,
+    reports: &[Report],
+) -> Result<Vec<Value>, AllocError> {
     let mut values = Vec::new(names.alloc);
     for report in reports {
         values.push(report_value(names, report)?)?;
@@ -126,7 +130,10 @@ fn report_values(names: &Names<'_>, reports: &[Report]) -> Result<Vec<Value>, Al
 }
 
 /// The crates that are not given as JSON.
-fn absent_values(names: &Names<'_>, checked: &Checked) -> Result<Vec<Value>, AllocError> {
+fn absent_values<C: Codebase>(
+    names: &Names<'_, C>,
+    checked: &Checked,
+) -> Result<Vec<Value>, AllocError> {
     let mut values = Vec::new(names.alloc);
     for (name, count) in checked.absent.iter() {
         let (name, count) = (name.as_str(), *count as u64);
@@ -136,7 +143,10 @@ fn absent_values(names: &Names<'_>, checked: &Checked) -> Result<Vec<Value>, All
 }
 
 /// The macros that are not run as JSON.
-fn not_run_values(names: &Names<'_>, checked: &Checked) -> Result<Vec<Value>, AllocError> {
+fn not_run_values<C: Codebase>(
+    names: &Names<'_, C>,
+    checked: &Checked,
+) -> Result<Vec<Value>, AllocError> {
     let mut values = Vec::new(names.alloc);
     for (what, count) in checked.reports.not_run.iter() {
         let (what, count) = (what.as_str(), *count as u64);
@@ -146,10 +156,10 @@ fn not_run_values(names: &Names<'_>, checked: &Checked) -> Result<Vec<Value>, Al
 }
 
 /// Writes what was found of a crate as one value in JSON, each report in a line of its own.
-fn write_checked_json<W: io::Write>(
-    names: &Names<'_>,
+fn write_checked_json<C: Codebase, O: io::Write>(
+    names: &Names<'_, C>,
     checked: &Checked,
-    out: &mut W,
+    out: &mut O,
 ) -> io::Result<()> {
     write!(out, "{{\"reports\": ")?;
     let reports = report_values(names, checked.reports.list.as_slice())?;

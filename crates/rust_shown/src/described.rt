@@ -1,15 +1,16 @@
 //! A binding as it is written.
 
+use rust_codebase::Codebase;
 use rust_names::{Brought, Described, Names, Spot};
 use serde_json::{Value, json};
 use std::alloc::AllocError;
 use std::io;
 
 /// Writes a place as ` at src/lib.rs:3`.
-pub(crate) fn write_spot<W: io::Write>(
-    names: &Names<'_>,
+pub(crate) fn write_spot<C: Codebase, O: io::Write>(
+    names: &Names<'_, C>,
     spot: Option<Spot>,
-    out: &mut W,
+    out: &mut O,
 ) -> io::Result<()> {
     if let Some(spot) = spot {
         let (path, line) = (names.places.path(spot.source), spot.line);
@@ -20,10 +21,10 @@ pub(crate) fn write_spot<W: io::Write>(
 
 /// Writes what is said of a binding, as
 /// `struct crate::a::S, pub(in crate), by use crate::a::* at src/lib.rs:3`.
-pub(crate) fn write_described<W: io::Write>(
-    names: &Names<'_>,
+pub(crate) fn write_described<C: Codebase, O: io::Write>(
+    names: &Names<'_, C>,
     described: &Described,
-    out: &mut W,
+    out: &mut O,
 ) -> io::Result<()> {
     let (kind, path) = (described.kind, described.path.as_str());
     let visibility = described.visibility.as_str();
@@ -44,7 +45,10 @@ pub(crate) fn write_described<W: io::Write>(
 }
 
 /// A place as JSON.
-pub(crate) fn spot_value(names: &Names<'_>, spot: Option<Spot>) -> Result<Value, AllocError> {
+pub(crate) fn spot_value<C: Codebase>(
+    names: &Names<'_, C>,
+    spot: Option<Spot>,
+) -> Result<Value, AllocError> {
     match spot {
         Some(spot) => {
             let path = names.places.path(spot.source);
@@ -56,14 +60,17 @@ pub(crate) fn spot_value(names: &Names<'_>, spot: Option<Spot>) -> Result<Value,
 }
 
 /// What brought a binding, as JSON.
-fn brought_value(names: &Names<'_>, brought: &Brought) -> Result<Value, AllocError> {
+fn brought_value<C: Codebase>(
+    names: &Names<'_, C>,
+    brought: &Brought,
+) -> Result<Value, AllocError> {
     let (text, at) = (brought.text.as_str(), spot_value(names, brought.spot)?);
     json!(in names.alloc; {"import": text, "at": at})
 }
 
 /// What is said of a binding, as JSON.
-pub(crate) fn described_value(
-    names: &Names<'_>,
+pub(crate) fn described_value<C: Codebase>(
+    names: &Names<'_, C>,
     described: &Described,
 ) -> Result<Value, AllocError> {
     let by = match &described.brought {

@@ -2,19 +2,19 @@
 
 use crate::modules::modules;
 use def_ids::ModuleId;
-use def_interner::LocationId;
 use def_rules::Edge;
 use item_tree::Crate;
+use rust_codebase::Codebase;
 use rust_names::{Names, Spot};
 use std::io;
 
 /// Writes an arrow from a module to one within it.
-fn write_within<W: io::Write>(
-    names: &Names<'_>,
+fn write_within<C: Codebase, O: io::Write>(
+    names: &Names<'_, C>,
     krate: Crate,
     index: usize,
     path: &str,
-    out: &mut W,
+    out: &mut O,
 ) -> io::Result<()> {
     let Some(map) = names.map(krate) else {
         return Ok(());
@@ -31,14 +31,18 @@ fn write_within<W: io::Write>(
 }
 
 /// Where the glob of an edge is written.
-fn spot_of_glob(names: &Names<'_>, edge: &Edge) -> Option<Spot> {
-    let loc = edge.glob.use_id.lookup(&names.workspace().session)?;
-    names.places.spot_of_import(loc.position, edge.glob.idx)
+fn spot_of_glob<C: Codebase>(names: &Names<'_, C>, edge: &Edge) -> Option<Spot> {
+    let position = names.codebase().use_position(edge.glob.use_id)?;
+    names.places.spot_of_import(position, edge.glob.idx)
 }
 
 /// Writes what stands beside the arrow of a glob: its line, with what a graph's text may not hold
 /// escaped.
-fn write_label<W: io::Write>(names: &Names<'_>, spot: Spot, out: &mut W) -> io::Result<()> {
+fn write_label<C: Codebase, O: io::Write>(
+    names: &Names<'_, C>,
+    spot: Spot,
+    out: &mut O,
+) -> io::Result<()> {
     let (file, line) = (names.places.path(spot.source), spot.line);
     let file = format!(in names.alloc; "{file:?}")?;
     let file = file.as_str().trim_matches('"');
@@ -46,7 +50,11 @@ fn write_label<W: io::Write>(names: &Names<'_>, spot: Spot, out: &mut W) -> io::
 }
 
 /// Writes an arrow from the module of a glob to the one that it takes names of.
-fn write_edge<W: io::Write>(names: &Names<'_>, edge: &Edge, out: &mut W) -> io::Result<()> {
+fn write_edge<C: Codebase, O: io::Write>(
+    names: &Names<'_, C>,
+    edge: &Edge,
+    out: &mut O,
+) -> io::Result<()> {
     let importer = names.module_path(edge.importer)?;
     let source = names.module_path(edge.source)?;
     let (importer, source) = (importer.as_str(), source.as_str());
@@ -58,7 +66,11 @@ fn write_edge<W: io::Write>(names: &Names<'_>, edge: &Edge, out: &mut W) -> io::
 }
 
 /// Writes the modules of a crate, each with an arrow from the one around it.
-fn write_modules<W: io::Write>(names: &Names<'_>, krate: Crate, out: &mut W) -> io::Result<()> {
+fn write_modules<C: Codebase, O: io::Write>(
+    names: &Names<'_, C>,
+    krate: Crate,
+    out: &mut O,
+) -> io::Result<()> {
     for module in modules(names, krate)?.iter() {
         let path = module.path.as_str();
         writeln!(out, "    \"{path}\";")?;
@@ -69,11 +81,15 @@ fn write_modules<W: io::Write>(names: &Names<'_>, krate: Crate, out: &mut W) -> 
 
 /// Writes the modules of a crate, each with an arrow from the one around it, and the globs among
 /// modules, each as a broken arrow to where it takes names from.
-pub fn write_graph<W: io::Write>(names: &Names<'_>, krate: Crate, out: &mut W) -> io::Result<()> {
+pub fn write_graph<C: Codebase, O: io::Write>(
+    names: &Names<'_, C>,
+    krate: Crate,
+    out: &mut O,
+) -> io::Result<()> {
     writeln!(out, "digraph modules {{")?;
     writeln!(out, "    node [shape=box];")?;
     write_modules(names, krate, out)?;
-    for collected in names.workspace().crates.iter() {
+    for collected in names.codebase().crates() {
         if collected.krate == krate {
             for edge in collected.outcome.edges.iter() {
                 write_edge(names, edge, out)?;

@@ -21,7 +21,7 @@ impl JsonLines {
     }
 
     /// Writes a record.
-    pub(crate) fn write<W: io::Write>(&mut self, record: Value, out: &mut W) -> io::Result<()> {
+    pub(crate) fn write<O: io::Write>(&mut self, record: Value, out: &mut O) -> io::Result<()> {
         let before = if self.is_begun { "," } else { "[" };
         let text = record.to_string(self.alloc)?;
         let text = text.as_str();
@@ -32,7 +32,7 @@ impl JsonLines {
     }
 
     /// Ends the list.
-    pub(crate) fn end<W: io::Write>(self, out: &mut W) -> io::Result<()> {
+    pub(crate) fn end<O: io::Write>(self, out: &mut O) -> io::Result<()> {
         if self.is_begun {
             writeln!(out, "\n]")
         } else {
@@ -42,10 +42,10 @@ impl JsonLines {
 }
 
 /// Writes a list, one record a line, with no line ended behind it.
-pub(crate) fn write_list<W: io::Write>(
+pub(crate) fn write_list<O: io::Write>(
     alloc: Global,
     records: &[Value],
-    out: &mut W,
+    out: &mut O,
 ) -> io::Result<()> {
     let mut before = "[";
     for record in records {

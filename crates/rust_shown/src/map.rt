@@ -7,6 +7,7 @@ use def_bindings::Visibility;
 use def_ids::{Def, MacroId, MacroRulesId, TraitId};
 use def_map::{Item, ItemScope};
 use item_tree::Crate;
+use rust_codebase::Codebase;
 use rust_names::Names;
 use serde_json::{Value, json};
 use std::alloc::AllocError;
@@ -22,10 +23,10 @@ fn unnamed(id: TraitId, vis: Visibility) -> Item {
 }
 
 /// Writes a binding.
-fn write_bound<W: io::Write>(
-    names: &Names<'_>,
+fn write_bound<C: Codebase, O: io::Write>(
+    names: &Names<'_, C>,
     bound: &BoundName<'_>,
-    out: &mut W,
+    out: &mut O,
 ) -> io::Result<()> {
     let described = names.describe(bound.item)?;
     let (name, spaces) = (bound.name, spaces_text(bound.spaces));
@@ -35,7 +36,11 @@ fn write_bound<W: io::Write>(
 }
 
 /// Writes a macro that is bound by the order of the text.
-fn write_textual<W: io::Write>(names: &Names<'_>, def: Def, out: &mut W) -> io::Result<()> {
+fn write_textual<C: Codebase, O: io::Write>(
+    names: &Names<'_, C>,
+    def: Def,
+    out: &mut O,
+) -> io::Result<()> {
     let (name, path) = (
         names.declared_name(def).unwrap_or("?"),
         names.def_path(def)?,
@@ -51,10 +56,10 @@ fn write_textual<W: io::Write>(names: &Names<'_>, def: Def, out: &mut W) -> io::
 }
 
 /// Writes the traits that a module binds without a name.
-fn write_unnamed<W: io::Write>(
-    names: &Names<'_>,
+fn write_unnamed<C: Codebase, O: io::Write>(
+    names: &Names<'_, C>,
     scope: ItemScope<'_>,
-    out: &mut W,
+    out: &mut O,
 ) -> io::Result<()> {
     for (id, vis) in scope.unnamed_traits() {
         let described = names.describe(unnamed(id, vis))?;
@@ -66,10 +71,10 @@ fn write_unnamed<W: io::Write>(
 }
 
 /// Writes the path of a module, and where that begins.
-fn write_head<W: io::Write>(
-    names: &Names<'_>,
+fn write_head<C: Codebase, O: io::Write>(
+    names: &Names<'_, C>,
     module: &PathOfModule,
-    out: &mut W,
+    out: &mut O,
 ) -> io::Result<()> {
     let path = module.path.as_str();
     write!(out, "{path}")?;
@@ -78,10 +83,10 @@ fn write_head<W: io::Write>(
 }
 
 /// Writes a module and what it binds.
-fn write_module<W: io::Write>(
-    names: &Names<'_>,
+fn write_module<C: Codebase, O: io::Write>(
+    names: &Names<'_, C>,
     module: &PathOfModule,
-    out: &mut W,
+    out: &mut O,
 ) -> io::Result<()> {
     write_head(names, module, out)?;
     let Some(scope) = names.scope(module.module) else {
@@ -98,7 +103,11 @@ fn write_module<W: io::Write>(
 }
 
 /// Writes the modules of a crate and what each binds, in the order of paths and names.
-pub fn write_map<W: io::Write>(names: &Names<'_>, krate: Crate, out: &mut W) -> io::Result<()> {
+pub fn write_map<C: Codebase, O: io::Write>(
+    names: &Names<'_, C>,
+    krate: Crate,
+    out: &mut O,
+) -> io::Result<()> {
     for module in modules(names, krate)?.iter() {
         write_module(names, module, out)?;
     }
@@ -106,8 +115,8 @@ pub fn write_map<W: io::Write>(names: &Names<'_>, krate: Crate, out: &mut W) -> 
 }
 
 /// A binding as JSON.
-fn bound_value(
-    names: &Names<'_>,
+fn bound_value<C: Codebase>(
+    names: &Names<'_, C>,
     module: &PathOfModule,
     name: &str,
     spaces: &'static str,
@@ -119,8 +128,8 @@ fn bound_value(
 }
 
 /// A macro that is bound by the order of the text, as JSON.
-fn textual_value(
-    names: &Names<'_>,
+fn textual_value<C: Codebase>(
+    names: &Names<'_, C>,
     module: &PathOfModule,
     id: MacroRulesId,
 ) -> Result<Value, AllocError> {
@@ -135,19 +144,22 @@ fn textual_value(
 }
 
 /// A module as JSON: its path, and where that begins.
-fn head_value(names: &Names<'_>, module: &PathOfModule) -> Result<Value, AllocError> {
+fn head_value<C: Codebase>(
+    names: &Names<'_, C>,
+    module: &PathOfModule,
+) -> Result<Value, AllocError> {
     let at = spot_value(names, names.spot_of(Def::Module(module.module)))?;
     let path = module.path.as_str();
     json!(in names.alloc; {"module": path, "at": at})
 }
 
 /// Writes what a module binds in namespaces as JSON.
-fn write_bound_json<W: io::Write>(
-    names: &Names<'_>,
+fn write_bound_json<C: Codebase, O: io::Write>(
+    names: &Names<'_, C>,
     module: &PathOfModule,
     scope: ItemScope<'_>,
     lines: &mut JsonLines,
-    out: &mut W,
+    out: &mut O,
 ) -> io::Result<()> {
     for bound in bound_names(names, scope)?.iter() {
         let spaces = spaces_text(bound.spaces);
@@ -162,11 +174,11 @@ fn write_bound_json<W: io::Write>(
 }
 
 /// Writes what a module binds as JSON, each binding in a line of its own.
-fn write_module_json<W: io::Write>(
-    names: &Names<'_>,
+fn write_module_json<C: Codebase, O: io::Write>(
+    names: &Names<'_, C>,
     module: &PathOfModule,
     lines: &mut JsonLines,
-    out: &mut W,
+    out: &mut O,
 ) -> io::Result<()> {
     lines.write(head_value(names, module)?, out)?;
     let Some(scope) = names.scope(module.module) else {
@@ -180,10 +192,10 @@ fn write_module_json<W: io::Write>(
 }
 
 /// Writes the map of a crate as a list in JSON, one record a line.
-pub fn write_map_json<W: io::Write>(
-    names: &Names<'_>,
+pub fn write_map_json<C: Codebase, O: io::Write>(
+    names: &Names<'_, C>,
     krate: Crate,
-    out: &mut W,
+    out: &mut O,
 ) -> io::Result<()> {
     let mut lines = JsonLines::new(names.alloc);
     for module in modules(names, krate)?.iter() {

@@ -4,17 +4,18 @@ use crate::described::{described_value, write_described};
 use crate::json::JsonLines;
 use crate::lines::write_line_of;
 use def_map::{Item, PerNs};
+use rust_codebase::Codebase;
 use rust_names::Names;
 use serde_json::{Value, json};
 use std::alloc::AllocError;
 use std::io;
 
 /// Writes what a path means in a namespace, and where that is declared.
-fn write_meaning<W: io::Write>(
-    names: &Names<'_>,
+fn write_meaning<C: Codebase, O: io::Write>(
+    names: &Names<'_, C>,
     space: &str,
     item: Option<Item>,
-    out: &mut W,
+    out: &mut O,
 ) -> io::Result<()> {
     let Some(item) = item else {
         return writeln!(out, "{space}: nothing");
@@ -44,10 +45,10 @@ fn by_namespace(found: Option<PerNs>) -> [(&'static str, Option<Item>); 3] {
 }
 
 /// Writes what a path means in each namespace.
-pub fn write_meanings<W: io::Write>(
-    names: &Names<'_>,
+pub fn write_meanings<C: Codebase, O: io::Write>(
+    names: &Names<'_, C>,
     found: Option<PerNs>,
-    out: &mut W,
+    out: &mut O,
 ) -> io::Result<()> {
     for (space, item) in by_namespace(found).iter() {
         write_meaning(names, space, *item, out)?;
@@ -56,16 +57,20 @@ pub fn write_meanings<W: io::Write>(
 }
 
 /// What a path means in a namespace, as JSON.
-fn meaning_value(names: &Names<'_>, space: &str, item: Item) -> Result<Value, AllocError> {
+fn meaning_value<C: Codebase>(
+    names: &Names<'_, C>,
+    space: &str,
+    item: Item,
+) -> Result<Value, AllocError> {
     let what = described_value(names, &names.describe(item)?)?;
     json!(in names.alloc; {"namespace": space, "item": what})
 }
 
 /// Writes what a path means in each namespace as a list in JSON.
-pub fn write_meanings_json<W: io::Write>(
-    names: &Names<'_>,
+pub fn write_meanings_json<C: Codebase, O: io::Write>(
+    names: &Names<'_, C>,
     found: Option<PerNs>,
-    out: &mut W,
+    out: &mut O,
 ) -> io::Result<()> {
     let mut lines = JsonLines::new(names.alloc);
     for (space, item) in by_namespace(found).iter() {

@@ -3,6 +3,7 @@
 use def_ids::ModuleId;
 use def_map::{Item, ItemScope};
 use item_tree::Crate;
+use rust_codebase::Codebase;
 use rust_names::Names;
 use std::alloc::AllocError;
 
@@ -63,7 +64,10 @@ fn add_bound<'a>(
 }
 
 /// The modules of a crate, in the order of their paths.
-pub(crate) fn modules(names: &Names<'_>, krate: Crate) -> Result<Vec<PathOfModule>, AllocError> {
+pub(crate) fn modules<C: Codebase>(
+    names: &Names<'_, C>,
+    krate: Crate,
+) -> Result<Vec<PathOfModule>, AllocError> {
     let mut modules = Vec::new(names.alloc);
     let Some(map) = names.map(krate) else {
         return Ok(modules);
@@ -81,8 +85,8 @@ pub(crate) fn modules(names: &Names<'_>, krate: Crate) -> Result<Vec<PathOfModul
 }
 
 /// What a scope binds, in the order of names.
-pub(crate) fn bound_names<'a>(
-    names: &Names<'a>,
+pub(crate) fn bound_names<'a, C: Codebase>(
+    names: &Names<'a, C>,
     scope: ItemScope<'_>,
 ) -> Result<Vec<BoundName<'a>>, AllocError> {
     let mut bound = Vec::new(names.alloc);

@@ -1,11 +1,11 @@
 //! Calls that are expanded before it is known which macros they call, as it can be guessed by names.
 
 use crate::calls::CallAhead;
-use crate::files::Files;
 use crate::reading::Reading;
 use crate::workspace::Workspace;
 use item_tree::Name;
 use rust_oracle::CallNumber;
+use source_files::Files;
 use std::alloc::AllocError;
 
 /// How deep calls may nest that are expanded before their macros are known.

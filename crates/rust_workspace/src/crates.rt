@@ -3,16 +3,16 @@ ghost use Rattle.std.specs.Prelude.{◌≡◌, IfOk, vec_len};
 
 use crate::calls::name_definition;
 use crate::directories::add_directory;
-use crate::fault::{FaultKind, FaultPlace};
-use crate::files::Files;
 use crate::reading::Reading;
 use crate::rounds::Root;
 use crate::times::add_since;
-use crate::workspace::{CollectedCrate, CrateRequest, Workspace};
+use crate::workspace::{CrateRequest, Workspace};
 use def_collector::Collected;
 use def_map::{CrateData, Dependency, LangCrate};
 use def_parts::ModDir;
 use item_tree::{Crate, FileId, HirFileId, Seq};
+use rust_codebase::{CollectedCrate, FaultKind, FaultPlace};
+use source_files::Files;
 use std::alloc::AllocError;
 
 /// The crates that come with the compiler.

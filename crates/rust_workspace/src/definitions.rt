@@ -1,11 +1,11 @@
 //! Definitions of macros, and the rules that are read of them.
 
-use crate::fault::{FaultKind, FaultPlace};
 use crate::reading::Reading;
-use crate::workspace::{ReadFile, Workspace};
+use crate::workspace::Workspace;
 use def_map::SourceDatabase;
 use item_tree::{FileAstId, HirFileId, InFile};
 use macro_by_example::{MacroKind, read_rules};
+use rust_codebase::{FaultKind, FaultPlace, ReadFile};
 use rust_items::{Item, ItemKind};
 use rust_lexer::{Place, SourceId};
 use std::alloc::AllocError;

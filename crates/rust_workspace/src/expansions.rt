@@ -1,17 +1,17 @@
 //! Calls of macros, expanded to items.
 
 use crate::calls::CallSite;
-use crate::fault::{FaultKind, FaultPlace};
-use crate::files::Files;
 use crate::reading::Reading;
-use crate::workspace::{ReadFile, Workspace};
+use crate::workspace::Workspace;
 use def_map::SourceDatabase;
 use item_tree::{HirFileId, MacroCallId};
 use macro_by_example::{Limits, MacroFault, expand};
+use rust_codebase::{FaultKind, FaultPlace, ReadFile};
 use rust_items::{Item, ItemKind, ItemList, Span, read_items};
 use rust_lexer::{Sources, Token};
 use rust_oracle::{CallNumber, CalledMacro};
 use rust_trees::Trees;
+use source_files::Files;
 use std::alloc::{AllocError, Global};
 
 /// The tokens that one call may give.

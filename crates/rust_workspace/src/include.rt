@@ -3,8 +3,6 @@
 use crate::calls::CallSite;
 use crate::directories::add_directory;
 use crate::expansions::{CALL_COST, arguments_of};
-use crate::fault::{FaultKind, FaultPlace};
-use crate::files::{Files, path_from};
 use crate::reading::Reading;
 use crate::texts::read_text;
 use crate::workspace::Workspace;
@@ -12,9 +10,11 @@ use def_map::SourceDatabase;
 use def_parts::ModDir;
 use item_tree::{HirFileId, MacroCallId};
 use rust_cfg::text_of_literal;
+use rust_codebase::{FaultKind, FaultPlace};
 use rust_items::Span;
 use rust_lexer::{SourceId, Sources};
 use rust_trees::Trees;
+use source_files::{Files, path_from};
 use std::alloc::{AllocError, Global};
 
 /// The text of the literal that stands alone between two places, before a comma at most.

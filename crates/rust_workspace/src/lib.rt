@@ -5,12 +5,11 @@
 mod ahead;
 mod builtins;
 mod calls;
+mod codebase;
 mod crates;
 mod definitions;
 mod directories;
 mod expansions;
-mod fault;
-mod files;
 mod implied;
 mod include;
 mod modules;
@@ -22,7 +21,5 @@ mod times;
 mod walk;
 mod workspace;
 
-pub use fault::{Fault, FaultKind, FaultPlace};
-pub use files::{Files, SourceFile, join};
 pub use times::Times;
-pub use workspace::{CollectedCrate, CrateRequest, ReadFile, Workspace};
+pub use workspace::{CrateRequest, Workspace};

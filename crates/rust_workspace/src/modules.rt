@@ -1,13 +1,13 @@
 //! Modules in files of their own: where each lies, and what is read there.
 
 use crate::directories::add_directory;
-use crate::fault::{FaultKind, FaultPlace};
-use crate::files::{Files, path_from};
 use crate::reading::Reading;
 use crate::walk::Outline;
 use crate::workspace::Workspace;
 use def_map::SourceDatabase;
 use item_tree::{FileId, HirFileId, InFile};
+use rust_codebase::{FaultKind, FaultPlace};
+use source_files::{Files, path_from};
 use std::alloc::AllocError;
 
 /// How many files may lie in one another.

@@ -3,16 +3,16 @@ ghost use Rattle.std.specs.Prelude.{◌≡◌, ◌-◌, IsSome, string_bytes};
 ghost use Rattle.indexmap.specs.IndexMap.{get_by_text};
 
 use crate::calls::CallAhead;
-use crate::fault::{Fault, FaultKind, FaultPlace};
-use crate::files::{Files, SourceFile};
 use crate::texts::{context_of, read_text};
-use crate::workspace::{ReadFile, Workspace};
+use crate::workspace::Workspace;
 use def_database::Database;
 use indexmap::{IndexMap, IndexSet};
 use item_tree::{Crate, FileId, HirFileId, InFile, MacroCallId, Name, TreeId};
 use rust_cfg::CfgOptions;
+use rust_codebase::{Fault, FaultKind, FaultPlace, ReadFile, SourceFile};
 use rust_item_trees::{Lowered, lower};
 use rust_lexer::SourceId;
+use source_files::Files;
 use std::alloc::{AllocError, Global};
 
 /// The tokens that the expansions of a crate may have together.

@@ -2,8 +2,6 @@
 //! call comes up.
 
 use crate::calls::kept;
-use crate::fault::{FaultKind, FaultPlace};
-use crate::files::Files;
 use crate::reading::Reading;
 use crate::times::add_since;
 use crate::workspace::Workspace;
@@ -12,7 +10,9 @@ use def_ids::{Edition, Macro2Id, MacroExpander, MacroId, MacroRulesId};
 use def_interner::LocationId;
 use def_map::{DefMap, ModuleOrigin};
 use item_tree::{Crate, FileAstId, FileId, HirFileId, InFile, MacroCallId, TreeId};
+use rust_codebase::{FaultKind, FaultPlace};
 use rust_oracle::{CallNumber, CalledMacro, INCLUDE};
+use source_files::Files;
 use std::alloc::AllocError;
 
 /// How many times a crate is collected at most.

@@ -1,9 +1,8 @@
 //! Texts, read to their trees and items.
 
-use crate::fault::FaultKind;
-use crate::workspace::ReadFile;
 use item_tree::Crate;
 use rust_cfg::CfgOptions;
+use rust_codebase::{FaultKind, ReadFile};
 use rust_item_trees::{Context, InnerMacros};
 use rust_items::{ItemList, read_items};
 use rust_lexer::{Place, SourceId, Sources, tokenize};

@@ -1,6 +1,6 @@
 //! How long it takes to read, expand and collect.
 
-use crate::files::Files;
+use source_files::Files;
 
 /// How many microseconds went into what, by the clock beside the files.
 #[derive(Clone, Copy, PartialEq, Eq, Debug)]

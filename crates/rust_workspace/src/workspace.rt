@@ -3,21 +3,17 @@ ghost use Rattle.std.specs.Prelude.{◌≡◌, ◌++◌, ◌∷◌, [], IfOk, On
 
 use crate::builtins::database;
 use crate::calls::CallTable;
-use crate::fault::{Fault, FaultKind, FaultPlace};
-use crate::files::SourceFile;
 use crate::times::Times;
 use def_ids::Edition;
 use def_interner::Interner;
 use def_map::LangCrate;
-use def_rules::{DefDiagnostics, Outcome};
 use indexmap::IndexMap;
-use item_tree::{Crate, FileAstId, FileId, HirFileId, InFile};
+use item_tree::{Crate, FileId, HirFileId};
 use rust_cfg::CfgOptions;
+use rust_codebase::{CollectedCrate, Fault, FaultKind, FaultPlace, ReadFile, SourceFile};
 use rust_item_trees::InnerMacros;
-use rust_items::ItemList;
 use rust_lexer::Sources;
 use rust_oracle::Oracle;
-use rust_trees::Trees;
 use std::alloc::{AllocError, Global};
 
 /// A crate that is to be read and collected.
@@ -32,30 +28,6 @@ pub struct CrateRequest {
     /// The crates that it depends on, each by the name that it has there.
     pub dependencies: Vec<(String, Crate)>,
     pub lang: Option<LangCrate>,
-}
-
-/// A file, or the expansion of a call, as it was read.
-#[derive(Drop)]
-pub struct ReadFile {
-    pub trees: Trees,
-    pub list: ItemList,
-    /// The call that it is the expansion of.
-    pub call: Option<InFile<FileAstId>>,
-    /// How deep in expansions it lies.
-    pub depth: u32,
-}
-
-/// A crate that was collected. Its maps are in the oracle's database.
-#[derive(Drop)]
-pub struct CollectedCrate {
-    pub name: String,
-    pub krate: Crate,
-    pub outcome: Outcome,
-    pub diagnostics: DefDiagnostics,
-    /// How many times it was collected, until no further call came up.
-    pub rounds: usize,
-    /// How many calls of macros were expanded.
-    pub expanded: usize,
 }
 
 /// All that was read, and what was collected of it.

@@ -1,7 +1,6 @@
-//! Files, and the paths that lead to them.
+//! Files as they are read, and the paths that lead from one to another.
+#![tactic(auto)]
 
-use item_tree::Crate;
-use rust_lexer::SourceId;
 use std::alloc::{AllocError, Global};
 
 /// A folder of files, and a clock.
@@ -11,14 +10,6 @@ pub trait Files {
 
     /// Microseconds since some moment. 0 where there is no clock.
     fn microseconds(&self) -> u64;
-}
-
-/// A source file of a crate.
-#[derive(Drop)]
-pub struct SourceFile {
-    pub path: String,
-    pub source: SourceId,
-    pub krate: Crate,
 }
 
 /// Goes on by a part of a path, `..` being the folder above.
@@ -80,6 +71,6 @@ fn folder_of(file: &str) -> &str {
 }
 
 /// The path to which a path leads that is written in a file.
-pub(crate) fn path_from(alloc: Global, file: &str, path: &str) -> Result<String, AllocError> {
+pub fn path_from(alloc: Global, file: &str, path: &str) -> Result<String, AllocError> {
     join(alloc, folder_of(file), path)
 }
