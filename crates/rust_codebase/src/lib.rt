@@ -4,8 +4,10 @@
 
 mod codebase;
 mod fault;
+mod positions;
 mod read;
 
 pub use codebase::Codebase;
 pub use fault::{Fault, FaultKind, FaultPlace};
+pub use positions::{item_at, outermost, token_of_item};
 pub use read::{CollectedCrate, ReadFile, SourceFile};

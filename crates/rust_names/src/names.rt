@@ -198,7 +198,11 @@ impl<'a, C: Codebase> Names<'a, C> {
     fn root_spot(&self, krate: Crate) -> Option<Spot> {
         let root = self.codebase().root_file(krate)?;
         let file = self.codebase().files().get(&root)?;
-        Some(self.places.spot(file.source, 0, 0))
+        Some(Spot {
+            source: file.source,
+            start: 0,
+            end: 0,
+        })
     }
 
     /// Where a definition stands, as readers of files count.

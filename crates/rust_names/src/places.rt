@@ -1,45 +1,34 @@
 //! Where tokens and items stand, as readers of files count.
 
 use item_tree::{Crate, FileAstId, InFile};
-use rust_codebase::{Codebase, ReadFile};
+use rust_codebase::{Codebase, ReadFile, item_at, outermost, token_of_item};
 use rust_items::{Item, ItemKind, ItemList};
 use rust_lexer::{Place, SourceId, Token};
 use source_lines::{LineColumn, Lines};
 use std::alloc::{AllocError, Global};
+use std::cell::OnceCell;
 
-/// How many expansions may lie one in another.
-const DEEPEST: usize = 4096;
-
-/// A part of a file. The line and the column are those of its beginning, and both begin at one.
+/// A part of a file: its first byte, and the byte behind its last one.
 #[derive(Clone, Copy, PartialEq, Eq, Debug)]
 pub struct Spot {
     pub source: SourceId,
-    /// Its first byte, and the byte behind its last one.
     pub start: usize,
     pub end: usize,
-    pub line: usize,
-    pub column: usize,
 }
 
 /// The files of a codebase by their texts, and the lines of these.
 #[derive(Drop)]
 pub struct Places<'a, C> {
+    alloc: Global,
     pub codebase: &'a C,
     /// By the numbers of the sources.
     paths: Vec<&'a str>,
-    lines: Vec<Lines>,
+    /// The lines of each source, once a place of it is shown: of most files none is.
+    lines: Vec<OnceCell<Lines>>,
     /// The number of each source in the order of paths.
     numbers: Vec<usize>,
     /// The crate of each source.
     crates: Vec<Crate>,
-}
-
-/// The token that tells an item: its name, or else its first one.
-fn token_of_item(read: &ReadFile, item: &Item) -> Option<Token> {
-    match item.name {
-        Some(name) => Some(name),
-        None => read.trees.get(item.tokens.from as usize),
-    }
 }
 
 /// The last token of an import's path.
@@ -89,12 +78,12 @@ impl<'a, C: Codebase> Places<'a, C> {
             put_at(&mut crates, number, file.krate, file.krate)?;
         }
         let mut lines = Vec::new(alloc);
-        for number in 0..paths.len() {
-            let source = SourceId((number & 0xffff_ffff) as u32);
-            lines.push(Lines::new(alloc, codebase.source_text(source))?)?;
+        for _ in 0..paths.len() {
+            lines.push(OnceCell::new())?;
         }
         let numbers = ranks(alloc, paths.as_slice())?;
         Ok(Places {
+            alloc,
             codebase,
             paths,
             lines,
@@ -118,83 +107,67 @@ impl<'a, C: Codebase> Places<'a, C> {
         self.paths.get(source.0 as usize).copied().unwrap_or("?")
     }
 
-    /// A part of a text.
-    pub fn spot(&self, source: SourceId, start: usize, end: usize) -> Spot {
-        let text = self.codebase.source_text(source);
-        let (line, column) = match self.lines.get(source.0 as usize) {
-            Some(lines) => {
-                let LineColumn { line, column } = lines.place(text, start);
-                (line, column)
-            }
-            None => (1, 1),
+    /// The lines of a file.
+    fn lines(&self, source: SourceId) -> Result<Option<&Lines>, AllocError> {
+        let Some(lines) = self.lines.get(source.0 as usize) else {
+            return Ok(None);
         };
-        Spot {
-            source,
-            start,
-            end,
-            line,
-            column,
+        let text = self.codebase.source_text(source);
+        let lines = lines.get_or_try_init(|| Lines::new(self.alloc, text))?;
+        Ok(Some(lines))
+    }
+
+    /// The line and the column in which a part of a file begins, as its readers count.
+    pub fn line_column(&self, spot: Spot) -> Result<LineColumn, AllocError> {
+        let text = self.codebase.source_text(spot.source);
+        match self.lines(spot.source)? {
+            Some(lines) => Ok(lines.place(text, spot.start)),
+            None => Ok(LineColumn { line: 1, column: 1 }),
         }
     }
 
     /// Where a token stands.
     pub fn spot_of_token(&self, token: Token) -> Spot {
-        self.spot(token.source, token.start as usize, token.end as usize)
+        Spot {
+            source: token.source,
+            start: token.start as usize,
+            end: token.end as usize,
+        }
     }
 
     /// The character at a place that was counted by lines.
-    pub fn spot_of_place(&self, place: Place) -> Spot {
+    pub fn spot_of_place(&self, place: Place) -> Result<Spot, AllocError> {
         let Place {
             source,
             line,
             column,
         } = place;
         let text = self.codebase.source_text(source);
-        let start = match self.lines.get(source.0 as usize) {
+        let start = match self.lines(source)? {
             Some(lines) => lines.byte(text, LineColumn { line, column }),
             None => 0,
         };
-        Spot {
+        Ok(Spot {
             source,
             start,
             end: start.saturating_add(1),
-            line,
-            column,
-        }
+        })
     }
 
     /// What was read of the file in which an item stands, and the item.
     pub fn item(&self, position: InFile<FileAstId>) -> Option<(&'a ReadFile, &'a Item)> {
-        let read = self.codebase.read(position.file)?;
-        let item = read.list.items.get(position.value.0)?;
-        Some((read, item))
-    }
-
-    /// The item in a file that an item stands for: itself, or the outermost call of a macro that it
-    /// was expanded from.
-    fn outermost(&self, position: InFile<FileAstId>) -> InFile<FileAstId> {
-        let mut here = position;
-        for _ in 0..DEEPEST {
-            let Some(read) = self.codebase.read(here.file) else {
-                break;
-            };
-            match read.call {
-                Some(call) => here = call,
-                None => break,
-            }
-        }
-        here
+        item_at(self.codebase, position)
     }
 
     /// Where an item stands: its name or its beginning, or the call that it was expanded from.
     pub fn spot_of_item(&self, position: InFile<FileAstId>) -> Option<Spot> {
-        let (read, item) = self.item(self.outermost(position))?;
+        let (read, item) = self.item(outermost(self.codebase, position))?;
         Some(self.spot_of_token(token_of_item(read, item)?))
     }
 
     /// Where an import of a `use` item stands: the last name of its path.
     pub fn spot_of_import(&self, position: InFile<FileAstId>, index: u32) -> Option<Spot> {
-        let home = self.outermost(position);
+        let home = outermost(self.codebase, position);
         if home == position {
             let (read, item) = self.item(position)?;
             if let Some(token) = token_of_import(&read.list, item, index) {

@@ -161,7 +161,7 @@ impl Reports {
                     self.count_elsewhere();
                     return Ok(());
                 }
-                let spot = names.places.spot_of_place(*place);
+                let spot = names.places.spot_of_place(*place)?;
                 self.add_told(names, At::Spot(spot), fault.kind)
             }
             FaultPlace::Path(path) => self.add_told(names, At::Path(path.clone()?), fault.kind),

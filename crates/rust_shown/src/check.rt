@@ -7,6 +7,7 @@ use rust_codebase::Codebase;
 use rust_names::Names;
 use rust_reports::{At, Checked, Report};
 use serde_json::{Value, json};
+use source_lines::LineColumn;
 use std::alloc::AllocError;
 use std::io;
 
@@ -31,7 +32,7 @@ fn write_report<C: Codebase, O: io::Write>(
     match &report.at {
         At::Spot(spot) => {
             let path = names.places.path(spot.source);
-            let (line, column) = (spot.line, spot.column);
+            let LineColumn { line, column } = names.places.line_column(*spot)?;
             writeln!(out, "{path}:{line}:{column}: {what}")?;
             if has_excerpt {
                 write_line_of(names, *spot, out)?;

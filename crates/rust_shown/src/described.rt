@@ -3,6 +3,7 @@
 use rust_codebase::Codebase;
 use rust_names::{Brought, Described, Names, Spot};
 use serde_json::{Value, json};
+use source_lines::LineColumn;
 use std::alloc::AllocError;
 use std::io;
 
@@ -13,7 +14,8 @@ pub(crate) fn write_spot<C: Codebase, O: io::Write>(
     out: &mut O,
 ) -> io::Result<()> {
     if let Some(spot) = spot {
-        let (path, line) = (names.places.path(spot.source), spot.line);
+        let line = names.places.line_column(spot)?.line;
+        let path = names.places.path(spot.source);
         write!(out, " at {path}:{line}")?;
     }
     Ok(())
@@ -52,7 +54,8 @@ pub(crate) fn spot_value<C: Codebase>(
     match spot {
         Some(spot) => {
             let path = names.places.path(spot.source);
-            let (line, column) = (spot.line as u64, spot.column as u64);
+            let LineColumn { line, column } = names.places.line_column(spot)?;
+            let (line, column) = (line as u64, column as u64);
             json!(in names.alloc; {"path": path, "line": line, "column": column})
         }
         None => Ok(Value::Null),

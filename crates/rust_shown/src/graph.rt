@@ -43,7 +43,8 @@ fn write_label<C: Codebase, O: io::Write>(
     spot: Spot,
     out: &mut O,
 ) -> io::Result<()> {
-    let (file, line) = (names.places.path(spot.source), spot.line);
+    let line = names.places.line_column(spot)?.line;
+    let file = names.places.path(spot.source);
     let file = format!(in names.alloc; "{file:?}")?;
     let file = file.as_str().trim_matches('"');
     write!(out, ", label=\"* {file}:{line}\"")

@@ -12,5 +12,6 @@ pub(crate) fn write_line_of<C: Codebase, O: io::Write>(
     out: &mut O,
 ) -> io::Result<()> {
     let text = names.codebase().source_text(spot.source);
-    write_excerpt(out, text, spot.line, spot.start, spot.end)
+    let line = names.places.line_column(spot)?.line;
+    write_excerpt(out, text, line, spot.start, spot.end)
 }

@@ -7,6 +7,7 @@ use def_map::{Item, PerNs};
 use rust_codebase::Codebase;
 use rust_names::Names;
 use serde_json::{Value, json};
+use source_lines::LineColumn;
 use std::alloc::AllocError;
 use std::io;
 
@@ -25,7 +26,8 @@ fn write_meaning<C: Codebase, O: io::Write>(
     write_described(names, &described, out)?;
     writeln!(out, "")?;
     if let Some(spot) = described.spot {
-        let (path, line, column) = (names.places.path(spot.source), spot.line, spot.column);
+        let LineColumn { line, column } = names.places.line_column(spot)?;
+        let path = names.places.path(spot.source);
         writeln!(out, "declared at {path}:{line}:{column}")?;
         write_line_of(names, spot, out)?;
     }
