@@ -1,8 +1,9 @@
 //! The packages that one depends on, and which of their features are on.
 
 use crate::fault::PackageError;
-use crate::locate::{asked_root, dependency_folder, library_root, manifest_in};
+use crate::locate::{asked_root, dependency_folder, first_file, library_at, manifest_in};
 use crate::node::{Asked, Found, LibraryKey, Node, new_node};
+use crate::paths::is_root_file;
 use crate::settings::{Folders, RootKind, STANDARD, Settings, is_standard};
 use cargo_manifest::{Manifest, ManifestDependency, WantedDependency};
 use indexmap::IndexMap;
@@ -54,19 +55,16 @@ impl<'f, 's, 'a, F: Folders> Finding<'f, 's, 'a, F> {
         Ok(number)
     }
 
-    /// Finds the package whose library lies in a folder. None where no library is there, or its
-    /// manifest is not read.
+    /// Finds the package whose library lies in a folder, or has this root file. None where no library is
+    /// there, or its manifest is not read. Without a manifest it is called as its user calls it.
     fn find_library(
         &mut self,
-        folder: String,
+        at: String,
+        called: Option<&str>,
         is_below_std: bool,
     ) -> Result<Option<usize>, AllocError> {
-        let manifest = match manifest_in(self.alloc, self.folders, folder.as_str())? {
-            Ok(manifest) => manifest,
-            Err(_) => return Ok(None),
-        };
-        let root = library_root(self.alloc, self.folders, folder.as_str(), manifest.as_ref())?;
-        let Some(root) = root else {
+        let library = library_at(self.alloc, self.folders, at.as_str())?;
+        let Some((root, manifest)) = library else {
             return Ok(None);
         };
         let key = LibraryKey {
@@ -76,25 +74,27 @@ impl<'f, 's, 'a, F: Folders> Finding<'f, 's, 'a, F> {
         if let Some(number) = self.by_root.get(&key) {
             return Ok(Some(*number));
         }
-        let mut found = new_node(self.alloc, folder, root, manifest)?;
+        let mut found = new_node(self.alloc, at, root, manifest, called)?;
         found.is_below_std = is_below_std;
         Ok(Some(self.add(found)?))
     }
 
-    /// The package whose library lies in a folder, which is looked into at the first time.
+    /// The package whose library lies in a folder or has this root file, which is looked for at the first
+    /// time.
     fn library_in(
         &mut self,
-        folder: String,
+        at: String,
+        called: Option<&str>,
         is_below_std: bool,
     ) -> Result<Option<usize>, AllocError> {
         let key = LibraryKey {
-            path: folder.clone()?,
+            path: at.clone()?,
             is_below_std,
         };
         if let Some(found) = self.by_folder.get(&key) {
             return Ok(*found);
         }
-        let found = self.find_library(folder, is_below_std)?;
+        let found = self.find_library(at, called, is_below_std)?;
         self.by_folder.insert(key, found)?;
         Ok(found)
     }
@@ -138,7 +138,7 @@ impl<'f, 's, 'a, F: Folders> Finding<'f, 's, 'a, F> {
         };
         let name = dependency.name.as_str();
         let is_below_std = asked.is_below_std || self.settings.gives_standard(name);
-        let Some(number) = self.library_in(found, is_below_std)? else {
+        let Some(number) = self.library_in(found, Some(name), is_below_std)? else {
             return Ok(None);
         };
         let has_default = dependency.has_default_features;
@@ -146,15 +146,10 @@ impl<'f, 's, 'a, F: Folders> Finding<'f, 's, 'a, F> {
         Ok(Some(number))
     }
 
-    /// Adds a crate by its name and folder that is there without being depended on.
-    fn add_given(
-        &mut self,
-        found: &mut Found,
-        name: &str,
-        folder: String,
-    ) -> Result<(), AllocError> {
+    /// Adds a crate by its name and place that is there without being depended on.
+    fn add_given(&mut self, found: &mut Found, name: &str, at: String) -> Result<(), AllocError> {
         let text = String::from_str(self.alloc, name)?;
-        match self.library_in(folder, is_standard(name))? {
+        match self.library_in(at, Some(name), is_standard(name))? {
             Some(number) => {
                 self.ask(number, &[], true)?;
                 found.links.push((text, number))?;
@@ -285,12 +280,12 @@ impl<'f, 's, 'a, F: Folders> Finding<'f, 's, 'a, F> {
     /// The package that is asked for.
     pub(crate) fn begin(&mut self) -> Result<Result<(), PackageError>, AllocError> {
         let (alloc, settings) = (self.alloc, self.settings);
-        if settings.at.ends_with(".rs") {
-            let root = join(alloc, settings.at, "")?;
-            if self.folders.read(root.as_str())?.is_none() {
-                return Ok(Err(PackageError::NoRoot(root)));
-            }
-            let found = new_node(alloc, String::new(alloc), root, None)?;
+        if is_root_file(settings.at) {
+            let Some(root) = first_file(alloc, self.folders, settings.at, &[""])? else {
+                let path = join(alloc, settings.at, "")?;
+                return Ok(Err(PackageError::NoRoot(path)));
+            };
+            let found = new_node(alloc, String::new(alloc), root, None, None)?;
             self.add(found)?;
             return Ok(Ok(()));
         }
@@ -304,10 +299,10 @@ impl<'f, 's, 'a, F: Folders> Finding<'f, 's, 'a, F> {
             return Ok(Err(PackageError::NoRoot(path)));
         };
         let folder = join(alloc, settings.at, "")?;
-        let number = self.add(new_node(alloc, folder, root, manifest)?)?;
+        let number = self.add(new_node(alloc, folder, root, manifest, None)?)?;
         if kind == RootKind::Program {
             let folder = join(alloc, settings.at, "")?;
-            let library = self.library_in(folder, false)?;
+            let library = self.library_in(folder, None, false)?;
             if let Some(node) = self.nodes.get_mut(number) {
                 node.library = library;
             }

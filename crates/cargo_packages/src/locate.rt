@@ -1,6 +1,7 @@
 //! Where packages lie.
 
 use crate::fault::PackageError;
+use crate::paths::is_root_file;
 use crate::settings::{Folders, RootKind, Settings};
 use cargo_manifest::{Manifest, ManifestDependency, read_manifest, read_workspace_edition};
 use source_files::join;
@@ -119,6 +120,28 @@ pub(crate) fn library_root<F: Folders>(
     match named {
         Some(path) => first_file(alloc, folders, folder, &[path.as_str()]),
         None => first_file(alloc, folders, folder, &["src/lib.rs", "lib.rs"]),
+    }
+}
+
+/// The root of the library that lies in a folder, or has this root file, and its manifest. None where no
+/// library is there, or its manifest is not read.
+pub(crate) fn library_at<F: Folders>(
+    alloc: Global,
+    folders: &F,
+    at: &str,
+) -> Result<Option<(String, Option<Manifest>)>, AllocError> {
+    let (root, manifest) = if is_root_file(at) {
+        (first_file(alloc, folders, at, &[""])?, None)
+    } else {
+        let Ok(manifest) = manifest_in(alloc, folders, at)? else {
+            return Ok(None);
+        };
+        let root = library_root(alloc, folders, at, manifest.as_ref())?;
+        (root, manifest)
+    };
+    match root {
+        Some(root) => Ok(Some((root, manifest))),
+        None => Ok(None),
     }
 }
 

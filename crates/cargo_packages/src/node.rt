@@ -1,6 +1,6 @@
 //! A package on the way to a crate.
 
-use crate::paths::{code_name, stem};
+use crate::paths::{code_name, plain_name};
 use cargo_manifest::Manifest;
 use def_ids::Edition;
 use indexmap::IndexSet;
@@ -95,10 +95,12 @@ fn edition_of(text: &str) -> Edition {
     }
 }
 
-/// The name of a library as code has it.
+/// The name of a library as code has it: the manifest's, else the one by which it is called, else its
+/// root file's.
 fn library_name(
     alloc: Global,
     manifest: Option<&Manifest>,
+    called: Option<&str>,
     root: &str,
 ) -> Result<String, AllocError> {
     match manifest {
@@ -106,7 +108,7 @@ fn library_name(
             Some(name) => code_name(alloc, name.as_str()),
             None => code_name(alloc, manifest.name.as_str()),
         },
-        None => code_name(alloc, stem(root)),
+        None => code_name(alloc, called.unwrap_or(plain_name(root))),
     }
 }
 
@@ -116,6 +118,7 @@ pub(crate) fn new_node(
     folder: String,
     root: String,
     manifest: Option<Manifest>,
+    called: Option<&str>,
 ) -> Result<Node, AllocError> {
     let edition = match &manifest {
         Some(manifest) => edition_of(manifest.edition.as_str()),
@@ -125,7 +128,7 @@ pub(crate) fn new_node(
         .as_ref()
         .is_some_and(|manifest| manifest.is_proc_macro);
     Ok(Node {
-        name: library_name(alloc, manifest.as_ref(), root.as_str())?,
+        name: library_name(alloc, manifest.as_ref(), called, root.as_str())?,
         root,
         edition,
         is_proc_macro,

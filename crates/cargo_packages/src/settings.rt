@@ -35,7 +35,7 @@ pub struct Settings<'a> {
     pub edition: Option<Edition>,
     pub features: Vec<String>,
     pub has_default_features: bool,
-    /// Names of crates, and the folder of each.
+    /// Names of crates, and the folder or the root file of each.
     pub externs: Vec<(&'a str, &'a str)>,
     /// A folder in which packages lie side by side.
     pub crates: Option<&'a str>,

@@ -91,7 +91,7 @@ fn with_settings<'a>(alloc: Global, command: Command<'a>) -> Result<Command<'a>,
 fn with_options<'a>(alloc: Global, command: Command<'a>) -> Result<Command<'a>, AllocError> {
     let command = with_settings(alloc, command)?;
     let help = "Where the crate of a name lies";
-    let externs = options(alloc, "extern", "NAME=DIR", help);
+    let externs = options(alloc, "extern", "NAME=PATH", help);
     let help = "A folder in which dependencies lie side by side";
     let crates = option(alloc, "crates", "DIR", help);
     let help = "Say on standard error how long it took";
